@@ -1,1 +1,7 @@
+mod BitLemmas
 mod DigitLemmas
+mod DivisionLemmas
+mod OrderLemmas
+mod RangeLemmas
+mod TextLemmas
+mod WrapLemmas

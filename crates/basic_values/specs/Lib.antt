@@ -1,2 +1,7 @@
+pub mod Arithmetic
+pub mod Bits
 pub mod Decimals
+pub mod Laws
+pub mod Messages
 pub mod Numbers
+pub mod Texts

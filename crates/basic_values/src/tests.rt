@@ -1,4 +1,6 @@
 use super::*;
+use std::alloc::{AllocError, Global};
+use std::cmp::Ordering;
 use std::test::Fail;
 
 #[test]
@@ -15,4 +17,148 @@ fn sums_wrap_and_are_printed(rt: HostRuntime) -> Result<(), Fail> {
         assert_eq!(rt; result.printed().as_slice(), text);
     }
     Ok(())
+}
+
+#[test]
+fn operators_at_the_ends_of_their_range(rt: HostRuntime) {
+    let low = i16::MIN;
+    let high = i16::MAX;
+    let rows = [
+        (high, 2, 32765, -2, 1, 2),
+        (low, -1, -32767, low, 0, low),
+        (low, low, 0, 0, 0, low),
+        (-3, 3, -6, -9, -27, 1),
+        (-1, -1, 0, 1, -1, -1),
+        (-1, low, 32767, low, 1, low),
+        (2, -1, 3, -2, 0, 2),
+        (0, -1, 1, 0, 0, 0),
+        (0, 0, 0, 0, 1, 0),
+        (2, 15, -13, 30, low, 2),
+        (2, 16, -14, 32, 0, 0),
+    ];
+    for (a, b, difference, product, power, and) in rows {
+        let left = Int::new(a);
+        let right = Int::new(b);
+        assert_eq!(rt; left.sub(right).value(), difference, "{a} - {b}");
+        assert_eq!(rt; left.mul(right).value(), product, "{a} * {b}");
+        assert_eq!(rt; left.power(right).value(), power, "{a} ^ {b}");
+        assert_eq!(rt; left.and(right).value(), and, "{a} AND {b}");
+    }
+    for (a, b, quotient) in [
+        (-7, 2, -3),
+        (7, -2, -3),
+        (-7, -2, 3),
+        (low, -1, low),
+        (low, 2, -16384),
+    ] {
+        assert_eq!(rt;
+            Int::new(a).div(Int::new(b)),
+            Ok(Int::new(quotient)),
+            "{a} / {b}"
+        );
+    }
+    assert_eq!(rt; Int::new(low).div(Int::new(0)), Err(Fault::new(61)));
+    for (a, neg, not, swap) in [
+        (258, -258, -259, 513),
+        (0, 0, -1, 0),
+        (low, low, high, 128),
+        (high, -32767, low, -129),
+        (-2, 2, 1, -257),
+    ] {
+        assert_eq!(rt; Int::new(a).neg().value(), neg, "-{a}");
+        assert_eq!(rt; Int::new(a).not().value(), not, "NOT {a}");
+        assert_eq!(rt; Int::new(a).swap().value(), swap, "SWAP {a}");
+    }
+    for (a, b, or, xor, eqv, imp) in [
+        (3, 5, 7, 6, -7, -3),
+        (0, -1, -1, -1, 0, -1),
+        (-1, 0, -1, -1, 0, 0),
+        (low, high, -1, -1, 0, high),
+    ] {
+        let left = Int::new(a);
+        let right = Int::new(b);
+        assert_eq!(rt; left.or(right).value(), or, "{a} OR {b}");
+        assert_eq!(rt; left.xor(right).value(), xor, "{a} XOR {b}");
+        assert_eq!(rt; left.eqv(right).value(), eqv, "{a} EQV {b}");
+        assert_eq!(rt; left.imp(right).value(), imp, "{a} IMP {b}");
+    }
+}
+
+/// So many spaces.
+fn spaces(alloc: Global, count: usize) -> Result<Vec<u8>, AllocError> {
+    vec![in alloc; b' '; count]
+}
+
+#[test]
+fn texts_are_compared(rt: HostRuntime) {
+    let rows = [
+        (b"AB".as_slice(), b"AB  ".as_slice(), Ordering::Equal, false),
+        (b"AB", b"AB", Ordering::Equal, true),
+        (b"", b"   ", Ordering::Equal, false),
+        (b"", b"\x1f", Ordering::Greater, false),
+        (b"AB", b"AB\x00", Ordering::Greater, false),
+        (b"AB", b"AB!", Ordering::Less, false),
+        (b"B", b"AB", Ordering::Greater, false),
+    ];
+    for (a, b, order, same) in rows {
+        assert_eq!(rt; compare(a, b), order);
+        assert_eq!(rt; compare(b, a), order.reverse());
+        assert_eq!(rt; identical(a, b), same);
+    }
+}
+
+#[test]
+fn texts_end_at_their_greatest_length(rt: HostRuntime) -> Result<(), Fail> {
+    let rows = [
+        (0, 0, Some(0)),
+        (1, 0, Some(1)),
+        (1, 32765, Some(32766)),
+        (1, 32766, Some(32767)),
+        (32767, 0, Some(32767)),
+        (32767, 1, None),
+        (0, 32768, None),
+        (32768, 0, None),
+    ];
+    for (first, second, length) in rows {
+        let a = spaces(rt.alloc(), first)?;
+        let b = spaces(rt.alloc(), second)?;
+        match (concat(rt.alloc(), &a, &b), length) {
+            (Ok(text), Some(length)) => assert_eq!(rt; text.as_bytes().len(), length),
+            (Ok(text), None) => assert!(rt; false, "{} bytes in a text", text.as_bytes().len()),
+            (Err(trouble), None) => assert_eq!(rt; trouble, Trouble::Refused(Halt::TooLong)),
+            (Err(_), Some(length)) => assert!(rt; false, "{length} bytes are no text"),
+        }
+    }
+    let text = Text::of(rt.alloc(), b"AB").ok().ok_or("no text")?;
+    assert_eq!(rt; text.as_bytes(), b"AB".as_slice());
+    Ok(())
+}
+
+#[test]
+fn failures_have_their_words(rt: HostRuntime) {
+    let rows = [
+        (0, b"".as_slice()),
+        (1, b""),
+        (2, b"Illegal file name"),
+        (5, b"Can't find file or account"),
+        (18, b"Illegal SYS() usage"),
+        (52, b"Illegal number"),
+        (61, b"Division by 0"),
+        (63, b"FIELD overflows buffer"),
+        (64, b""),
+        (255, b""),
+    ];
+    for (number, text) in rows {
+        assert_eq!(rt; Fault::new(number).text(), text, "{number}");
+    }
+    let halts = [
+        (Halt::NoGosub, b"RETURN without GOSUB".as_slice()),
+        (Halt::TooDeep, b"Nested too deep"),
+        (Halt::RoomFull, b"Maximum memory exceeded"),
+        (Halt::NoError, b"RESUME and no error"),
+        (Halt::TooLong, b"String too long"),
+    ];
+    for (halt, text) in halts {
+        assert_eq!(rt; halt.text(), text);
+    }
 }

@@ -1,0 +1,4 @@
+mod GiveBackLemmas
+mod LeastLemmas
+mod PlaceLemmas
+mod SizeLemmas

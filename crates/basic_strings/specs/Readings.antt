@@ -1,0 +1,66 @@
+-- Numbers that texts spell.
+use Rattle.std.specs.Prelude.{ℕ, ◌-◌, ◌==◌, ◌||◌, nat_lt, Bool, true, false, if◌then◌else◌, List, [], ◌∷◌, reverse, length, take, ℤ, pos, negsuc, neg_ℤ, Option, Some, None, option_map, Result, Ok, Err, slice_index}
+use Rattle.std.specs.Str.{all_ascii_digits}
+use Rattle.std.specs.Str.Parse.{digits_value}
+
+-- a space or a tab
+abbrev pub is_blank : ℕ → Bool
+is_blank byte = byte == 32 || byte == 9
+
+-- the text without the blanks that it begins with
+abbrev pub without_leading_blanks : List ℕ → List ℕ
+without_leading_blanks [] = []
+without_leading_blanks (byte ∷ rest) = if is_blank byte then without_leading_blanks rest else (byte ∷ rest)
+
+-- the text without the blanks around it
+abbrev pub without_blanks : List ℕ → List ℕ
+without_blanks text = reverse (without_leading_blanks (reverse (without_leading_blanks text)))
+
+-- the text without one percent sign at its end
+abbrev pub without_percent : List ℕ → List ℕ
+without_percent text = if slice_index text (length text - 1) == 37 then take (length text - 1) text else text
+
+-- the number that one digit or more spell
+abbrev pub size_spelled : List ℕ → Option ℕ
+size_spelled [] = None
+size_spelled (byte ∷ rest) = if all_ascii_digits (byte ∷ rest) then Some (digits_value 10 (byte ∷ rest)) else None
+
+abbrev pub with_sign : Bool → ℕ → ℤ
+with_sign true size = neg_ℤ (pos size)
+with_sign false size = pos size
+
+-- the number that a sign or none and digits spell
+abbrev pub number_spelled : List ℕ → Option ℤ
+number_spelled [] = None
+number_spelled (byte ∷ rest) =
+    if byte == 45 then option_map (with_sign true) (size_spelled rest)
+    else (if byte == 43 then option_map (with_sign false) (size_spelled rest)
+    else option_map (with_sign false) (size_spelled (byte ∷ rest)))
+
+-- whether a number has 16 bits
+abbrev pub is_in_range : ℤ → Bool
+is_in_range (pos n) = nat_lt n 32768
+is_in_range (negsuc n) = nat_lt n 32768
+
+-- the numbers of the errors: out of 16 bits; no number, for VAL; no number, for INPUT and READ
+abbrev pub integer_error : ℕ
+integer_error = 51
+
+abbrev pub illegal_number : ℕ
+illegal_number = 52
+
+abbrev pub data_format_error : ℕ
+data_format_error = 50
+
+-- the number where there is one of 16 bits, else the error
+abbrev pub judged : ℕ → Option ℤ → Result ℤ ℕ
+judged no_number None = Err no_number
+judged no_number (Some z) = if is_in_range z then Ok z else Err integer_error
+
+-- what VAL gives: blanks around, a sign or none, digits
+unfoldable pub value_read : List ℕ → Result ℤ ℕ
+value_read text = judged illegal_number (number_spelled (without_blanks text))
+
+-- what INPUT and READ take for a number: a sign or none, digits, a percent sign or none
+unfoldable pub item_read : List ℕ → Result ℤ ℕ
+item_read text = judged data_format_error (number_spelled (without_percent text))

@@ -1,0 +1,73 @@
+//! The length of a text, and its parts by length and place. Bytes are numbered from 1.
+
+ghost use Rattle.std.specs.Prelude.{◌≡◌, ◌≤◌, ◌-◌, length, take, drop, pos};
+ghost use Rattle.basic_values.specs.Texts.{MakesText};
+ghost use Rattle.basic_strings.specs.Cuts.{length_given, place_given, left_of, right_of, mid_of};
+
+use basic_values::{Halt, Int, Text, Trouble};
+use std::alloc::Global;
+
+/// How many bytes the text has. The manual's LEN.
+pub fn len(bytes: &[u8]) -> Int
+    requires { length bytes.now ≤ 32767 }
+    ensures { result ≡ pos (length bytes.now) }
+{
+    Int::new(bytes.len() as i16)
+}
+
+/// The first `n` bytes, or all where there are fewer. The manual's LEFT.
+pub fn left(alloc: Global, bytes: &[u8], n: Int) -> Result<Text, Trouble<Halt>>
+    ensures { MakesText (left_of bytes.now n) result }
+{
+    Text::of(alloc, first(bytes, count_of(n)))
+}
+
+/// What stands from place `n` on. The manual's RIGHT.
+pub fn right(alloc: Global, bytes: &[u8], n: Int) -> Result<Text, Trouble<Halt>>
+    ensures { MakesText (right_of bytes.now n) result }
+{
+    Text::of(alloc, behind(bytes, bytes_before(n)))
+}
+
+/// `k` bytes from place `n` on, or all that are there. The manual's MID.
+pub fn mid(alloc: Global, bytes: &[u8], n: Int, k: Int) -> Result<Text, Trouble<Halt>>
+    ensures { MakesText (mid_of bytes.now n k) result }
+{
+    Text::of(alloc, first(behind(bytes, bytes_before(n)), count_of(k)))
+}
+
+/// How many bytes a length names: below 0 it counts as 0.
+pub(crate) fn count_of(n: Int) -> usize
+    ensures value { result ≡ length_given n }
+    ensures bound { result ≤ 32767 }
+{
+    if n.value() < 0 {
+        0
+    } else {
+        usize::from(n.value().unsigned_abs())
+    }
+}
+
+/// How many bytes stand before a place: below 1 it counts as 1.
+pub(crate) fn bytes_before(n: Int) -> usize
+    ensures value { result ≡ place_given n - 1 }
+    ensures bound { result ≤ 32766 }
+{
+    if n.value() < 1 {
+        0
+    } else {
+        usize::from(n.value().unsigned_abs() - 1)
+    }
+}
+
+fn first(bytes: &[u8], count: usize) -> &[u8]
+    ensures { result.now ≡ take count bytes.now }
+{
+    &bytes[..count.min(bytes.len())]
+}
+
+fn behind(bytes: &[u8], count: usize) -> &[u8]
+    ensures { result.now ≡ drop count bytes.now }
+{
+    &bytes[count.min(bytes.len())..]
+}

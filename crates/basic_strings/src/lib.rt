@@ -1,0 +1,24 @@
+//! The string functions of BASIC-PLUS, over bytes and whole numbers.
+#![tactic(auto)]
+
+mod bytes;
+mod cuts;
+pub mod laws;
+mod numerals;
+mod pairs;
+mod places;
+mod readings;
+mod signs;
+mod translations;
+
+pub use bytes::{ascii, chr, space, string};
+pub use cuts::{left, len, mid, right};
+pub use numerals::{digits, num, num1};
+pub use pairs::{number_of, text_of};
+pub use places::instr;
+pub use readings::{item_number, val};
+pub use signs::{abs, sgn};
+pub use translations::xlate;
+
+#[cfg(test)]
+mod tests;

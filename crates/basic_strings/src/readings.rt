@@ -1,0 +1,97 @@
+//! Numbers that texts spell.
+
+ghost use Rattle.std.specs.Prelude.{◌≡◌, min, reverse, option_map};
+ghost use Rattle.basic_strings.specs.Readings.{value_read, item_read, judged, number_spelled, size_spelled, with_sign, without_blanks, without_leading_blanks};
+
+use basic_values::{Fault, Int};
+
+/// The number that the text spells: blanks around, a sign or none, and digits. Error 52 where it spells none, 51 where the number has more than 16 bits. The manual's VAL.
+#[tactic(auto, unfolding(crate::specs::Readings::value_read))]
+pub fn val(bytes: &[u8]) -> Result<Int, Fault>
+    ensures { result ≡ value_read bytes.now }
+{
+    number(trimmed(bytes), Fault::new(52))
+}
+
+/// The number that an item of INPUT or READ spells: a sign or none, digits, and a percent sign or none. Error 50 where it spells none, 51 where the number has more than 16 bits.
+#[tactic(auto, unfolding(crate::specs::Readings::item_read))]
+pub fn item_number(bytes: &[u8]) -> Result<Int, Fault>
+    ensures { result ≡ item_read bytes.now }
+{
+    match bytes {
+        [rest @ .., b'%'] => number(rest, Fault::new(50)),
+        _ => number(bytes, Fault::new(50)),
+    }
+}
+
+fn trimmed(bytes: &[u8]) -> &[u8]
+    ensures { result.now ≡ without_blanks bytes.now }
+{
+    trimmed_end(trimmed_start(bytes))
+}
+
+fn trimmed_start(bytes: &[u8]) -> &[u8]
+    ensures { result.now ≡ without_leading_blanks bytes.now }
+{
+    let mut rest = bytes;
+    while let [b' ' | b'\t', tail @ ..] = rest {
+        rest = tail;
+    }
+    rest
+}
+
+fn trimmed_end(bytes: &[u8]) -> &[u8]
+    ensures { result.now ≡ reverse (without_leading_blanks (reverse bytes.now)) }
+{
+    let mut rest = bytes;
+    while let [front @ .., b' ' | b'\t'] = rest {
+        rest = front;
+    }
+    rest
+}
+
+/// The number that a sign or none and digits spell.
+fn number(text: &[u8], no_number: Fault) -> Result<Int, Fault>
+    ensures { result ≡ judged no_number (number_spelled text.now) }
+{
+    match text {
+        [b'-', digits @ ..] => in_range(true, size(digits), no_number),
+        [b'+', digits @ ..] => in_range(false, size(digits), no_number),
+        _ => in_range(false, size(text), no_number),
+    }
+}
+
+/// The number of this sign and size; the error 51 where it has more than 16 bits.
+fn in_range(is_negative: bool, size: Option<u32>, no_number: Fault) -> Result<Int, Fault>
+    ensures { result ≡ judged no_number (option_map (with_sign is_negative) size) }
+{
+    let Some(size) = size else {
+        return Err(no_number);
+    };
+    let number = if is_negative {
+        -i64::from(size)
+    } else {
+        i64::from(size)
+    };
+    match i16::try_from(number) {
+        Ok(value) => Ok(Int::new(value)),
+        Err(_) => Err(Fault::new(51)),
+    }
+}
+
+/// The number that one digit or more spell, if they do; beyond 16 bits any that is beyond them.
+fn size(text: &[u8]) -> Option<u32>
+    ensures { result ≡ option_map (min 32769) (size_spelled text.now) }
+{
+    if text.is_empty() {
+        return None;
+    }
+    let mut size = 0;
+    for digit in text {
+        if !digit.is_ascii_digit() {
+            return None;
+        }
+        size = (size * 10 + u32::from(*digit - b'0')).min(32769);
+    }
+    Some(size)
+}

@@ -1,0 +1,20 @@
+//! A number without its sign, and its sign.
+
+ghost use Rattle.std.specs.Prelude.{◌≡◌};
+ghost use Rattle.basic_strings.specs.Signs.{absolute, sign_of};
+
+use basic_values::Int;
+
+/// The absolute value, wrapped: that of -32768 is -32768. The manual's ABS%.
+pub fn abs(n: Int) -> Int
+    ensures { result ≡ absolute n }
+{
+    Int::new(n.value().wrapping_abs())
+}
+
+/// -1, 0 or 1. The manual's SGN.
+pub fn sgn(n: Int) -> Int
+    ensures { result ≡ sign_of n }
+{
+    Int::new(n.value().signum())
+}

@@ -1,0 +1,29 @@
+//! Texts whose bytes are looked up in a table.
+
+ghost use Rattle.std.specs.Prelude.{◌≡◌, IfOk};
+ghost use Rattle.basic_values.specs.Texts.{MakesText};
+ghost use Rattle.basic_strings.specs.Translations.{translated};
+
+use basic_values::{Halt, NoMemory, Text, Trouble};
+use std::alloc::Global;
+
+/// For each byte of `a` the byte of `b` that stands behind so many others; none where none is there, or 0. The manual's XLATE.
+pub fn xlate(alloc: Global, a: &[u8], b: &[u8]) -> Result<Text, Trouble<Halt>>
+    ensures { MakesText (translated b.now a.now) result }
+{
+    let bytes = translation(alloc, a, b)?;
+    Text::of(alloc, &bytes)
+}
+
+fn translation(alloc: Global, text: &[u8], table: &[u8]) -> Result<Vec<u8>, NoMemory>
+    ensures { IfOk result (λ bytes. bytes.items ≡ translated table.now text.now) }
+{
+    let mut bytes = Vec::new(alloc);
+    for byte in text {
+        let found = table.get(usize::from(*byte)).copied().unwrap_or(0);
+        if found != 0 {
+            bytes.push(found)?;
+        }
+    }
+    Ok(bytes)
+}

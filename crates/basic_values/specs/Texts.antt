@@ -1,0 +1,31 @@
+-- Texts as lists of bytes, and how two of them compare.
+use Rattle.std.specs.Prelude.{◌≡◌, ◌<◌, ◌≤◌, ◌-◌, ℕ, List, ◌++◌, length, replicate, Result, Ok, Err}
+use Rattle.std.specs.declared.cmp.Ordering.{Ordering}
+use Rattle.std.specs.Ordering.{nat_cmp}
+use Rattle.std.specs.Cmp.Lexicographic.{slice_cmp}
+use Rattle.basic_values.specs.declared.failures.Halt.{Halt}
+use Rattle.basic_values.specs.declared.failures.Halt.TheVariants.{TooLong}
+use Rattle.basic_values.specs.declared.failures.Trouble.{Trouble}
+use Rattle.basic_values.specs.declared.failures.Trouble.TheVariants.{Refused, NoMemory}
+
+-- how many bytes a text has at the most
+abbrev pub most_bytes : ℕ
+most_bytes = 32767
+
+-- a call that makes a text of these bytes answers the text, or too long exactly where there are too many of them; or memory ran out
+abbrev pub MakesText : List ℕ → Result (List ℕ) (Trouble Halt) → Type 0
+MakesText bytes (Ok text) = (text ≡ bytes) × (length bytes ≤ most_bytes)
+MakesText bytes (Err (Refused halt)) = (halt ≡ TooLong) × (most_bytes < length bytes)
+MakesText bytes (Err NoMemory) = Unit {0}
+
+-- the byte of a space
+abbrev pub space : ℕ
+space = 32
+
+-- the text with spaces behind it, up to that many bytes
+abbrev pub padded : ℕ → List ℕ → List ℕ
+padded width text = text ++ replicate (width - length text) space
+
+-- the order of two texts of bytes, the shorter padded by spaces
+abbrev pub order_of : List ℕ → List ℕ → Ordering
+order_of a b = slice_cmp nat_cmp (padded (length b) a) (padded (length a) b)

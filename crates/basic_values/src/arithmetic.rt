@@ -1,0 +1,66 @@
+//! The operators of whole numbers.
+
+ghost use Rattle.std.specs.Prelude.{◌≡◌, ◌-ℤ◌, ◌*ℤ◌, neg_ℤ};
+ghost use Rattle.basic_values.specs.Numbers.{wrap};
+ghost use Rattle.basic_values.specs.Arithmetic.{power, quotient};
+
+use crate::failures::Fault;
+use crate::integers::Int;
+
+/// The error of a division by 0.
+const DIVISION_BY_ZERO: u8 = 61;
+
+impl Int {
+    /// The difference, wrapped. The manual's `-`.
+    pub fn sub(self, b: Int) -> Int
+        ensures { result ≡ wrap (self -ℤ b) }
+    {
+        Int::new(self.value().wrapping_sub(b.value()))
+    }
+
+    /// The product, wrapped. The manual's `*`.
+    pub fn mul(self, b: Int) -> Int
+        ensures { result ≡ wrap (self *ℤ b) }
+    {
+        Int::new(self.value().wrapping_mul(b.value()))
+    }
+
+    /// The number with its sign turned round, wrapped. The manual's unary `-`.
+    pub fn neg(self) -> Int
+        ensures { result ≡ wrap (neg_ℤ self) }
+    {
+        Int::new(self.value().wrapping_neg())
+    }
+
+    /// The power, wrapped once; with an exponent below 0 what is left of 1 divided by it. The manual's `^`.
+    pub fn power(self, b: Int) -> Int
+        ensures { result ≡ power self b }
+    {
+        let exponent = b.value();
+        let base = self.value();
+        if exponent >= 0 {
+            return Int::new(base.wrapping_pow(u32::from(exponent.unsigned_abs())));
+        }
+        if base == 1 {
+            return Int::new(1);
+        }
+        if base != -1 {
+            return Int::new(0);
+        }
+        Int::new(if exponent.unsigned_abs() % 2 == 0 {
+            1
+        } else {
+            -1
+        })
+    }
+
+    /// The quotient without its fraction, wrapped; error 61 where `b` is 0. The manual's `/`.
+    pub fn div(self, b: Int) -> Result<Int, Fault>
+        ensures { result ≡ quotient self b }
+    {
+        if b.value() == 0 {
+            return Err(Fault::new(DIVISION_BY_ZERO));
+        }
+        Ok(Int::new(self.value().wrapping_div(b.value())))
+    }
+}

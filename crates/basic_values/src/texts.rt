@@ -1,0 +1,93 @@
+//! Texts: lists of at most 32,767 bytes.
+
+ghost use Rattle.std.specs.Prelude.{◌≡◌, ◌≤◌, ◌++◌, ◌↔◌, IsTrue, IfOk, length, slice_index_or};
+ghost use Rattle.basic_values.specs.Texts.{MakesText, most_bytes, order_of, space};
+
+use crate::failures::{Halt, NoMemory, Trouble};
+use std::alloc::Global;
+use std::cmp::Ordering;
+use std::marker::Model;
+
+/// How many bytes a text has at the most.
+const MOST_BYTES: usize = 32767;
+
+/// A text of BASIC-PLUS: at most 32,767 bytes, of any kind.
+#[derive(Debug, Drop)]
+pub struct Text {
+    bytes: Vec<u8>,
+}
+
+impl Model for Text {
+    ghost use Rattle.std.specs.Prelude.{List, ℕ, ◌≤◌, vec_len};
+
+    ghost Value = { List ℕ };
+
+    ghost view = { λ text. text.bytes.items };
+
+    ghost invariant = { λ text. vec_len text.bytes ≤ 32767 };
+}
+
+impl Text {
+    /// A copy of the bytes. More than 32,767 of them are the halt `TooLong`.
+    pub fn of(alloc: Global, bytes: &[u8]) -> Result<Text, Trouble<Halt>>
+        ensures { MakesText bytes.now result }
+    {
+        concat(alloc, bytes, &[])
+    }
+
+    /// The bytes of the text.
+    pub fn as_bytes(&self) -> &[u8]
+        ensures bytes { result.now ≡ self.now }
+        ensures short { length self.now ≤ most_bytes }
+    {
+        self.bytes.as_slice()
+    }
+}
+
+/// The bytes of `b` behind those of `a`, the manual's `+` on texts. More than 32,767 are the halt `TooLong`.
+pub fn concat(alloc: Global, a: &[u8], b: &[u8]) -> Result<Text, Trouble<Halt>>
+    ensures { MakesText (a.now ++ b.now) result }
+{
+    if a.len() > MOST_BYTES || b.len() > MOST_BYTES - a.len() {
+        return Err(Trouble::Refused(Halt::TooLong));
+    }
+    let bytes = joined(alloc, a, b)?;
+    Ok(Text { bytes })
+}
+
+fn joined(alloc: Global, a: &[u8], b: &[u8]) -> Result<Vec<u8>, NoMemory>
+    ensures { IfOk result (λ bytes. bytes.items ≡ a.now ++ b.now) }
+{
+    let mut bytes = Vec::with_capacity(alloc, a.len() + b.len())?;
+    bytes.extend_from_slice(a)?;
+    bytes.extend_from_slice(b)?;
+    Ok(bytes)
+}
+
+/// The order of two texts after the shorter is padded by spaces, as the manual's `=`, `<` and their kin see them.
+pub fn compare(a: &[u8], b: &[u8]) -> Ordering
+    ensures { result ≡ order_of a.now b.now }
+{
+    for place in 0..a.len().max(b.len()) {
+        let left = byte_or_space(a, place);
+        let right = byte_or_space(b, place);
+        if left != right {
+            return left.cmp(&right);
+        }
+    }
+    Ordering::Equal
+}
+
+/// What stands at the place of a text with spaces behind it.
+fn byte_or_space(text: &[u8], place: usize) -> u8
+    ensures { result ≡ slice_index_or text.now place space }
+{
+    text.get(place).copied().unwrap_or(b' ')
+}
+
+/// Whether both have the same bytes. The manual's `==` on texts.
+pub fn identical(a: &[u8], b: &[u8]) -> bool
+    ensures { IsTrue result ↔ (a.now ≡ b.now) }
+{
+    a == b
+}

@@ -1,0 +1,5 @@
+mod CutLemmas
+mod DigitLemmas
+mod Ends
+mod SessionLemmas
+mod SumLemmas

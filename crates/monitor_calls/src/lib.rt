@@ -1,0 +1,19 @@
+//! What jobs ask of the monitor, what it replies, and the volume that it opens from.
+#![tactic(auto)]
+
+mod calls;
+mod names;
+mod ports;
+mod records;
+mod script;
+mod volumes;
+
+pub use calls::{Entry, Reply, Request};
+pub use names::{Account, Short, TerminalName};
+pub use ports::Port;
+pub use records::{RunRecord, Screen2};
+pub use script::ScriptPort;
+pub use volumes::{AccountEntry, Volume};
+
+#[cfg(test)]
+mod tests;

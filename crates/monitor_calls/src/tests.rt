@@ -1,0 +1,86 @@
+use super::*;
+use basic_values::Fault;
+use std::test::Fail;
+
+fn entry(project: u8, programmer: u8, password: &[u8], limit: u16) -> Result<AccountEntry, Fail> {
+    Ok(AccountEntry {
+        account: Account {
+            project,
+            programmer,
+        },
+        password: Short::of(password).ok_or("no short text")?,
+        limit,
+    })
+}
+
+#[test]
+fn texts_are_taken_in_their_ranges(rt: HostRuntime) {
+    for (text, is_short, is_name) in [
+        (b"".as_slice(), true, false),
+        (b"DEMO7".as_slice(), true, true),
+        (b"demo7".as_slice(), true, false),
+        (b"ABCDEF".as_slice(), true, true),
+        (b"ABCDEFG".as_slice(), false, true),
+        (b"ABCDEFGH".as_slice(), false, true),
+        (b"ABCDEFGHI".as_slice(), false, false),
+        (b"A B".as_slice(), false, false),
+    ] {
+        assert_eq!(rt;
+            Short::of(text).is_some(),
+            is_short,
+            "as a short text: {text:?}"
+        );
+        assert_eq!(rt;
+            TerminalName::of(text).is_some(),
+            is_name,
+            "as a name: {text:?}"
+        );
+    }
+}
+
+#[test]
+fn volumes_are_good_in_their_ranges(rt: HostRuntime) -> Result<(), Fail> {
+    for (blocks, project, programmer, password, limit, is_good) in [
+        (8, 100, 6, b"DEMO".as_slice(), 100, true),
+        (8, 100, 5, b"OTHER".as_slice(), 7, false),
+        (0, 1, 0, b"A".as_slice(), 1, false),
+        (1, 1, 0, b"A".as_slice(), 1, true),
+        (16384, 254, 254, b"ABCDE6".as_slice(), 16384, true),
+        (16385, 1, 0, b"A".as_slice(), 1, false),
+        (8, 0, 1, b"DEMO".as_slice(), 100, false),
+        (8, 255, 1, b"DEMO".as_slice(), 100, false),
+        (8, 1, 255, b"DEMO".as_slice(), 100, false),
+        (8, 1, 1, b"".as_slice(), 100, false),
+        (8, 1, 1, b"demo".as_slice(), 100, false),
+        (8, 1, 1, b"DEMO".as_slice(), 0, false),
+        (8, 1, 1, b"DEMO".as_slice(), 16385, false),
+    ] {
+        let mut accounts = Vec::new(rt.alloc());
+        accounts.push(entry(100, 5, b"DEMO", 100)?)?;
+        accounts.push(entry(project, programmer, password, limit)?)?;
+        let volume = Volume { blocks, accounts };
+        assert_eq!(rt; volume.is_good(), is_good, "{volume:?}");
+    }
+    Ok(())
+}
+
+#[test]
+fn a_script_replies_in_order(rt: HostRuntime) -> Result<(), Fail> {
+    let mut replies = Vec::new(rt.alloc());
+    replies.push(Reply::Done)?;
+    replies.push(Reply::Failed(Fault::new(3)))?;
+    let mut port = ScriptPort::new(rt.alloc(), replies);
+    let requests = [
+        Request::Tick,
+        Request::Logout,
+        Request::Tick,
+        Request::Logout,
+    ];
+    for request in requests {
+        port.ask(rt.alloc(), request)?;
+    }
+    let log = format!(in rt.alloc(); "{:?}", port.log())?;
+    let want = "[(Tick, Done), (Logout, Failed(Fault(3))), (Tick, Expired), (Logout, Done)]";
+    assert_eq!(rt; log.as_str(), want);
+    Ok(())
+}

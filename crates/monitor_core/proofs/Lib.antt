@@ -1,0 +1,3 @@
+mod AccountLemmas
+mod PortLemmas
+mod Walks

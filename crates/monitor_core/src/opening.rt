@@ -1,0 +1,27 @@
+//! What a monitor's state was when a port was made over it.
+
+ghost use Rattle.std.specs.Prelude.{◌≡◌};
+ghost use Rattle.std.specs.Borrow.{ftrue};
+ghost use Rattle.monitor_model.specs.State.{State};
+
+use crate::monitor::Monitor;
+use std::marker::Model;
+
+/// A state that only proofs read. It takes no memory, and nothing is done to make it.
+#[derive(Drop)]
+pub(crate) struct Opening {
+    pub(crate) ghost state: { State },
+}
+
+impl Model for Opening {
+    ghost also_owns = { λ _. ftrue };
+}
+
+impl Opening {
+    /// The monitor's state now.
+    pub(crate) fn of(monitor: &Monitor) -> Opening
+        ensures { result.state ≡ monitor.now }
+    {
+        Opening {}
+    }
+}

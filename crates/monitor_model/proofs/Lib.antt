@@ -1,0 +1,6 @@
+pub mod GoodLaw
+pub mod Histories
+pub mod JobLemmas
+pub mod Moves
+mod Rows
+pub mod Tools

@@ -1,0 +1,159 @@
+//! Sources and sinks in memory that fail the calls that they are told.
+
+ghost use Rattle.std.specs.Prelude.{◌≡◌, ℕ, ◌-◌, ◌<◌, ◌≤◌, ◌⊎◌, ◌↔◌, true, [], min, length, Some, IfOk};
+ghost use Rattle.rsts_io.specs.Ends.{Takes, Gives};
+ghost use Rattle.rsts_io.specs.Memory.{raised, counted, is_listed, counted_take};
+
+use crate::copies::{SINK_ROOM, copy_next, is_listed, keep_front};
+use crate::sink::{Gave, Sink};
+use crate::source::{Source, Took};
+use basic_values::NoMemory;
+use std::alloc::Global;
+use std::marker::Model;
+
+/// A source of given bytes. It counts its calls, from 1, and fails those that it was told.
+#[derive(Debug, Drop)]
+pub struct MemorySource {
+    bytes: Vec<u8>,
+    at: usize,
+    failing: Vec<u64>,
+    calls: u64,
+    faults: u64,
+}
+
+impl Model for MemorySource {
+    ghost use Rattle.std.specs.Prelude.{◌≤◌, drop, vec_len};
+    ghost use Rattle.rsts_io.specs.Memory.{Feed};
+
+    ghost Value = { Feed };
+
+    ghost view = { λ s. record { left = drop s.at s.bytes.items; taken = s.at; failing = s.failing.items; calls = s.calls; faults = s.faults } };
+
+    ghost invariant = { λ s. s.at ≤ vec_len s.bytes };
+}
+
+impl MemorySource {
+    /// A source of these bytes that fails the calls of these numbers.
+    pub fn new(alloc: Global, bytes: &[u8], failing: &[u64]) -> Result<MemorySource, NoMemory>
+        ensures left { IfOk result (λ source. source.left ≡ bytes.now) }
+        ensures taken { IfOk result (λ source. source.taken ≡ 0) }
+        ensures failing { IfOk result (λ source. source.failing ≡ failing.now) }
+        ensures calls { IfOk result (λ source. source.calls ≡ 0) }
+        ensures faults { IfOk result (λ source. source.faults ≡ 0) }
+    {
+        let bytes = Vec::from_slice(alloc, bytes)?;
+        let failing = Vec::from_slice(alloc, failing)?;
+        Ok(MemorySource {
+            bytes,
+            at: 0,
+            failing,
+            calls: 0,
+            faults: 0,
+        })
+    }
+}
+
+impl Source for MemorySource {
+    ghost left = { λ s. Some s.left };
+
+    ghost taken = { λ s. s.taken };
+
+    ghost faults = { λ s. s.faults };
+
+    fn take(&mut self, buffer: &mut [u8]) -> Took
+        requires { 0 < length buffer.old }
+        ensures told { Takes result buffer.new (Some self.old.left) (Some self.new.left) self.old.taken self.new.taken self.old.faults self.new.faults }
+        ensures faults { self.old.faults ≤ self.new.faults }
+        ensures fails { (result ≡ Took.Failed) ↔ (is_listed self.new.calls self.old.failing ≡ true) }
+        ensures ends { result ≡ Took.End → self.old.left ≡ [] }
+        ensures fits { (n : ℕ) → result ≡ Took.Bytes n → n ≡ min (length self.old.left) (length buffer.old) }
+        ensures counted { self.new.faults ≡ counted_take result self.old.faults }
+        ensures calls { self.new.calls ≡ raised self.old.calls }
+        ensures failing { self.new.failing ≡ self.old.failing }
+    {
+        self.calls = self.calls.saturating_add(1);
+        if is_listed(self.calls, self.failing.as_slice()) {
+            self.faults = self.faults.saturating_add(1);
+            return Took::Failed;
+        }
+        let count = copy_next(&self.bytes, self.at, buffer);
+        if count == 0 {
+            return Took::End;
+        }
+        self.at += count;
+        Took::Bytes(count)
+    }
+}
+
+/// A sink that keeps what it is given. It counts its calls, from 1, and fails those that it was told, and where its
+/// room of 16 MiB is full.
+#[derive(Debug, Drop)]
+pub struct MemorySink {
+    kept: Vec<u8>,
+    failing: Vec<u64>,
+    calls: u64,
+    faults: u64,
+}
+
+impl Model for MemorySink {
+    ghost use Rattle.std.specs.Prelude.{◌≤◌, vec_len, vec_capacity};
+    ghost use Rattle.rsts_io.specs.declared.copies.TheConstants.{SINK_ROOM};
+    ghost use Rattle.rsts_io.specs.Memory.{Store};
+
+    ghost Value = { Store };
+
+    ghost view = { λ s. record { given = s.kept.items; failing = s.failing.items; calls = s.calls; faults = s.faults } };
+
+    ghost invariant = { λ s. (vec_len s.kept ≤ SINK_ROOM) × (SINK_ROOM ≤ vec_capacity s.kept) };
+}
+
+impl MemorySink {
+    /// An empty sink, with its room taken, that fails the calls of these numbers.
+    pub fn new(alloc: Global, failing: &[u64]) -> Result<MemorySink, NoMemory>
+        ensures given { IfOk result (λ sink. sink.given ≡ []) }
+        ensures failing { IfOk result (λ sink. sink.failing ≡ failing.now) }
+        ensures calls { IfOk result (λ sink. sink.calls ≡ 0) }
+        ensures faults { IfOk result (λ sink. sink.faults ≡ 0) }
+    {
+        let failing = Vec::from_slice(alloc, failing)?;
+        Ok(MemorySink {
+            kept: Vec::with_capacity(alloc, SINK_ROOM)?,
+            failing,
+            calls: 0,
+            faults: 0,
+        })
+    }
+
+    /// What it was given.
+    pub fn bytes(&self) -> &[u8]
+        ensures bytes { result.now ≡ self.now.given }
+        ensures room { length self.now.given ≤ SINK_ROOM }
+    {
+        self.kept.as_slice()
+    }
+}
+
+impl Sink for MemorySink {
+    ghost given = { λ s. Some s.given };
+
+    ghost faults = { λ s. s.faults };
+
+    fn give(&mut self, piece: &[u8]) -> Gave
+        requires { 0 < length piece.now }
+        ensures told { Gives result piece.now (Some self.old.given) (Some self.new.given) self.old.faults self.new.faults }
+        ensures faults { self.old.faults ≤ self.new.faults }
+        ensures fails { (result ≡ Gave.Failed) ↔ ((is_listed self.new.calls self.old.failing ≡ true) ⊎ (length self.old.given ≡ SINK_ROOM)) }
+        ensures fits { (n : ℕ) → result ≡ Gave.Bytes n → n ≡ min (length piece.now) (SINK_ROOM - length self.old.given) }
+        ensures counted { self.new.faults ≡ counted result self.old.faults }
+        ensures calls { self.new.calls ≡ raised self.old.calls }
+        ensures failing { self.new.failing ≡ self.old.failing }
+    {
+        self.calls = self.calls.saturating_add(1);
+        let fails = is_listed(self.calls, self.failing.as_slice());
+        if fails || self.kept.len() == SINK_ROOM {
+            self.faults = self.faults.saturating_add(1);
+            return Gave::Failed;
+        }
+        Gave::Bytes(keep_front(&mut self.kept, piece))
+    }
+}

@@ -1,0 +1,127 @@
+//! Sources and sinks in memory that never fail, but for a sink that is full.
+
+ghost use Rattle.std.specs.Prelude.{◌≡◌, ℕ, ◌+◌, ◌-◌, ◌<◌, ◌≤◌, ◌↔◌, [], min, length, Some, IfOk};
+ghost use Rattle.rsts_io.specs.Ends.{Takes, Gives};
+ghost use Rattle.rsts_io.specs.Memory.{counted};
+
+use crate::copies::{SINK_ROOM, copy_next, keep_front};
+use crate::sink::{Gave, Sink};
+use crate::source::{Source, Took};
+use basic_values::NoMemory;
+use std::alloc::Global;
+use std::marker::Model;
+
+/// A source of given bytes, which never fails.
+#[derive(Debug, Drop)]
+pub struct PlainSource {
+    bytes: Vec<u8>,
+    at: usize,
+}
+
+impl Model for PlainSource {
+    ghost use Rattle.std.specs.Prelude.{◌≤◌, drop, vec_len};
+    ghost use Rattle.rsts_io.specs.Memory.{PlainFeed};
+
+    ghost Value = { PlainFeed };
+
+    ghost view = { λ s. record { left = drop s.at s.bytes.items; taken = s.at } };
+
+    ghost invariant = { λ s. s.at ≤ vec_len s.bytes };
+}
+
+impl PlainSource {
+    /// A source that gives these bytes, and then is at its end.
+    pub fn new(alloc: Global, bytes: &[u8]) -> Result<PlainSource, NoMemory>
+        ensures left { IfOk result (λ source. source.left ≡ bytes.now) }
+        ensures taken { IfOk result (λ source. source.taken ≡ 0) }
+    {
+        Ok(PlainSource {
+            bytes: Vec::from_slice(alloc, bytes)?,
+            at: 0,
+        })
+    }
+}
+
+impl Source for PlainSource {
+    ghost left = { λ s. Some s.left };
+
+    ghost taken = { λ s. s.taken };
+
+    ghost faults = { λ _. 0 };
+
+    fn take(&mut self, buffer: &mut [u8]) -> Took
+        requires { 0 < length buffer.old }
+        ensures told { Takes result buffer.new (Some self.old.left) (Some self.new.left) self.old.taken self.new.taken 0 0 }
+        ensures faults { 0 ≤ 0 }
+        ensures fits { (n : ℕ) → result ≡ Took.Bytes n → n ≡ min (length self.old.left) (length buffer.old) }
+    {
+        let count = copy_next(&self.bytes, self.at, buffer);
+        if count == 0 {
+            return Took::End;
+        }
+        self.at += count;
+        Took::Bytes(count)
+    }
+}
+
+/// A sink that keeps what it is given. It fails where its room of 16 MiB is full, and counts that.
+#[derive(Debug, Drop)]
+pub struct PlainSink {
+    kept: Vec<u8>,
+    faults: u64,
+}
+
+impl Model for PlainSink {
+    ghost use Rattle.std.specs.Prelude.{◌≤◌, vec_len, vec_capacity};
+    ghost use Rattle.rsts_io.specs.declared.copies.TheConstants.{SINK_ROOM};
+    ghost use Rattle.rsts_io.specs.Memory.{PlainStore};
+
+    ghost Value = { PlainStore };
+
+    ghost view = { λ s. record { given = s.kept.items; faults = s.faults } };
+
+    ghost invariant = { λ s. (vec_len s.kept ≤ SINK_ROOM) × (SINK_ROOM ≤ vec_capacity s.kept) };
+}
+
+impl PlainSink {
+    /// An empty sink, with its room taken.
+    pub fn new(alloc: Global) -> Result<PlainSink, NoMemory>
+        ensures given { IfOk result (λ sink. sink.given ≡ []) }
+        ensures faults { IfOk result (λ sink. sink.faults ≡ 0) }
+    {
+        Ok(PlainSink {
+            kept: Vec::with_capacity(alloc, SINK_ROOM)?,
+            faults: 0,
+        })
+    }
+
+    /// What it was given.
+    pub fn bytes(&self) -> &[u8]
+        ensures bytes { result.now ≡ self.now.given }
+        ensures room { length self.now.given ≤ SINK_ROOM }
+    {
+        self.kept.as_slice()
+    }
+}
+
+impl Sink for PlainSink {
+    ghost given = { λ s. Some s.given };
+
+    ghost faults = { λ s. s.faults };
+
+    fn give(&mut self, piece: &[u8]) -> Gave
+        requires { 0 < length piece.now }
+        ensures told { Gives result piece.now (Some self.old.given) (Some self.new.given) self.old.faults self.new.faults }
+        ensures faults { self.old.faults ≤ self.new.faults }
+        ensures fails { (result ≡ Gave.Failed) ↔ (length self.old.given ≡ SINK_ROOM) }
+        ensures fits { (n : ℕ) → result ≡ Gave.Bytes n → n ≡ min (length piece.now) (SINK_ROOM - length self.old.given) }
+        ensures counted { self.new.faults ≡ counted result self.old.faults }
+    {
+        let count = keep_front(&mut self.kept, piece);
+        if count == 0 {
+            self.faults = self.faults.saturating_add(1);
+            return Gave::Failed;
+        }
+        Gave::Bytes(count)
+    }
+}

@@ -1,0 +1,103 @@
+//! The real ends: any reader and any writer of std. What they read and write is not told.
+
+ghost use Rattle.std.specs.Prelude.{◌≡◌, ℕ, ◌<◌, ◌≤◌, length, None};
+ghost use Rattle.rsts_io.specs.Ends.{Takes, Gives};
+ghost use Rattle.rsts_io.specs.Memory.{counted, counted_take};
+ghost use Rattle.rsts_io.specs.Streams.{ReadSo, WrittenSo};
+
+use crate::sink::{Gave, Sink};
+use crate::source::{Source, Took};
+use std::io::{Read, Write};
+
+/// A source over a reader. A read that fails is counted; a read of no bytes is its end.
+#[derive(Drop)]
+pub struct StdSource<R: Read> {
+    inner: R,
+    taken: u64,
+    faults: u64,
+}
+
+impl<R: Read> StdSource<R> {
+    /// A source from which nothing was taken yet.
+    pub fn new(inner: R) -> StdSource<R>
+        ensures taken { result.taken ≡ 0 }
+        ensures faults { result.faults ≡ 0 }
+    {
+        StdSource {
+            inner,
+            taken: 0,
+            faults: 0,
+        }
+    }
+}
+
+impl<R: Read> Source for StdSource<R> {
+    ghost left = { λ _. None };
+
+    ghost taken = { λ s. s.taken };
+
+    ghost faults = { λ s. s.faults };
+
+    fn take(&mut self, buffer: &mut [u8]) -> Took
+        requires { 0 < length buffer.old }
+        ensures told { Takes result buffer.new None None self.old.taken self.new.taken self.old.faults self.new.faults }
+        ensures faults { self.old.faults ≤ self.new.faults }
+        ensures counted { self.new.faults ≡ counted_take result self.old.faults }
+        ensures read { ReadSo result buffer.new (R.remaining self.old.inner) (R.remaining self.new.inner) self.old.taken }
+    {
+        let room = u64::MAX - self.taken;
+        if room == 0 {
+            return Took::End;
+        }
+        let most = buffer.len().min(room as usize);
+        match self.inner.read(&mut buffer[..most]) {
+            Ok(0) => Took::End,
+            Ok(count) => {
+                self.taken += count as u64;
+                Took::Bytes(count)
+            }
+            Err(_) => {
+                self.faults = self.faults.saturating_add(1);
+                Took::Failed
+            }
+        }
+    }
+}
+
+/// A sink over a writer. A write that fails or takes no bytes is counted.
+#[derive(Drop)]
+pub struct StdSink<W: Write> {
+    inner: W,
+    faults: u64,
+}
+
+impl<W: Write> StdSink<W> {
+    /// A sink that has not failed yet.
+    pub fn new(inner: W) -> StdSink<W>
+        ensures { result.faults ≡ 0 }
+    {
+        StdSink { inner, faults: 0 }
+    }
+}
+
+impl<W: Write> Sink for StdSink<W> {
+    ghost given = { λ _. None };
+
+    ghost faults = { λ s. s.faults };
+
+    fn give(&mut self, piece: &[u8]) -> Gave
+        requires { 0 < length piece.now }
+        ensures told { Gives result piece.now None None self.old.faults self.new.faults }
+        ensures faults { self.old.faults ≤ self.new.faults }
+        ensures counted { self.new.faults ≡ counted result self.old.faults }
+        ensures written { WrittenSo result piece.now (W.contents self.old.inner) (W.contents self.new.inner) }
+    {
+        match self.inner.write(piece) {
+            Ok(0) | Err(_) => {
+                self.faults = self.faults.saturating_add(1);
+                Gave::Failed
+            }
+            Ok(count) => Gave::Bytes(count),
+        }
+    }
+}
