@@ -25,6 +25,7 @@ abbrev pub size_spelled : List ℕ → Option ℕ
 size_spelled [] = None
 size_spelled (byte ∷ rest) = if all_ascii_digits (byte ∷ rest) then Some (digits_value 10 (byte ∷ rest)) else None
 
+-- the number of this size, below 0 where there is a minus
 abbrev pub with_sign : Bool → ℕ → ℤ
 with_sign true size = neg_ℤ (pos size)
 with_sign false size = pos size

@@ -5,12 +5,24 @@ ghost use Rattle.basic_strings.specs.Readings.{value_read, item_read, judged, nu
 
 use basic_values::{Fault, Int};
 
+/// The error of a number of INPUT or READ that is none.
+const DATA_FORMAT_ERROR: u8 = 50;
+
+/// The error of a number of more than 16 bits.
+const INTEGER_ERROR: u8 = 51;
+
+/// The error of a number of VAL that is none.
+const ILLEGAL_NUMBER: u8 = 52;
+
+/// The least size that no number of 16 bits has, with either sign.
+const BEYOND_SIZE: u32 = 32769;
+
 /// The number that the text spells: blanks around, a sign or none, and digits. Error 52 where it spells none, 51 where the number has more than 16 bits. The manual's VAL.
 #[tactic(auto, unfolding(crate::specs::Readings::value_read))]
 pub fn val(bytes: &[u8]) -> Result<Int, Fault>
     ensures { result ≡ value_read bytes.now }
 {
-    number(trimmed(bytes), Fault::new(52))
+    number(trimmed(bytes), Fault::new(ILLEGAL_NUMBER))
 }
 
 /// The number that an item of INPUT or READ spells: a sign or none, digits, and a percent sign or none. Error 50 where it spells none, 51 where the number has more than 16 bits.
@@ -19,8 +31,8 @@ pub fn item_number(bytes: &[u8]) -> Result<Int, Fault>
     ensures { result ≡ item_read bytes.now }
 {
     match bytes {
-        [rest @ .., b'%'] => number(rest, Fault::new(50)),
-        _ => number(bytes, Fault::new(50)),
+        [rest @ .., b'%'] => number(rest, Fault::new(DATA_FORMAT_ERROR)),
+        _ => number(bytes, Fault::new(DATA_FORMAT_ERROR)),
     }
 }
 
@@ -75,11 +87,11 @@ fn in_range(is_negative: bool, size: Option<u32>, no_number: Fault) -> Result<In
     };
     match i16::try_from(number) {
         Ok(value) => Ok(Int::new(value)),
-        Err(_) => Err(Fault::new(51)),
+        Err(_) => Err(Fault::new(INTEGER_ERROR)),
     }
 }
 
-/// The number that one digit or more spell, if they do; beyond 16 bits any that is beyond them.
+/// The number that one digit or more spell, if they do; one that is too great for either sign counts as the least of those.
 fn size(text: &[u8]) -> Option<u32>
     ensures { result ≡ option_map (min 32769) (size_spelled text.now) }
 {
@@ -91,7 +103,7 @@ fn size(text: &[u8]) -> Option<u32>
         if !digit.is_ascii_digit() {
             return None;
         }
-        size = (size * 10 + u32::from(*digit - b'0')).min(32769);
+        size = (size * 10 + u32::from(*digit - b'0')).min(BEYOND_SIZE);
     }
     Some(size)
 }

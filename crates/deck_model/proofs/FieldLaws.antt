@@ -120,3 +120,11 @@ password_is_short text good =
     let most = and_right (nat_le 1 (length text)) (nat_le (length text) 6) sizes in
     and_both (nat_le 0 (length text) && nat_le (length text) 6) (list_all is_ascii_alphanumeric text) (and_both (nat_le 0 (length text)) (nat_le (length text) 6) (le-leb 0 (length text) (omega arith)) most)
     (alphanumerics text (and_right (nat_le 1 (length text) && nat_le (length text) 6) (list_all is_capital_or_digit text) good))
+
+
+pub number_at_most : (low high : ℕ) (text : List ℕ) (n : ℕ) → number_between low high text ≡ Some n → n ≤ high
+number_at_most low high text n e =
+    let v : ℕ = digits_value 10 text in
+    let g = guard_some (bytes_eq text (decimal v) && nat_le low v && nat_le v high) v n e in
+    let most : v ≤ high = leb-true v high (and_right (bytes_eq text (decimal v) && nat_le low v) (nat_le v high) g.0) in
+    omega (arith, g.1)

@@ -1,8 +1,9 @@
 -- The two laws: what is read is spelled so, and what is spelled so is read.
-use Rattle.std.proofs.Common.{◌≡◌, ℕ, ◌+◌, ◌^◌, ◌<◌, ◌≤◌, Bool, true, false, cond, eqb, List, [], ◌∷◌, ◌++◌, length, take, drop, Option, Some, None, refl, sym, ap, subst, ◌∙◌, append_assoc, arith, ◌⊎◌, inl, inr, ⊎_elim}
+use Rattle.std.proofs.Common.{◌≡◌, ℕ, ◌+◌, ◌^◌, ◌<◌, ◌≤◌, Bool, true, false, cond, eqb, List, [], ◌∷◌, ◌++◌, length, take, drop, Option, Some, None, refl, sym, ap, subst, ◌∙◌, append_assoc, arith, ◌⊎◌, inl, inr, ⊎_elim, ◌-◌, get_or, eq-eqb}
 use Rattle.std.specs.Prelude.{◌&&◌, nat_le, bytes_eq, codes, map}
 use Rattle.std.specs.List.{flat_map, list_all, AllByRecursion}
 use Rattle.std.specs.Fmt.{decimal}
+use Rattle.std.specs.Str.Lines.{lines}
 use Rattle.std.specs.Cmp.Lexicographic.{bytes_decides}
 use Rattle.std.proofs.lemmas.Bool.{eqb-true, leb-true, le-leb}
 use Rattle.std.proofs.lemmas.List.{append-nil, nil_from_length}
@@ -11,8 +12,8 @@ use Rattle.monitor_calls.specs.declared.volumes.AccountEntry.{AccountEntry}
 use Rattle.monitor_calls.specs.Names.{is_short_text, is_password, is_terminal_name, is_capital_or_digit}
 use Rattle.monitor_calls.specs.Volumes.{is_good_entry, is_good_volume, is_between, are_apart}
 use Rattle.deck_model.specs.Deck.{Deck, Terminal, IsDeck, IsTerminal, IsKeyLine}
-use Rattle.deck_model.specs.Spelling.{account_line, disk_line, key_line, terminal_lines, deck_lines}
-use Rattle.deck_model.specs.Reading.{◌>>=◌, behind, cut, Fields, fields_in, entry_in, blocks_in, name_in, keys_in, all_keys_in, first_line, Head, head_in, volume_in, deck_in}
+use Rattle.deck_model.specs.Spelling.{account_line, disk_line, key_line, terminal_lines, deck_lines, Spelled}
+use Rattle.deck_model.specs.Reading.{◌>>=◌, behind, cut, Fields, fields_in, entry_in, blocks_in, name_in, keys_in, all_keys_in, first_line, Head, head_in, volume_in, deck_in, deck_at}
 use Rattle.deck_model.proofs.FieldLaws.{bind_some, guard_some, and_left, and_right, and_both, same_bytes, behind_takes, behind_again, Lacks, cut_takes, cut_again, number_takes, number_again, decimal_lacks, capitals_lack, password_is_short}
 
 some : {A : Type 0} → A → Option A
@@ -20,6 +21,10 @@ some x = Some x
 
 some_is : {A : Type 0} (x y : A) → Some x ≡ Some y → x ≡ y
 some_is x y e = cc
+
+test_some : {A : Type 0} (b : Bool) (o : Option A) (y : A) → cond b o None ≡ Some y → (b ≡ true) × (o ≡ Some y)
+test_some true o y e = (refl, e)
+test_some false o y e = absurd cc
 
 -- ---- accounts
 
@@ -145,15 +150,15 @@ all_keys_take [] ks e = absurd cc
 all_keys_take (line ∷ lines) ks e =
     ⊎_elim
     (λ h.
-    let same : line ≡ end_line = (bytes_decides line end_line).0 h.0 in
-    let last : lines ≡ [] = nil_from_length lines (eqb-true _ _ h.1) in
-    subst (λ (x : List (List ℕ)). IsTail (line ∷ lines) x) (sym h.2) ((λ i. same i ∷ last i), tt))
+      let same : line ≡ end_line = (bytes_decides line end_line).0 h.0 in
+      let last : lines ≡ [] = nil_from_length lines (eqb-true _ _ h.1) in
+      subst (λ (x : List (List ℕ)). IsTail (line ∷ lines) x) (sym h.2) ((λ i. same i ∷ last i), tt))
     (λ h.
-    let a = bind_some (keys_in line) (λ keys. all_keys_in lines >>= λ others. Some (keys ∷ others)) ks h in
-    let b = bind_some (all_keys_in lines) (λ others. Some (a.0 ∷ others)) ks a.2 in
-    let first = keys_take line a.0 a.1 in
-    let others = all_keys_take lines b.0 b.1 in
-    subst (λ (x : List (List ℕ)). IsTail (line ∷ lines) x) (some_is (a.0 ∷ b.0) ks b.2) ((λ i. first.0 i ∷ others.0 i), (first.1, others.1)))
+      let a = bind_some (keys_in line) (λ keys. all_keys_in lines >>= λ others. Some (keys ∷ others)) ks h in
+      let b = bind_some (all_keys_in lines) (λ others. Some (a.0 ∷ others)) ks a.2 in
+      let first = keys_take line a.0 a.1 in
+      let others = all_keys_take lines b.0 b.1 in
+      subst (λ (x : List (List ℕ)). IsTail (line ∷ lines) x) (some_is (a.0 ∷ b.0) ks b.2) ((λ i. first.0 i ∷ others.0 i), (first.1, others.1)))
     (end_or_key (bytes_eq line end_line) (eqb (length lines) 0) (keys_in line >>= λ keys. all_keys_in lines >>= λ others. Some (keys ∷ others)) ks e)
 
 all_keys_again : (ks : List (List ℕ)) → AllByRecursion IsKeyLine ks → all_keys_in (map key_line ks ++ end_line ∷ []) ≡ Some ks
@@ -236,3 +241,17 @@ again_of blocks (entry ∷ other ∷ accounts) terminals a b good each = absurd 
 
 pub deck_again : (d : Deck) → IsDeck d → deck_in (deck_lines d) ≡ Some d
 deck_again d good = again_of d.blocks d.accounts d.terminals good.one_account good.one_terminal good.volume good.terminals
+
+-- ---- from the bytes
+
+pub bytes_take : (bytes : List ℕ) (d : Deck) → deck_at bytes ≡ Some d → Spelled bytes d
+unfolding deck_at
+bytes_take bytes d e =
+    let g = test_some (eqb (get_or bytes (length bytes - 1) 0) 10) (deck_in (lines bytes)) d e in
+    let read = deck_takes (lines bytes) d g.1 in
+    record { is_deck = read.0; lines_are = read.1; ends = eqb-true _ _ g.0 }
+
+pub bytes_again : (bytes : List ℕ) (d : Deck) → Spelled bytes d → deck_at bytes ≡ Some d
+unfolding deck_at
+bytes_again bytes d s =
+    ap (λ (b : Bool). cond b (deck_in (lines bytes)) None) (eq-eqb _ _ s.ends) ∙ ap deck_in s.lines_are ∙ deck_again d s.is_deck

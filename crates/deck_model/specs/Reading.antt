@@ -1,6 +1,7 @@
 -- Reading the lines of a deck in their order.
-use Rattle.std.specs.Prelude.{ℕ, ◌&&◌, nat_le, nat_lt, ◌==◌, if◌then◌else◌, List, [], ◌∷◌, length, take, drop, Option, Some, None, option_and_then, bytes_eq, codes}
+use Rattle.std.specs.Prelude.{ℕ, ◌&&◌, nat_le, nat_lt, ◌-◌, ◌==◌, if◌then◌else◌, List, [], ◌∷◌, length, take, drop, Option, Some, None, option_and_then, bytes_eq, codes, slice_index}
 use Rattle.std.specs.List.{position_or_len, before_first, after_first}
+use Rattle.std.specs.Str.Lines.{lines}
 use Rattle.basic_values.specs.Decimals.{number_between}
 use Rattle.monitor_calls.specs.declared.volumes.AccountEntry.{AccountEntry}
 use Rattle.monitor_calls.specs.Names.{is_short_text, is_terminal_name}
@@ -103,3 +104,7 @@ deck_in lines = do
   name ← name_in head.terminal
   keys ← all_keys_in head.rest
   Some (record { blocks = volume.0; accounts = volume.1; terminals = record { name = name; keys = keys } ∷ [] })
+
+-- the deck that bytes spell, if they end in a LF
+unfoldable pub deck_at : List ℕ → Option Deck
+deck_at bytes = if slice_index bytes (length bytes - 1) == 10 then deck_in (lines bytes) else None

@@ -15,3 +15,8 @@ abbrev pub report : List (List ℕ) → List (List ℕ) → List ℕ
 report [] screens = []
 report (name ∷ names) [] = []
 report (name ∷ names) (screen ∷ screens) = terminal_report name screen ++ report names screens
+
+-- what a check of a good deck writes: how many accounts, files and terminals it has
+abbrev pub good_line : ℕ → ℕ → ℕ → List ℕ
+good_line accounts files terminals =
+    codes "GOOD " ++ decimal accounts ++ codes " " ++ decimal files ++ codes " " ++ decimal terminals ++ codes "\n"

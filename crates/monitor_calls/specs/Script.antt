@@ -3,7 +3,7 @@ use Rattle.std.specs.Prelude.{List, [], ◌∷◌, drop}
 use Rattle.monitor_calls.specs.declared.calls.Request.{Request}
 use Rattle.monitor_calls.specs.declared.calls.Request.TheVariants.{Login, Logout, Tick}
 use Rattle.monitor_calls.specs.declared.calls.Reply.{Reply}
-use Rattle.monitor_calls.specs.declared.calls.Reply.TheVariants.{Done, Failed, Expired}
+use Rattle.monitor_calls.specs.declared.calls.Reply.TheVariants.{Done, Expired}
 use Rattle.monitor_calls.specs.Pairs.{Pair}
 
 -- its log, and the replies that are left of the list

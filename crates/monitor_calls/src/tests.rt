@@ -1,6 +1,11 @@
 use super::*;
-use basic_values::Fault;
+use basic_values::{Fault, NoMemory};
+use std::alloc::Global;
 use std::test::Fail;
+
+fn asked<P: Port>(port: &mut P, alloc: Global, request: Request) -> Result<Reply, NoMemory> {
+    port.ask(alloc, request)
+}
 
 fn entry(project: u8, programmer: u8, password: &[u8], limit: u16) -> Result<AccountEntry, Fail> {
     Ok(AccountEntry {
@@ -77,7 +82,7 @@ fn a_script_replies_in_order(rt: HostRuntime) -> Result<(), Fail> {
         Request::Logout,
     ];
     for request in requests {
-        port.ask(rt.alloc(), request)?;
+        asked(&mut port, rt.alloc(), request)?;
     }
     let log = format!(in rt.alloc(); "{:?}", port.log())?;
     let want = "[(Tick, Done), (Logout, Failed(Fault(3))), (Tick, Expired), (Logout, Done)]";

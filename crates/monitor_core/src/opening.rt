@@ -8,7 +8,7 @@ use crate::monitor::Monitor;
 use std::marker::Model;
 
 /// A state that only proofs read. It takes no memory, and nothing is done to make it.
-#[derive(Drop)]
+#[derive(Debug, Drop)]
 pub(crate) struct Opening {
     pub(crate) ghost state: { State },
 }

@@ -1,6 +1,12 @@
 use super::*;
-use monitor_calls::{Account, AccountEntry, Port, Request, Short, Volume};
+use basic_values::NoMemory;
+use monitor_calls::{Account, AccountEntry, Port, Reply, Request, Short, Volume};
+use std::alloc::Global;
 use std::test::Fail;
+
+fn asked<P: Port>(port: &mut P, alloc: Global, request: Request) -> Result<Reply, NoMemory> {
+    port.ask(alloc, request)
+}
 
 fn demo_with(limit: u16, rt: &HostRuntime) -> Result<Volume, Fail> {
     let entry = AccountEntry {
@@ -61,7 +67,7 @@ fn a_port_keeps_what_was_asked(rt: HostRuntime) -> Result<(), Fail> {
     ];
     let mut replies = Vec::new(rt.alloc());
     for request in requests {
-        replies.push(port.ask(rt.alloc(), request)?)?;
+        replies.push(asked(&mut port, rt.alloc(), request)?)?;
     }
     let told = format!(in rt.alloc(); "{replies:?}")?;
     let none = "Failed(Fault(5)), Failed(Fault(5)), Failed(Fault(5))";

@@ -3,8 +3,8 @@ use Rattle.monitor_calls.specs.declared.calls.Entry.{Entry}
 use Rattle.monitor_calls.specs.Proper.{IsProperEntry}
 use Rattle.monitor_model.specs.History.{entry_for}
 use Rattle.monitor_model.proofs.Histories.{part_push}
-use Rattle.monitor_core.specs.Plain.{Plain, IsKept, unasked, asked}
-use Rattle.monitor_core.proofs.PortLemmas.{job_there, kept_push, grown}
+use Rattle.monitor_core.specs.Plain.{Plain, IsKept}
+use Rattle.monitor_core.proofs.PortLemmas.{job_there, kept_push}
 use Rattle.monitor_core.proofs.port.PlainPortPort.ask.Goals as goal
 
 pub answer-requires : goal.answer-requires

@@ -1,0 +1,4 @@
+mod KeyLemmas
+mod LineLemmas
+mod StreamLemmas
+mod SystemLemmas

@@ -1,0 +1,52 @@
+-- Bytes that are taken or given one part after the other.
+use Rattle.std.proofs.Common.{◌≡◌, ℕ, ◌+◌, ◌≤◌, List, [], ◌++◌, length, take, drop, Option, Some, None, refl, sym, ap, subst, ◌∙◌, append_assoc, arith, ◌-◌, length-drop}
+use Rattle.std.proofs.lemmas.List.{append-nil, take-append-drop, take_all, length-append, length-take-le}
+use Rattle.rsts_io.specs.Ends.{AreNext, IsAtEnd, Appended}
+use Rattle.rsts.specs.Streams.{AreAll, TookNext, GaveFront}
+
+pub next_none : (left : Option (List ℕ)) → AreNext [] left left
+next_none None = refl
+next_none (Some left) = (left, refl, refl)
+
+some_is : (x y : List ℕ) → Some x ≡ Some y → x ≡ y
+some_is x y e = cc
+
+pub next_more : (a b : List ℕ) (x y z : Option (List ℕ)) → AreNext a x y → AreNext b y z → AreNext (a ++ b) x z
+next_more a b None y z p q = subst (λ (w : Option (List ℕ)). AreNext b w z) p q
+next_more a b (Some left) y z p q =
+    let r : AreNext b (Some p.0) z = subst (λ (w : Option (List ℕ)). AreNext b w z) p.2 q in
+    (r.0, p.1 ∙ ap (λ (t : List ℕ). a ++ t) r.1 ∙ sym (append_assoc a b r.0), r.2)
+
+-- what was taken before, and a buffer's front behind it
+pub took_more : (bytes chunk : List ℕ) (n t t' t'' : ℕ) (x y z : Option (List ℕ)) → t' ≡ t + length bytes → AreNext bytes x y → n ≤ length chunk → AreNext (take n chunk) y z → t'' ≡ t' + n → TookNext t t'' x z
+took_more bytes chunk n t t' t'' x y z before p fits q after =
+    (bytes ++ take n chunk, omega (arith, length-append bytes (take n chunk), length-take-le n chunk fits, before, after), next_more bytes (take n chunk) x y z p q)
+
+pub all_at_end : (bytes : List ℕ) (x y z : Option (List ℕ)) → AreNext bytes x y → IsAtEnd y → z ≡ y → AreAll bytes x z
+all_at_end bytes None y z p at e = e ∙ p
+all_at_end bytes (Some left) y z p at e =
+    let none : p.0 ≡ [] = subst (λ (w : Option (List ℕ)). IsAtEnd w) p.2 at in
+    (p.1 ∙ ap (λ (t : List ℕ). bytes ++ t) none ∙ append-nil bytes, e ∙ p.2 ∙ ap (λ (t : List ℕ). Some t) none)
+
+pub given_none : (given : Option (List ℕ)) → Appended [] given given
+given_none None = refl
+given_none (Some given) = ap (λ (t : List ℕ). Some t) (sym (append-nil given))
+
+pub given_more : (a b : List ℕ) (x y z : Option (List ℕ)) → Appended a x y → Appended b y z → Appended (a ++ b) x z
+given_more a b None y z p q = subst (λ (w : Option (List ℕ)). Appended b w z) p q
+given_more a b (Some given) y z p q = subst (λ (w : Option (List ℕ)). Appended b w z) p q ∙ ap (λ (t : List ℕ). Some t) (append_assoc given a b)
+
+-- a front of the second part, behind the first
+pub front_behind : (a b : List ℕ) (x y z : Option (List ℕ)) → Appended a x y → GaveFront b y z → GaveFront (a ++ b) x z
+front_behind a b x y z p q =
+    (a ++ q.0, q.1, ap (λ (t : List ℕ). a ++ t) q.2 ∙ sym (append_assoc a q.0 q.1), q.3, given_more a q.0 x y z p q.4)
+
+-- a front of the first part is a front of both
+pub front_of_first : (a b : List ℕ) (x y : Option (List ℕ)) → GaveFront a x y → GaveFront (a ++ b) x y
+front_of_first a b x y q = (q.0, q.1 ++ b, ap (λ (t : List ℕ). t ++ b) q.2 ∙ append_assoc q.0 q.1 b, omega (arith, length-append q.1 b, q.3), q.4)
+
+-- what is left of a piece when more of it was given
+pub goes_on : (piece front rest : List ℕ) (n : ℕ) → piece ≡ front ++ rest → piece ≡ (front ++ take n rest) ++ take (length rest - n) (drop n rest)
+goes_on piece front rest n e =
+    let all : take (length rest - n) (drop n rest) ≡ drop n rest = take_all (length rest - n) (drop n rest) (omega (arith, length-drop n rest)) in
+    e ∙ ap (λ (t : List ℕ). front ++ t) (sym (take-append-drop n rest)) ∙ sym (append_assoc front (take n rest) (drop n rest)) ∙ ap (λ (t : List ℕ). (front ++ take n rest) ++ t) (sym all)

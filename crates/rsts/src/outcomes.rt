@@ -1,0 +1,86 @@
+//! How a call of the program ends.
+
+ghost use Rattle.std.specs.Prelude.{◌≡◌, ◌≤◌, length};
+ghost use Rattle.rsts.specs.Statuses.{status_of, line_of, fault_line};
+
+use crate::decks::{DeckCause, DeckFault};
+use arrayvec::ArrayVec;
+use itoa::Buffer;
+use monitor_calls::RunRecord;
+
+/// How a call of the program ends.
+#[derive(Debug, Drop)]
+pub enum Outcome {
+    /// The deck was run and its report was written.
+    Ok(RunRecord),
+    /// The deck is good, and a line that says so was written.
+    Checked,
+    /// The words ask for nothing that the program does.
+    Usage,
+    /// The input is no deck that can be run.
+    Deck(DeckFault),
+    /// The source failed.
+    ReadFault,
+    /// The input has more than 8,388,608 bytes.
+    TooLong,
+    /// The sink failed, behind a proper front of the output.
+    WriteFault,
+    NoMemory,
+}
+
+impl Outcome {
+    /// The status with which the program ends.
+    pub fn status(&self) -> u8
+        ensures { result ≡ status_of self.now }
+    {
+        match self {
+            Outcome::Ok(_) | Outcome::Checked => 0,
+            Outcome::Usage => 1,
+            Outcome::Deck(_) => 2,
+            Outcome::ReadFault => 3,
+            Outcome::TooLong => 4,
+            Outcome::WriteFault => 5,
+            Outcome::NoMemory => 6,
+        }
+    }
+
+    /// What the program says on standard error, without its LF: nothing where the status is 0.
+    pub fn line(&self) -> ArrayVec<u8, 64>
+        ensures { result.items ≡ line_of self.now }
+    {
+        match self {
+            Outcome::Ok(_) | Outcome::Checked => words(b""),
+            Outcome::Usage => words(b"usage: rsts run [--history] | check | drill N"),
+            Outcome::Deck(fault) => fault_line(*fault),
+            Outcome::ReadFault => words(b"read fault"),
+            Outcome::TooLong => words(b"input too long"),
+            Outcome::WriteFault => words(b"write fault"),
+            Outcome::NoMemory => words(b"no memory"),
+        }
+    }
+}
+
+fn words(text: &[u8]) -> ArrayVec<u8, 64>
+    requires { length text.now ≤ 64 }
+    ensures { result.items ≡ text.now }
+{
+    let mut line = ArrayVec::new();
+    line.try_extend_from_slice(text).unwrap();
+    line
+}
+
+/// `deck line`, the line's number, and the cause.
+fn fault_line(fault: DeckFault) -> ArrayVec<u8, 64>
+    ensures { result.items ≡ fault_line fault }
+{
+    let mut buffer = Buffer::new();
+    let cause = match fault.cause {
+        DeckCause::Stage => b"not a deck of this stage".as_slice(),
+    };
+    let mut line = words(b"deck line ");
+    line.try_extend_from_slice(buffer.format(fault.line).as_bytes())
+        .unwrap();
+    line.try_extend_from_slice(b": ").unwrap();
+    line.try_extend_from_slice(cause).unwrap();
+    line
+}

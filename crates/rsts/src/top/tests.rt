@@ -1,0 +1,180 @@
+ghost use Rattle.std.specs.Prelude.{◌≡◌, ◌≤◌, ◌⊎◌, length, IfOk};
+ghost use Rattle.deck_model.specs.Deck.{Deck};
+ghost use Rattle.deck_model.specs.Spelling.{Spelled};
+ghost use Rattle.rsts.specs.Headline.{HasRan};
+
+use super::*;
+use rsts_io::{IdlePacer, MemorySink, MemorySource, PlainSink, PlainSource};
+use std::test::Fail;
+
+const HEAD: &[u8] = b"RSTS-DECK 1\nDISK 8\nACCOUNT 100,5 DEMO 100\nTERMINAL T1\n";
+
+const FIRST_SUM: &[u8] =
+    b"RSTS-DECK 1\nDISK 8\nACCOUNT 100,5 DEMO 100\nTERMINAL T1\n>HELLO 100,5;DEMO\n>PRINT 2%+3%\n>BYE\nEND\n";
+
+const SUM_REPORT: &[u8] =
+    b"TERMINAL T1 60\nHELLO 100,5;DEMO\r\nReady\r\nPRINT 2%+3%\r\n 5 \r\nReady\r\nBYE\r\nBye\r\n\n";
+
+/// What a call of the program left: its status, its line, and what it wrote.
+#[derive(Drop)]
+struct Ended {
+    status: u8,
+    line: String,
+    written: Vec<u8>,
+}
+
+/// Calls the program with a word and an input, over ends that fail at the listed calls.
+fn call(
+    alloc: Global,
+    word: &str,
+    input: &[u8],
+    failing_takes: &[u64],
+    failing_gifts: &[u64],
+) -> Result<Ended, Fail> {
+    let mut words = Vec::new(alloc);
+    words.push(String::from_str(alloc, word)?)?;
+    let mut source = MemorySource::new(alloc, input, failing_takes)?;
+    let mut sink = MemorySink::new(alloc, failing_gifts)?;
+    let outcome = rsts_main(alloc, &words, &mut source, &mut sink, &IdlePacer);
+    Ok(Ended {
+        status: outcome.status(),
+        line: String::from_utf8(outcome.line().as_slice().to_vec(alloc)?)?,
+        written: sink.bytes().to_vec(alloc)?,
+    })
+}
+
+/// The front of a deck, and so many key bytes in a line.
+fn deck_with_keys(alloc: Global, count: usize) -> Result<Vec<u8>, Fail> {
+    let mut deck = HEAD.to_vec(alloc)?;
+    deck.push(b'>')?;
+    deck.resize(deck.len().saturating_add(count), b'A')?;
+    deck.extend_from_slice(b"\nEND\n")?;
+    Ok(deck)
+}
+
+#[test]
+fn a_program_that_always_wants_memory_fails_these_rows(rt: HostRuntime) -> Result<(), Fail> {
+    let mut no_keys = HEAD.to_vec(rt.alloc())?;
+    no_keys.extend_from_slice(b"END\n")?;
+    let rows: [(&str, &[u8], &[u8]); 4] = [
+        ("run", FIRST_SUM, SUM_REPORT),
+        ("run", no_keys.as_slice(), b"TERMINAL T1 0\n\n"),
+        ("check", FIRST_SUM, b"GOOD 1 0 1\n"),
+        ("check", no_keys.as_slice(), b"GOOD 1 0 1\n"),
+    ];
+    for (word, input, want) in rows {
+        let ended = call(rt.alloc(), word, input, &[], &[])?;
+        assert_eq!(rt; ended.written.as_slice(), want);
+        assert_eq!(rt; ended.line.as_str(), "");
+        assert_eq!(rt; ended.status, 0);
+    }
+    Ok(())
+}
+
+#[test]
+fn other_words_are_told_the_usage(rt: HostRuntime) -> Result<(), Fail> {
+    for word in ["", "RUN", "runs", "check ", "drill"] {
+        let ended = call(rt.alloc(), word, FIRST_SUM, &[1], &[1])?;
+        assert_eq!(rt; ended.status, 1);
+        assert_eq!(rt;
+            ended.line.as_str(),
+            "usage: rsts run [--history] | check | drill N"
+        );
+        assert_eq!(rt; ended.written.len(), 0);
+    }
+    let mut words = Vec::new(rt.alloc());
+    let mut source = MemorySource::new(rt.alloc(), FIRST_SUM, &[])?;
+    let mut sink = MemorySink::new(rt.alloc(), &[])?;
+    for _ in 0..3 {
+        let outcome = rsts_main(rt.alloc(), &words, &mut source, &mut sink, &IdlePacer);
+        assert_eq!(rt; outcome.status(), if words.len() == 1 { 0 } else { 1 });
+        words.push(String::from_str(rt.alloc(), "run")?)?;
+    }
+    Ok(())
+}
+
+#[test]
+fn bad_input_is_refused_and_nothing_is_written(rt: HostRuntime) -> Result<(), Fail> {
+    let long_keys = deck_with_keys(rt.alloc(), 256)?;
+    let too_long = deck_with_keys(rt.alloc(), 8_388_609 - HEAD.len() - 6)?;
+    let no_deck = "deck line 0: not a deck of this stage";
+    let rows: [(&[u8], &[u64], u8, &str); 7] = [
+        (b"", &[], 2, no_deck),
+        (
+            b"RSTS-DECK 2\nDISK 8\nACCOUNT 100,5 DEMO 100\nTERMINAL T1\nEND\n",
+            &[],
+            2,
+            no_deck,
+        ),
+        (
+            b"RSTS-DECK 1\nDISK 8\nACCOUNT 100,5 DEMO 100\nTERMINAL T1\nTERMINAL T2\nEND\n",
+            &[],
+            2,
+            no_deck,
+        ),
+        (long_keys.as_slice(), &[], 2, no_deck),
+        (too_long.as_slice(), &[], 4, "input too long"),
+        (FIRST_SUM, &[1], 3, "read fault"),
+        (FIRST_SUM, &[2], 3, "read fault"),
+    ];
+    for word in ["run", "check"] {
+        for (input, failing, status, line) in rows {
+            let ended = call(rt.alloc(), word, input, failing, &[])?;
+            assert_eq!(rt; ended.line.as_str(), line);
+            assert_eq!(rt; ended.status, status);
+            assert_eq!(rt; ended.written.len(), 0);
+        }
+    }
+    Ok(())
+}
+
+#[test]
+fn a_deck_that_is_cut_at_any_byte_is_refused(rt: HostRuntime) -> Result<(), Fail> {
+    for end in 0..FIRST_SUM.len() {
+        let ended = call(rt.alloc(), "run", &FIRST_SUM[..end], &[], &[])?;
+        assert_eq!(rt; ended.status, 2, "cut at {end}");
+        assert_eq!(rt; ended.written.len(), 0);
+    }
+    Ok(())
+}
+
+#[test]
+fn a_failing_sink_leaves_a_proper_front(rt: HostRuntime) -> Result<(), Fail> {
+    let rows: [(&str, &[u64], u8, &[u8]); 5] = [
+        ("run", &[1], 5, b""),
+        ("run", &[2], 5, b"TERMINAL T1 60\n"),
+        ("run", &[3], 0, SUM_REPORT),
+        ("check", &[1], 5, b""),
+        ("check", &[2], 0, b"GOOD 1 0 1\n"),
+    ];
+    for (word, failing, status, want) in rows {
+        let ended = call(rt.alloc(), word, FIRST_SUM, &[], failing)?;
+        assert_eq!(rt; ended.status, status);
+        assert_eq!(rt;
+            ended.line.as_str(),
+            if status == 5 { "write fault" } else { "" }
+        );
+        assert_eq!(rt; ended.written.as_slice(), want);
+    }
+    Ok(())
+}
+
+/// Runs an input between ends in memory, and tells how that ended.
+fn run_between_plain_ends(alloc: Global, input: &[u8]) -> Result<(Outcome, PlainSink), Fail>
+    ensures completes { IfOk result (λ ended. (deck : Deck) → length input.now ≤ 8388608 → Spelled input.now deck → ended.1.faults ≡ 0 → HasRan ended.0 ⊎ (ended.0 ≡ Outcome.NoMemory)) }
+{
+    let mut words = Vec::new(alloc);
+    words.push(String::from_str(alloc, "run")?)?;
+    let mut source = PlainSource::new(alloc, input)?;
+    let mut sink = PlainSink::new(alloc)?;
+    let outcome = rsts_main(alloc, words.as_slice(), &mut source, &mut sink, &IdlePacer);
+    Ok((outcome, sink))
+}
+
+#[test]
+fn a_good_deck_between_ends_that_never_fail_is_run(rt: HostRuntime) -> Result<(), Fail> {
+    let (outcome, sink) = run_between_plain_ends(rt.alloc(), FIRST_SUM)?;
+    assert_eq!(rt; outcome.status(), 0);
+    assert_eq!(rt; sink.bytes(), SUM_REPORT);
+    Ok(())
+}
