@@ -10,3 +10,6 @@ mod words;
 
 pub use screen::Screen;
 pub use session::serve;
+
+#[cfg(test)]
+mod tests;

@@ -1,6 +1,6 @@
 -- A field that is read is the field that was written, and what was written is read again.
-use Rattle.std.proofs.Common.{◌≡◌, ℕ, zero, suc, ◌+◌, ◌-◌, ◌^◌, ◌<◌, ◌≤◌, Bool, true, false, cond, eqb, ltb, List, [], ◌∷◌, ◌++◌, length, get_or, take, drop, Option, Some, None, refl, sym, ap, subst, ◌∙◌, arith, eq-eqb}
-use Rattle.std.specs.Prelude.{not, ◌&&◌, ◌||◌, nat_le, nat_lt, bytes_eq, ⊤}
+use Rattle.std.proofs.Common.{◌≡◌, ℕ, ◌^◌, ◌<◌, ◌≤◌, Bool, true, false, cond, eqb, List, [], ◌∷◌, ◌++◌, length, get_or, take, drop, Option, Some, None, refl, sym, ap, subst, ◌∙◌, arith, eq-eqb}
+use Rattle.std.specs.Prelude.{◌&&◌, ◌||◌, nat_le, nat_lt, bytes_eq, ⊤}
 use Rattle.std.specs.List.{position_or_len, before_first, after_first, list_all}
 use Rattle.std.specs.Fmt.{decimal}
 use Rattle.std.specs.Str.Parse.{digits_value, AllDigits}
@@ -120,7 +120,6 @@ password_is_short text good =
     let most = and_right (nat_le 1 (length text)) (nat_le (length text) 6) sizes in
     and_both (nat_le 0 (length text) && nat_le (length text) 6) (list_all is_ascii_alphanumeric text) (and_both (nat_le 0 (length text)) (nat_le (length text) 6) (le-leb 0 (length text) (omega arith)) most)
     (alphanumerics text (and_right (nat_le 1 (length text) && nat_le (length text) 6) (list_all is_capital_or_digit text) good))
-
 
 pub number_at_most : (low high : ℕ) (text : List ℕ) (n : ℕ) → number_between low high text ≡ Some n → n ≤ high
 number_at_most low high text n e =

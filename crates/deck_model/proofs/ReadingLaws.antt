@@ -1,7 +1,7 @@
 -- The two laws: what is read is spelled so, and what is spelled so is read.
-use Rattle.std.proofs.Common.{◌≡◌, ℕ, ◌+◌, ◌^◌, ◌<◌, ◌≤◌, Bool, true, false, cond, eqb, List, [], ◌∷◌, ◌++◌, length, take, drop, Option, Some, None, refl, sym, ap, subst, ◌∙◌, append_assoc, arith, ◌⊎◌, inl, inr, ⊎_elim, ◌-◌, get_or, eq-eqb}
+use Rattle.std.proofs.Common.{◌≡◌, ℕ, ◌≤◌, Bool, true, false, cond, eqb, List, [], ◌∷◌, ◌++◌, length, Option, Some, None, refl, sym, ap, subst, ◌∙◌, append_assoc, arith, ◌⊎◌, inl, inr, ⊎_elim, ◌-◌, get_or, eq-eqb}
 use Rattle.std.specs.Prelude.{◌&&◌, nat_le, bytes_eq, codes, map}
-use Rattle.std.specs.List.{flat_map, list_all, AllByRecursion}
+use Rattle.std.specs.List.{list_all, AllByRecursion}
 use Rattle.std.specs.Fmt.{decimal}
 use Rattle.std.specs.Str.Lines.{lines}
 use Rattle.std.specs.Cmp.Lexicographic.{bytes_decides}
@@ -12,9 +12,9 @@ use Rattle.monitor_calls.specs.declared.volumes.AccountEntry.{AccountEntry}
 use Rattle.monitor_calls.specs.Names.{is_short_text, is_password, is_terminal_name, is_capital_or_digit}
 use Rattle.monitor_calls.specs.Volumes.{is_good_entry, is_good_volume, is_between, are_apart}
 use Rattle.deck_model.specs.Deck.{Deck, Terminal, IsDeck, IsTerminal, IsKeyLine}
-use Rattle.deck_model.specs.Spelling.{account_line, disk_line, key_line, terminal_lines, deck_lines, Spelled}
-use Rattle.deck_model.specs.Reading.{◌>>=◌, behind, cut, Fields, fields_in, entry_in, blocks_in, name_in, keys_in, all_keys_in, first_line, Head, head_in, volume_in, deck_in, deck_at}
-use Rattle.deck_model.proofs.FieldLaws.{bind_some, guard_some, and_left, and_right, and_both, same_bytes, behind_takes, behind_again, Lacks, cut_takes, cut_again, number_takes, number_again, decimal_lacks, capitals_lack, password_is_short}
+use Rattle.deck_model.specs.Spelling.{account_line, disk_line, key_line, deck_lines, Spelled}
+use Rattle.deck_model.specs.Reading.{◌>>=◌, behind, cut, Fields, fields_in, entry_in, blocks_in, name_in, keys_in, all_keys_in, Head, head_in, volume_in, deck_in, deck_at}
+use Rattle.deck_model.proofs.FieldLaws.{bind_some, guard_some, and_left, and_right, behind_takes, behind_again, Lacks, cut_takes, cut_again, number_takes, number_again, decimal_lacks, capitals_lack, password_is_short}
 
 some : {A : Type 0} → A → Option A
 some x = Some x
@@ -150,15 +150,15 @@ all_keys_take [] ks e = absurd cc
 all_keys_take (line ∷ lines) ks e =
     ⊎_elim
     (λ h.
-      let same : line ≡ end_line = (bytes_decides line end_line).0 h.0 in
-      let last : lines ≡ [] = nil_from_length lines (eqb-true _ _ h.1) in
-      subst (λ (x : List (List ℕ)). IsTail (line ∷ lines) x) (sym h.2) ((λ i. same i ∷ last i), tt))
+    let same : line ≡ end_line = (bytes_decides line end_line).0 h.0 in
+    let last : lines ≡ [] = nil_from_length lines (eqb-true _ _ h.1) in
+    subst (λ (x : List (List ℕ)). IsTail (line ∷ lines) x) (sym h.2) ((λ i. same i ∷ last i), tt))
     (λ h.
-      let a = bind_some (keys_in line) (λ keys. all_keys_in lines >>= λ others. Some (keys ∷ others)) ks h in
-      let b = bind_some (all_keys_in lines) (λ others. Some (a.0 ∷ others)) ks a.2 in
-      let first = keys_take line a.0 a.1 in
-      let others = all_keys_take lines b.0 b.1 in
-      subst (λ (x : List (List ℕ)). IsTail (line ∷ lines) x) (some_is (a.0 ∷ b.0) ks b.2) ((λ i. first.0 i ∷ others.0 i), (first.1, others.1)))
+    let a = bind_some (keys_in line) (λ keys. all_keys_in lines >>= λ others. Some (keys ∷ others)) ks h in
+    let b = bind_some (all_keys_in lines) (λ others. Some (a.0 ∷ others)) ks a.2 in
+    let first = keys_take line a.0 a.1 in
+    let others = all_keys_take lines b.0 b.1 in
+    subst (λ (x : List (List ℕ)). IsTail (line ∷ lines) x) (some_is (a.0 ∷ b.0) ks b.2) ((λ i. first.0 i ∷ others.0 i), (first.1, others.1)))
     (end_or_key (bytes_eq line end_line) (eqb (length lines) 0) (keys_in line >>= λ keys. all_keys_in lines >>= λ others. Some (keys ∷ others)) ks e)
 
 all_keys_again : (ks : List (List ℕ)) → AllByRecursion IsKeyLine ks → all_keys_in (map key_line ks ++ end_line ∷ []) ≡ Some ks

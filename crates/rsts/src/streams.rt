@@ -1,9 +1,10 @@
 //! Reading a source to its end, and giving bytes to a sink.
 
-ghost use Rattle.std.specs.Prelude.{◌≡◌, ◌+◌, ◌<◌, ◌≤◌, ◌↔◌, length, vec_len, Err, IfOk, OnOk, OnErr};
+ghost use Rattle.std.specs.Prelude.{◌≡◌, ◌+◌, ◌<◌, ◌≤◌, ◌↔◌, ◌==◌, length, position, vec_len, Err, MatchOption, IfOk, OnOk, OnErr};
 ghost use Rattle.rsts_io.specs.Ends.{Rose, Takes, Appended};
 ghost use Rattle.rsts.specs.Streams.{AreAll, TookNext, GaveFront};
 
+use crate::lines::place_of;
 use rsts_io::{Gave, Sink, Source, Took};
 use std::alloc::{AllocError, Global};
 
@@ -106,9 +107,10 @@ pub fn give_all<K: Sink>(sink: &mut K, bytes: &[u8]) -> Result<(), SinkFault>
 
 /// How many bytes the first line has, with its LF.
 fn line_length(bytes: &[u8]) -> usize
-    ensures { result ≤ length bytes.now }
+    ensures line { MatchOption (position (λ b. b == 10) bytes.now) (result ≡ length bytes.now) (λ at. result ≡ at + 1) }
+    ensures within { result ≤ length bytes.now }
 {
-    match bytes.iter().position(|byte| *byte == b'\n') {
+    match place_of(b'\n', bytes) {
         Some(at) => at + 1,
         None => bytes.len(),
     }

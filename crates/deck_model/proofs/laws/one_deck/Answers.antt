@@ -1,6 +1,5 @@
-use Rattle.std.proofs.Common.{◌≡◌, List, ℕ, Some, sym, ap, ◌∙◌}
+use Rattle.std.proofs.Common.{◌≡◌, Some, sym, ap, ◌∙◌}
 use Rattle.deck_model.specs.Deck.{Deck}
-use Rattle.deck_model.specs.Spelling.{deck_lines}
 use Rattle.deck_model.specs.Reading.{deck_in}
 use Rattle.deck_model.proofs.ReadingLaws.{deck_again}
 use Rattle.deck_model.proofs.laws.one_deck.Goals as goal
