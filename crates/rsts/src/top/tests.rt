@@ -4,7 +4,9 @@ ghost use Rattle.deck_model.specs.Spelling.{Spelled};
 ghost use Rattle.rsts.specs.Headline.{HasRan};
 
 use super::*;
-use rsts_io::{IdlePacer, MemorySink, MemorySource, PlainSink, PlainSource};
+use rsts_io::{IdlePacer, MemorySink, MemorySource, PlainSink, PlainSource, StdSink, StdSource};
+use std::io;
+use std::io::{Read, Write};
 use std::test::Fail;
 
 const HEAD: &[u8] = b"RSTS-DECK 1\nDISK 8\nACCOUNT 100,5 DEMO 100\nTERMINAL T1\n";
@@ -176,5 +178,61 @@ fn a_good_deck_between_ends_that_never_fail_is_run(rt: HostRuntime) -> Result<()
     let (outcome, sink) = run_between_plain_ends(rt.alloc(), FIRST_SUM)?;
     assert_eq!(rt; outcome.status(), 0);
     assert_eq!(rt; sink.bytes(), SUM_REPORT);
+    Ok(())
+}
+
+/// A reader that gives one byte a call.
+#[derive(Drop)]
+struct DribblingReader {
+    text: &'static [u8],
+}
+
+impl Read for DribblingReader {
+    fn read(&mut self, buf: &mut [u8]) -> io::Result<usize> {
+        if self.text.is_empty() || buf.is_empty() {
+            return Ok(0);
+        }
+        buf[0] = self.text[0];
+        self.text = &self.text[1..];
+        Ok(1)
+    }
+}
+
+/// A writer that takes one byte a call.
+#[derive(Drop)]
+struct DribblingWriter<'a> {
+    kept: &'a mut Vec<u8>,
+}
+
+impl Write for DribblingWriter<'_> {
+    fn write(&mut self, buf: &[u8]) -> io::Result<usize> {
+        let most = buf.len().min(1);
+        self.kept.extend_from_slice(&buf[..most])?;
+        Ok(most)
+    }
+
+    fn flush(&mut self) -> io::Result<()> {
+        Ok(())
+    }
+}
+
+#[test]
+fn ends_that_move_one_byte_at_a_time_change_nothing(rt: HostRuntime) -> Result<(), Fail> {
+    let mut words = Vec::new(rt.alloc());
+    words.push(String::from_str(rt.alloc(), "run")?)?;
+    let mut kept = Vec::new(rt.alloc());
+    {
+        let mut source = StdSource::new(DribblingReader { text: FIRST_SUM });
+        let mut sink = StdSink::new(DribblingWriter { kept: &mut kept });
+        let outcome = rsts_main(
+            rt.alloc(),
+            words.as_slice(),
+            &mut source,
+            &mut sink,
+            &IdlePacer,
+        );
+        assert_eq!(rt; outcome.status(), 0);
+    }
+    assert_eq!(rt; kept.as_slice(), SUM_REPORT);
     Ok(())
 }
