@@ -1,0 +1,3 @@
+mod DigitLemmas
+mod ItemLemmas
+mod WordLemmas

@@ -1,0 +1,10 @@
+-- The tokens of the code, without where their bytes lie in memory.
+use Rattle.std.specs.Prelude.{List, map}
+use Rattle.basic_tree.specs.Tokens.{Lexeme}
+use Rattle.basic_scanner.specs.declared.scanner.Token.{Token}
+
+abbrev pub lexeme_of : Token → Lexeme
+lexeme_of token = record { kind = token.kind; start = token.start; bytes = token.bytes.now }
+
+abbrev pub lexemes : List Token → List Lexeme
+lexemes tokens = map lexeme_of tokens

@@ -1,0 +1,212 @@
+//! What stands at the front of the rest of a line.
+
+ghost use Rattle.std.specs.Prelude.{◌≡◌, ◌≤◌, ◌<◌, ◌==◌, IfSome, position, min, take, length, slice_index};
+ghost use Rattle.std.specs.Char.{is_ascii_digit};
+ghost use Rattle.std.specs.List.{prefix_len};
+ghost use Rattle.std.specs.Str.Parse.{AllDigits, digits_value};
+ghost use Rattle.basic_tree.specs.Tokens.{is_blank, is_quote, is_type_mark, keyword_front, name_end, name_front, begins_function, letter_front, is_exponent, is_floating, digit_front, quote_front, sign_front, front_of};
+
+use crate::words::{is_word, keyword_length, sign_length, stands};
+use basic_tree::{Cause, Front, TokenKind};
+
+/// The least number that is too wide for a literal.
+const TOO_WIDE: u32 = 32768;
+
+/// The byte at a place, 0 past the end.
+fn byte_at(rest: &[u8], place: usize) -> u8
+    ensures { result ≡ slice_index rest.now place }
+{
+    rest.get(place).copied().unwrap_or(0)
+}
+
+fn is_blank(byte: u8) -> bool
+    ensures { result ≡ is_blank byte }
+{
+    byte == b' ' || byte == b'\t'
+}
+
+pub fn is_quote(byte: u8) -> bool
+    ensures { result ≡ is_quote byte }
+{
+    byte == b'"' || byte == b'\''
+}
+
+fn is_type_mark(byte: u8) -> bool
+    ensures { result ≡ is_type_mark byte }
+{
+    byte == b'%' || byte == b'$'
+}
+
+/// REM begins a comment, DATA its items, and every other keyword is a token.
+fn keyword_front(word: &[u8]) -> Front
+    ensures { result ≡ keyword_front word.now }
+{
+    if is_word(b"REM", word) {
+        Front::Comment
+    } else if is_word(b"DATA", word) {
+        Front::Data
+    } else {
+        Front::Token(TokenKind::Keyword, word.len())
+    }
+}
+
+/// The end of a name whose letter stands at this place.
+fn name_end(letter: usize, rest: &[u8]) -> usize
+    requires { letter < 3 }
+    ensures value { result ≡ name_end letter rest.now }
+    ensures small { result < 6 }
+{
+    if byte_at(rest, letter + 1).is_ascii_digit() {
+        letter + 2
+    } else {
+        letter + 1
+    }
+}
+
+/// A name that ends there is followed at once by `%` or `$`.
+fn name_front(kind: TokenKind, end: usize, rest: &[u8]) -> Front
+    requires { end < 6 }
+    ensures { result ≡ name_front kind end rest.now }
+{
+    if is_type_mark(byte_at(rest, end)) {
+        Front::Token(kind, end + 1)
+    } else {
+        Front::Refused(Cause::FloatingName)
+    }
+}
+
+/// FN and a letter.
+fn begins_function(rest: &[u8]) -> bool
+    ensures { result ≡ begins_function rest.now }
+{
+    stands(b"FN", rest) && byte_at(rest, 2).is_ascii_alphabetic()
+}
+
+/// The longest keyword, else a name.
+#[tactic(auto, unfolding(basic_tree::specs::Tokens::letter_front))]
+fn letter_front(rest: &[u8]) -> Front
+    ensures { result ≡ letter_front rest.now }
+{
+    let len = keyword_length(rest);
+    if len > 0 {
+        keyword_front(&rest[..len])
+    } else if begins_function(rest) {
+        name_front(TokenKind::FnName, name_end(2, rest), rest)
+    } else {
+        name_front(TokenKind::Variable, name_end(0, rest), rest)
+    }
+}
+
+/// A digit, or a sign and a digit, behind an E.
+fn is_exponent(behind: &[u8]) -> bool
+    ensures { result ≡ is_exponent behind.now }
+{
+    let sign = byte_at(behind, 1);
+    sign.is_ascii_digit() || ((sign == b'+' || sign == b'-') && byte_at(behind, 2).is_ascii_digit())
+}
+
+/// What stands behind the digits makes a floating number of them.
+fn is_floating(behind: &[u8]) -> bool
+    ensures { result ≡ is_floating behind.now }
+{
+    let next = byte_at(behind, 0);
+    next == b'.' || (next.to_ascii_uppercase() == b'E' && is_exponent(behind))
+}
+
+/// The length of the run of digits at the front.
+fn digits_length(rest: &[u8]) -> usize
+    ensures value { result ≡ prefix_len is_ascii_digit rest.now }
+    ensures within { result ≤ length rest.now }
+    ensures digits { AllDigits 10 (take result rest.now) }
+{
+    for (len, byte) in rest.iter().enumerate() {
+        if !byte.is_ascii_digit() {
+            return len;
+        }
+    }
+    rest.len()
+}
+
+/// The value of the digits, where it is too wide the least such value.
+fn capped_value(digits: &[u8]) -> u32
+    requires { AllDigits 10 digits.now }
+    ensures { result ≡ min (digits_value 10 digits.now) TOO_WIDE }
+{
+    let mut value: u32 = 0;
+    for digit in digits {
+        value = (value * 10 + u32::from(*digit - b'0')).min(TOO_WIDE);
+    }
+    value
+}
+
+/// The run of digits, and `%` where it stands behind them.
+#[tactic(auto, unfolding(basic_tree::specs::Tokens::digit_front))]
+fn digit_front(rest: &[u8]) -> Front
+    ensures { result ≡ digit_front rest.now }
+{
+    let len = digits_length(rest);
+    if is_floating(&rest[len..]) {
+        Front::Refused(Cause::FloatingLiteral)
+    } else if capped_value(&rest[..len]) == TOO_WIDE {
+        Front::Refused(Cause::NumberTooWide)
+    } else if byte_at(rest, len) == b'%' {
+        Front::Token(TokenKind::Literal, len + 1)
+    } else {
+        Front::Token(TokenKind::Literal, len)
+    }
+}
+
+/// The place of the quote in the bytes behind the opening one.
+fn closing_place(quote: u8, behind: &[u8]) -> Option<usize>
+    ensures value { result ≡ position (λ b. b == quote) behind.now }
+    ensures within { IfSome result (λ place. place < length behind.now) }
+{
+    behind.iter().position(|byte| *byte == quote)
+}
+
+/// All up to the next quote of its kind.
+#[tactic(auto, unfolding(basic_tree::specs::Tokens::quote_front))]
+fn quote_front(rest: &[u8]) -> Front
+    requires { 0 < length rest.now }
+    ensures { result ≡ quote_front rest.now }
+{
+    match closing_place(rest[0], &rest[1..]) {
+        Some(inside) => Front::Token(TokenKind::Quoted, inside + 2),
+        None => Front::Refused(Cause::OpenString),
+    }
+}
+
+/// The longest sign.
+#[tactic(auto, unfolding(basic_tree::specs::Tokens::sign_front))]
+fn sign_front(rest: &[u8]) -> Front
+    ensures { result ≡ sign_front rest.now }
+{
+    let len = sign_length(rest);
+    if len > 0 {
+        Front::Token(TokenKind::Sign, len)
+    } else {
+        Front::Refused(Cause::StrayByte)
+    }
+}
+
+/// What stands there, by the first byte.
+#[tactic(auto, unfolding(basic_tree::specs::Tokens::front_of))]
+pub fn front_of(rest: &[u8]) -> Front
+    requires { 0 < length rest.now }
+    ensures { result ≡ front_of rest.now }
+{
+    let first = rest[0];
+    if is_blank(first) {
+        Front::Blank
+    } else if first.is_ascii_alphabetic() {
+        letter_front(rest)
+    } else if first.is_ascii_digit() {
+        digit_front(rest)
+    } else if is_quote(first) {
+        quote_front(rest)
+    } else if first == b'!' {
+        Front::Comment
+    } else {
+        sign_front(rest)
+    }
+}

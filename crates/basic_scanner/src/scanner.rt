@@ -1,0 +1,186 @@
+//! The tokens of a line.
+
+ghost use Rattle.std.specs.Prelude.{◌≡◌, ◌≤◌, ◌<◌, ◌+◌, ◌^◌, ◌++◌, ◌∷◌, [], take, drop, length, vec_len, slice_get, None, Some, OnOk, IfOk, IfErr};
+ghost use Rattle.basic_tree.specs.Tokens.{quote_after, cuts, items_from, tokens_of, front_of};
+ghost use Rattle.basic_tree.specs.TokenLaws.{Fits, AreCut};
+ghost use Rattle.basic_scanner.specs.Lexemes.{lexeme_of, lexemes};
+ghost use Rattle.basic_scanner.specs.Scan.{Scans, item_and_more};
+
+use crate::front::{front_of, is_quote};
+use basic_tree::{Front, Refusal, TokenKind};
+use basic_values::{NoMemory, Trouble};
+use std::alloc::Global;
+use std::marker::Model;
+
+/// A token: its sort, the place of its first byte in the line, and its bytes, a slice of the line.
+#[derive(Clone, Copy, Debug)]
+pub struct Token<'a> {
+    pub kind: TokenKind,
+    pub start: u16,
+    pub bytes: &'a [u8],
+}
+
+/// The tokens of a line.
+#[derive(Debug, Drop)]
+pub struct Tokens<'a> {
+    tokens: Vec<Token<'a>>,
+}
+
+impl<'a> Model for Tokens<'a> {
+    ghost use Rattle.std.specs.Prelude.{List, ◌≤◌, vec_len};
+    ghost use Rattle.basic_tree.specs.Tokens.{Lexeme};
+
+    ghost Value = { List Lexeme };
+
+    ghost use Rattle.basic_scanner.specs.Lexemes.{lexemes};
+
+    ghost view = { λ all. lexemes all.tokens.items };
+
+    ghost invariant = { λ all. vec_len all.tokens ≤ 256 };
+}
+
+impl<'a> Tokens<'a> {
+    /// How many there are.
+    pub fn len(&self) -> u16
+        ensures { result ≡ length self.now }
+    {
+        self.tokens.len() as u16
+    }
+
+    /// The one at a place, from 0.
+    pub fn token(&self, k: u16) -> Token<'a>
+        requires { k < length self.now }
+        ensures { slice_get self.now k ≡ Some (lexeme_of result) }
+    {
+        self.tokens[k as usize]
+    }
+}
+
+/// The quote that is open behind a byte.
+fn quote_after(quote: Option<u8>, byte: u8) -> Option<u8>
+    ensures { result ≡ quote_after quote byte }
+{
+    match quote {
+        None => { if is_quote(byte) { Some(byte) } else { None } }
+        Some(open) => { if byte == open { None } else { Some(open) } }
+    }
+}
+
+/// A comma outside quotes ends an item.
+fn cuts(quote: Option<u8>, byte: u8) -> bool
+    ensures { result ≡ cuts quote byte }
+{
+    match quote {
+        None => byte == b',',
+        Some(_) => false,
+    }
+}
+
+/// The end of the item of DATA that begins at a place.
+#[tactic(auto, using(crate::proofs::ItemLemmas::item_start, crate::proofs::ItemLemmas::item_goes_on, crate::proofs::ItemLemmas::item_cut, crate::proofs::ItemLemmas::item_last))]
+fn item_end(line: &[u8], start: usize) -> usize
+    requires { start ≤ length line.now }
+    ensures within { (start ≤ result) × (result ≤ length line.now) }
+    ensures value { items_from start [] None (drop start line.now) ≡ item_and_more start result line.now }
+{
+    let mut quote = None;
+    for place in start..line.len() {
+        if cuts(quote, line[place]) {
+            return place;
+        }
+        quote = quote_after(quote, line[place]);
+    }
+    line.len()
+}
+
+/// One token more, of so many bytes of the line from its start on.
+fn push<'a>(
+    tokens: &mut Vec<Token<'a>>,
+    kind: TokenKind,
+    line: &'a [u8],
+    start: usize,
+    len: usize,
+) -> Result<(), NoMemory>
+    requires within { start + len ≤ length line.now }
+    requires short { length line.now ≤ 255 }
+    ensures tokens { OnOk result (lexemes tokens.new.items ≡ lexemes tokens.old.items ++ record { kind = kind; start = start; bytes = take len (drop start line.entry.now) } ∷ []) }
+    ensures count { OnOk result (vec_len tokens.new ≡ vec_len tokens.old + 1) }
+{
+    tokens.push(Token {
+        kind,
+        start: start as u16,
+        bytes: &line[start..start + len],
+    })?;
+    Ok(())
+}
+
+/// The items of DATA, from a place to the end of the line.
+fn push_items<'a>(tokens: &mut Vec<Token<'a>>, line: &'a [u8], from: usize) -> Result<(), NoMemory>
+    requires within { from ≤ length line.now }
+    requires short { length line.now ≤ 255 }
+    ensures items { OnOk result (lexemes tokens.new.items ≡ lexemes tokens.old.items ++ items_from from [] None (drop from line.entry.now)) }
+    ensures count { OnOk result (vec_len tokens.new + from ≤ vec_len tokens.old + length line.entry.now + 1) }
+{
+    let mut start = from;
+    loop {
+        let end = item_end(line, start);
+        push(tokens, TokenKind::DataItem, line, start, end - start)?;
+        if end == line.len() {
+            return Ok(());
+        }
+        start = end + 1;
+    }
+}
+
+/// What stands at a place of the line.
+fn front_at(line: &[u8], place: usize) -> Front
+    requires { place < length line.now }
+    ensures value { front_of (drop place line.now) ≡ result }
+    ensures fits { Fits result (drop place line.now) }
+{
+    front_of(&line[place..])
+}
+
+/// The tokens of the line, or the first place that is refused.
+fn read<'a>(alloc: Global, line: &'a [u8]) -> Result<Vec<Token<'a>>, Trouble<Refusal>>
+    requires { length line.now ≤ 255 }
+    ensures found { IfOk result (λ tokens. (tokens_of line.entry.now ≡ Ok (lexemes tokens.items)) × (vec_len tokens ≤ 256)) }
+    ensures refused { IfErr result (λ trouble. Scans line.entry.now (Err trouble)) }
+{
+    let mut tokens = Vec::new(alloc);
+    let mut place = 0;
+    while place < line.len() {
+        match front_at(line, place) {
+            Front::Blank => place += 1,
+            Front::Comment => return Ok(tokens),
+            Front::Data => {
+                push(&mut tokens, TokenKind::Keyword, line, place, 4)?;
+                push_items(&mut tokens, line, place + 4)?;
+                return Ok(tokens);
+            }
+            Front::Token(kind, len) => {
+                push(&mut tokens, kind, line, place, len)?;
+                place += len;
+            }
+            Front::Refused(cause) => {
+                return Err(Trouble::Refused(Refusal {
+                    place: place as u16,
+                    cause,
+                }));
+            }
+        }
+    }
+    Ok(tokens)
+}
+
+/// The tokens of the line, or the first place that is refused and why.
+pub fn scan<'a>(alloc: Global, line: &'a [u8]) -> Result<Tokens<'a>, Trouble<Refusal>>
+    requires { length line.now ≤ 255 }
+    ensures exact { Scans line.entry.now result }
+    ensures slices { IfOk result (λ tokens. AreCut line.entry.now 0 tokens) }
+{
+    match read(alloc, line) {
+        Ok(tokens) => Ok(Tokens { tokens }),
+        Err(trouble) => Err(trouble),
+    }
+}

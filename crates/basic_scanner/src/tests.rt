@@ -1,0 +1,409 @@
+//! Lines and their tokens.
+
+use super::*;
+use basic_tree::{Cause, Keyword, Sign, TokenKind};
+use basic_values::Trouble;
+use std::alloc::Global;
+use std::process::Abort;
+use std::test::Fail;
+
+const K: TokenKind = TokenKind::Keyword;
+
+const F: TokenKind = TokenKind::FnName;
+
+const V: TokenKind = TokenKind::Variable;
+
+const L: TokenKind = TokenKind::Literal;
+
+const Q: TokenKind = TokenKind::Quoted;
+
+const D: TokenKind = TokenKind::DataItem;
+
+const S: TokenKind = TokenKind::Sign;
+
+/// A token that is wanted: its sort, its start and its bytes.
+type Wanted = (TokenKind, u16, &'static [u8]);
+
+static TAKEN: [(&[u8], &[Wanted]); 60] = [
+    (b"", &[]),
+    (b" \x09 ", &[]),
+    (
+        b"FORI%=1TO3",
+        &[
+            (K, 0, b"FOR"),
+            (V, 3, b"I%"),
+            (S, 5, b"="),
+            (L, 6, b"1"),
+            (K, 7, b"TO"),
+            (L, 9, b"3"),
+        ],
+    ),
+    (b"GOTO10", &[(K, 0, b"GOTO"), (L, 4, b"10")]),
+    (b"GO TO 10", &[(K, 0, b"GO"), (K, 3, b"TO"), (L, 6, b"10")]),
+    (
+        b"GO\x09SUB 10",
+        &[(K, 0, b"GO"), (K, 3, b"SUB"), (L, 7, b"10")],
+    ),
+    (b"GOSUB 10", &[(K, 0, b"GOSUB"), (L, 6, b"10")]),
+    (b"go to", &[(K, 0, b"go"), (K, 3, b"to")]),
+    (b"print A1$", &[(K, 0, b"print"), (V, 6, b"A1$")]),
+    (b"a%=b9%", &[(V, 0, b"a%"), (S, 2, b"="), (V, 3, b"b9%")]),
+    (b"A%B$", &[(V, 0, b"A%"), (V, 2, b"B$")]),
+    (
+        b"LEFT$(A$,1%)",
+        &[
+            (K, 0, b"LEFT$"),
+            (S, 5, b"("),
+            (V, 6, b"A$"),
+            (S, 8, b","),
+            (L, 9, b"1%"),
+            (S, 11, b")"),
+        ],
+    ),
+    (
+        b"LEFT(A$,1%)",
+        &[
+            (K, 0, b"LEFT"),
+            (S, 4, b"("),
+            (V, 5, b"A$"),
+            (S, 7, b","),
+            (L, 8, b"1%"),
+            (S, 10, b")"),
+        ],
+    ),
+    (b"RIGHT$RIGHT", &[(K, 0, b"RIGHT$"), (K, 6, b"RIGHT")]),
+    (
+        b"MID$MIDA$",
+        &[(K, 0, b"MID$"), (K, 4, b"MID"), (V, 7, b"A$")],
+    ),
+    (
+        b"RECORDSIZERECORDRECOUNT",
+        &[
+            (K, 0, b"RECORDSIZE"),
+            (K, 10, b"RECORD"),
+            (K, 16, b"RECOUNT"),
+        ],
+    ),
+    (
+        b"ERRORERRERL",
+        &[(K, 0, b"ERROR"), (K, 5, b"ERR"), (K, 8, b"ERL")],
+    ),
+    (
+        b"ONERRORGOTO0",
+        &[
+            (K, 0, b"ON"),
+            (K, 2, b"ERROR"),
+            (K, 7, b"GOTO"),
+            (L, 11, b"0"),
+        ],
+    ),
+    (
+        b"NUM1$(NUM$",
+        &[(K, 0, b"NUM1$"), (S, 5, b"("), (K, 6, b"NUM$")],
+    ),
+    (b"CVT%$CVT$%", &[(K, 0, b"CVT%$"), (K, 5, b"CVT$%")]),
+    (b"FNEND", &[(K, 0, b"FNEND")]),
+    (
+        b"FNA%FNB2$fnz%",
+        &[(F, 0, b"FNA%"), (F, 4, b"FNB2$"), (F, 9, b"fnz%")],
+    ),
+    (b"FNT%", &[(F, 0, b"FNT%")]),
+    (b"F%N%", &[(V, 0, b"F%"), (V, 2, b"N%")]),
+    (b"E%", &[(V, 0, b"E%")]),
+    (b"1", &[(L, 0, b"1")]),
+    (b"1%", &[(L, 0, b"1%")]),
+    (b"1%", &[(L, 0, b"1%")]),
+    (b"32767", &[(L, 0, b"32767")]),
+    (b"00001", &[(L, 0, b"00001")]),
+    (b"0%0", &[(L, 0, b"0%"), (L, 2, b"0")]),
+    (b"1E%", &[(L, 0, b"1"), (V, 1, b"E%")]),
+    (b"1ELSE", &[(L, 0, b"1"), (K, 1, b"ELSE")]),
+    (b"1EQV2", &[(L, 0, b"1"), (K, 1, b"EQV"), (L, 4, b"2")]),
+    (b"1 E5%", &[(L, 0, b"1"), (V, 2, b"E5%")]),
+    (b"1%E5%", &[(L, 0, b"1%"), (V, 2, b"E5%")]),
+    (b"1+2", &[(L, 0, b"1"), (S, 1, b"+"), (L, 2, b"2")]),
+    (b"\"it's\"", &[(Q, 0, b"\"it's\"")]),
+    (b"'say \"'", &[(Q, 0, b"'say \"'")]),
+    (b"\"\"''", &[(Q, 0, b"\"\""), (Q, 2, b"''")]),
+    (
+        b"\"! REM \x00\xc8\"A$",
+        &[(Q, 0, b"\"! REM \x00\xc8\""), (V, 10, b"A$")],
+    ),
+    (b"\"a\"\"b\"", &[(Q, 0, b"\"a\""), (Q, 3, b"\"b\"")]),
+    (
+        b"+-*/^**(),;:\\#===<><=>=><",
+        &[
+            (S, 0, b"+"),
+            (S, 1, b"-"),
+            (S, 2, b"*"),
+            (S, 3, b"/"),
+            (S, 4, b"^"),
+            (S, 5, b"**"),
+            (S, 7, b"("),
+            (S, 8, b")"),
+            (S, 9, b","),
+            (S, 10, b";"),
+            (S, 11, b":"),
+            (S, 12, b"\\"),
+            (S, 13, b"#"),
+            (S, 14, b"=="),
+            (S, 16, b"="),
+            (S, 17, b"<>"),
+            (S, 19, b"<="),
+            (S, 21, b">="),
+            (S, 23, b">"),
+            (S, 24, b"<"),
+        ],
+    ),
+    (b"***", &[(S, 0, b"**"), (S, 2, b"*")]),
+    (b"* *", &[(S, 0, b"*"), (S, 2, b"*")]),
+    (b"====", &[(S, 0, b"=="), (S, 2, b"==")]),
+    (b"=>", &[(S, 0, b"="), (S, 1, b">")]),
+    (b"A%!\"", &[(V, 0, b"A%")]),
+    (b"!", &[]),
+    (b"REM 1.5", &[]),
+    (
+        b"A%=1:rem \"",
+        &[(V, 0, b"A%"), (S, 2, b"="), (L, 3, b"1"), (S, 4, b":")],
+    ),
+    (b"REMARK", &[]),
+    (b"DATA", &[(K, 0, b"DATA"), (D, 4, b"")]),
+    (b"DATA,", &[(K, 0, b"DATA"), (D, 4, b""), (D, 5, b"")]),
+    (
+        b"data 1 , 2",
+        &[(K, 0, b"data"), (D, 4, b" 1 "), (D, 8, b" 2")],
+    ),
+    (
+        b"DATA\"a,b\",c",
+        &[(K, 0, b"DATA"), (D, 4, b"\"a,b\""), (D, 10, b"c")],
+    ),
+    (
+        b"DATA x'y,\"z',w",
+        &[(K, 0, b"DATA"), (D, 4, b" x'y,\"z'"), (D, 13, b"w")],
+    ),
+    (b"DATA \"open,x", &[(K, 0, b"DATA"), (D, 4, b" \"open,x")]),
+    (
+        b"A%:DATA \x7f!?,REM",
+        &[
+            (V, 0, b"A%"),
+            (S, 2, b":"),
+            (K, 3, b"DATA"),
+            (D, 7, b" \x7f!?"),
+            (D, 12, b"REM"),
+        ],
+    ),
+    (b"\x09A%\x09", &[(V, 1, b"A%")]),
+];
+
+static REFUSED: [(&[u8], u16, Cause); 39] = [
+    (b"A", 0, Cause::FloatingName),
+    (b"A1", 0, Cause::FloatingName),
+    (b"A12%", 0, Cause::FloatingName),
+    (b"AB%", 0, Cause::FloatingName),
+    (b"A %", 0, Cause::FloatingName),
+    (b"FN", 0, Cause::FloatingName),
+    (b"FNA", 0, Cause::FloatingName),
+    (b"FN5%", 0, Cause::FloatingName),
+    (b"FNAB%", 0, Cause::FloatingName),
+    (b"TOTAL%", 2, Cause::FloatingName),
+    (b"FNTO%", 0, Cause::FloatingName),
+    (b"ABS(1)", 0, Cause::FloatingName),
+    (b"1.5", 0, Cause::FloatingLiteral),
+    (b" 1.", 1, Cause::FloatingLiteral),
+    (b"1E5", 0, Cause::FloatingLiteral),
+    (b"1e5", 0, Cause::FloatingLiteral),
+    (b"1E+5", 0, Cause::FloatingLiteral),
+    (b"1E-5", 0, Cause::FloatingLiteral),
+    (b"1E+A%", 1, Cause::FloatingName),
+    (b"99999.5", 0, Cause::FloatingLiteral),
+    (b"1%E5", 2, Cause::FloatingName),
+    (b"1%.5", 2, Cause::StrayByte),
+    (b".5", 0, Cause::StrayByte),
+    (b"32768", 0, Cause::NumberTooWide),
+    (b"A%=0065536%", 3, Cause::NumberTooWide),
+    (b"99999999999999999999", 0, Cause::NumberTooWide),
+    (b"\"", 0, Cause::OpenString),
+    (b"A$='x\"", 3, Cause::OpenString),
+    (b"\"a\"b\"", 3, Cause::FloatingName),
+    (b"\x00", 0, Cause::StrayByte),
+    (b"A%\x7f", 2, Cause::StrayByte),
+    (b"\xc8", 0, Cause::StrayByte),
+    (b"A%?", 2, Cause::StrayByte),
+    (b"%", 0, Cause::StrayByte),
+    (b"$A%", 0, Cause::StrayByte),
+    (b"A%%", 2, Cause::StrayByte),
+    (b"A%\x0d", 2, Cause::StrayByte),
+    (b"TO$", 2, Cause::StrayByte),
+    (b"A% ? \"", 3, Cause::StrayByte),
+];
+
+/// The keywords but REM and DATA, and of two spellings the longer.
+static WORDS: [&[u8]; 78] = [
+    b"ABS%",
+    b"AND",
+    b"AS",
+    b"ASCII",
+    b"CHAIN",
+    b"CHR$",
+    b"CLOSE",
+    b"CLUSTERSIZE",
+    b"CVT$%",
+    b"CVT%$",
+    b"DEF",
+    b"DIM",
+    b"ELSE",
+    b"END",
+    b"EQV",
+    b"ERL",
+    b"ERR",
+    b"ERROR",
+    b"FIELD",
+    b"FILE",
+    b"FNEND",
+    b"FOR",
+    b"GET",
+    b"GO",
+    b"GOSUB",
+    b"GOTO",
+    b"IF",
+    b"IMP",
+    b"INPUT",
+    b"INSTR",
+    b"KILL",
+    b"LEFT$",
+    b"LEN",
+    b"LET",
+    b"LINE",
+    b"LSET",
+    b"MID$",
+    b"MODE",
+    b"NAME",
+    b"NEXT",
+    b"NOT",
+    b"NUM$",
+    b"NUM1$",
+    b"ON",
+    b"OPEN",
+    b"OR",
+    b"OUTPUT",
+    b"POS",
+    b"PRINT",
+    b"PUT",
+    b"READ",
+    b"RECORD",
+    b"RECORDSIZE",
+    b"RECOUNT",
+    b"RESTORE",
+    b"RESUME",
+    b"RETURN",
+    b"RIGHT$",
+    b"RSET",
+    b"SGN",
+    b"SLEEP",
+    b"SPACE$",
+    b"STEP",
+    b"STOP",
+    b"STRING$",
+    b"SUB",
+    b"SWAP%",
+    b"SYS",
+    b"TAB",
+    b"THEN",
+    b"TO",
+    b"UNLESS",
+    b"UNLOCK",
+    b"UNTIL",
+    b"VAL",
+    b"WHILE",
+    b"XLATE",
+    b"XOR",
+];
+
+/// The line has these tokens.
+fn is_taken(rt: &impl Abort, alloc: Global, line: &[u8], wanted: &[Wanted]) {
+    assert!(rt; line.len() <= 255);
+    match scan(alloc, line) {
+        Ok(tokens) => {
+            assert_eq!(rt; tokens.len() as usize, wanted.len(), "{line:?}");
+            for k in 0..tokens.len() {
+                let token = tokens.token(k);
+                assert!(rt; (k as usize) < wanted.len());
+                let (kind, start, bytes) = wanted[k as usize];
+                assert_eq!(rt; token.kind, kind, "{line:?}");
+                assert_eq!(rt; token.start, start, "{line:?}");
+                assert_eq!(rt; token.bytes, bytes, "{line:?}");
+            }
+        }
+        Err(_) => assert!(rt; false, "{line:?} is refused"),
+    }
+}
+
+/// The line is refused there.
+fn is_refused(rt: &impl Abort, alloc: Global, line: &[u8], place: u16, cause: Cause) {
+    assert!(rt; line.len() <= 255);
+    match scan(alloc, line) {
+        Ok(_) => assert!(rt; false, "{line:?} is taken"),
+        Err(Trouble::Refused(refusal)) => {
+            assert_eq!(rt; refusal.place, place, "{line:?}");
+            assert_eq!(rt; refusal.cause, cause, "{line:?}");
+        }
+        Err(Trouble::NoMemory) => assert!(rt; false, "no memory"),
+    }
+}
+
+#[test]
+fn lines_have_their_tokens_or_are_refused(rt: HostRuntime) {
+    for (line, wanted) in TAKEN {
+        is_taken(&rt, rt.alloc(), line, wanted);
+    }
+    for (line, place, cause) in REFUSED {
+        is_refused(&rt, rt.alloc(), line, place, cause);
+    }
+}
+
+/// The word with these bytes behind it.
+fn beside(alloc: Global, word: &[u8], behind: &[u8]) -> Result<Vec<u8>, std::alloc::AllocError> {
+    let mut line = Vec::new(alloc);
+    line.extend_from_slice(word)?;
+    line.extend_from_slice(behind)?;
+    Ok(line)
+}
+
+#[test]
+fn keywords_end_where_another_byte_begins(rt: HostRuntime) -> Result<(), Fail> {
+    for word in WORDS {
+        assert!(rt; word.len() < 20);
+        let end = word.len() as u16;
+        let letter = beside(rt.alloc(), word, b"Q%")?;
+        is_taken(&rt, rt.alloc(), &letter, &[(K, 0, word), (V, end, b"Q%")]);
+        let digit = beside(rt.alloc(), word, b"7")?;
+        is_taken(&rt, rt.alloc(), &digit, &[(K, 0, word), (L, end, b"7")]);
+        let percent = beside(rt.alloc(), word, b"%")?;
+        is_refused(&rt, rt.alloc(), &percent, end, Cause::StrayByte);
+        let dollar = beside(rt.alloc(), word, b"$")?;
+        is_refused(&rt, rt.alloc(), &dollar, end, Cause::StrayByte);
+    }
+    Ok(())
+}
+
+#[test]
+fn long_lines_and_words(rt: HostRuntime) -> Result<(), Fail> {
+    let zeros = vec![in rt.alloc(); b'0'; 255]?;
+    assert_eq!(rt; zeros.len(), 255);
+    match scan(rt.alloc(), &zeros) {
+        Ok(tokens) => assert_eq!(rt; tokens.len(), 1),
+        Err(_) => assert!(rt; false, "255 digits"),
+    }
+    let commas = vec![in rt.alloc(); b','; 251]?;
+    let data = beside(rt.alloc(), b"DATA", &commas)?;
+    assert_eq!(rt; data.len(), 255);
+    match scan(rt.alloc(), &data) {
+        Ok(tokens) => assert_eq!(rt; tokens.len(), 253),
+        Err(_) => assert!(rt; false, "252 items"),
+    }
+    assert_eq!(rt; keyword_of(b"left$"), Some(Keyword::Left));
+    assert_eq!(rt; keyword_of(b"LEF"), None);
+    assert_eq!(rt; sign_of(b"**"), Some(Sign::DoubleStar));
+    assert_eq!(rt; sign_of(b"!"), None);
+    Ok(())
+}

@@ -1,0 +1,16 @@
+pub mod GrammarMachine
+pub mod GrammarPlaces
+pub mod GrammarRun
+pub mod GrammarTables
+pub mod GrammarWords
+pub mod SpellingExpressions
+pub mod SpellingParts
+pub mod SpellingPieces
+pub mod SpellingStatements
+pub mod SpellingWords
+pub mod StatementViews
+pub mod TokenLaws
+pub mod Tokens
+pub mod TreeViews
+pub mod Trees
+pub mod Words

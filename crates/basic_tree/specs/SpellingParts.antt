@@ -1,0 +1,153 @@
+-- The parts of statements: targets, shapes, items of PRINT, modifiers and the options of OPEN.
+use Rattle.std.specs.Prelude.{ℕ, ◌&&◌, ◌||◌, Bool, true, false, not, nat_lt, length, if◌then◌else◌, List, [], ◌∷◌, ◌++◌, Option, Some, None}
+use Rattle.std.specs.Int.{is_power_of_two}
+use Rattle.basic_tree.specs.declared.names.Name.{Name}
+use Rattle.basic_tree.specs.declared.tokens.Keyword.{Keyword}
+use Rattle.basic_tree.specs.declared.tokens.Keyword.TheVariants as keyword
+use Rattle.basic_tree.specs.declared.tokens.Sign.TheVariants as sign
+use Rattle.basic_tree.specs.declared.kinds.Want.{Want}
+use Rattle.basic_tree.specs.declared.kinds.Want.TheVariants as want
+use Rattle.basic_tree.specs.declared.parts.Shape.{Shape}
+use Rattle.basic_tree.specs.declared.parts.FileShape.{FileShape}
+use Rattle.basic_tree.specs.declared.parts.Separator.{Separator}
+use Rattle.basic_tree.specs.declared.parts.Separator.TheVariants as separator
+use Rattle.basic_tree.specs.declared.parts.OpenFor.{OpenFor}
+use Rattle.basic_tree.specs.declared.parts.OpenFor.TheVariants as purpose
+use Rattle.basic_tree.specs.SpellingWords.{Word, Key, Punctuation, Named, FnNamed, Quotation, Item, Plain, words}
+use Rattle.basic_tree.specs.Trees.{Tree, PrintedTree, Value, Tab, ModifierTree, If, Unless, While, Until, ForModifier, PrintItemTree, PrintChannelTree, PromptTree, ChainLineTree, CloseChannelTree, FieldPartTree}
+use Rattle.basic_tree.specs.SpellingExpressions.{steps_of, is_text, want_of}
+use Rattle.basic_tree.specs.SpellingPieces.{Piece, Fixed, Expression, NameOf, LiteralOf, Holds, key, sign_of, opening, opening_parenthesis, closing, number, text, bound, target, perhaps, optional, many}
+
+-- ---- shapes of arrays
+
+abbrev pub shape : Shape → List Piece
+shape s =
+    NameOf want.Either s.name ∷ opening_parenthesis ∷ bound s.first
+    ∷ (optional (λ second. sign_of sign.Comma ∷ bound second ∷ []) s.second ++ sign_of sign.Closing ∷ closing ∷ [])
+
+-- the bytes of an element: a power of two from 2 to 512, of a text array alone
+abbrev pub element_size : Name → ℕ → List Piece
+element_size name n =
+    Holds name.text ∷ sign_of sign.Equal ∷ LiteralOf (is_power_of_two n && nat_lt 1 n && nat_lt n 513) n ∷ []
+
+abbrev pub file_shape : FileShape → List Piece
+file_shape s = shape s.shape ++ optional (λ size. element_size s.shape.name size) s.size
+
+-- ---- PRINT, INPUT and their channels
+
+abbrev pub separator_piece : Separator → Piece
+separator_piece separator.Comma = sign_of sign.Comma
+separator_piece separator.Semicolon = sign_of sign.Semicolon
+
+abbrev pub printed : PrintedTree → List Piece
+printed (Value t) = Expression want.Either t ∷ []
+printed (Tab t) = key keyword.Tab ∷ opening_parenthesis ∷ number t ∷ sign_of sign.Closing ∷ closing ∷ []
+
+abbrev pub print_item : PrintItemTree → List Piece
+print_item item = printed item.printed ++ separator_piece item.separator ∷ []
+
+-- `#` and a channel
+abbrev pub channel : Tree → List Piece
+channel t = sign_of sign.Hash ∷ number t ∷ []
+
+abbrev pub print_channel : PrintChannelTree → List Piece
+print_channel c = channel c.number ++ perhaps c.comma (sign_of sign.Comma)
+
+-- behind the channel of PRINT a comma stands where items follow
+abbrev pub is_parted : Option PrintChannelTree → List PrintItemTree → Option PrintedTree → Bool
+is_parted None items last = true
+is_parted (Some c) [] None = true
+is_parted (Some c) items last = c.comma
+
+abbrev pub channel_and_comma : Tree → List Piece
+channel_and_comma t = channel t ++ sign_of sign.Comma ∷ []
+
+abbrev pub prompt : PromptTree → List Piece
+prompt p = Fixed (Plain (Quotation p.text)) ∷ separator_piece p.separator ∷ []
+
+-- INPUT has a channel, a prompt or neither
+abbrev pub is_one : {A B : Type 0} → Option A → Option B → Bool
+is_one (Some a) (Some b) = false
+is_one a b = true
+
+-- ---- counting
+
+-- `= start TO limit` and perhaps `STEP step`
+abbrev pub range : Name → Tree → Tree → Option Tree → List Piece
+range v start limit step =
+    NameOf want.Number v ∷ sign_of sign.Equal ∷ number start ∷ key keyword.To ∷ number limit
+    ∷ optional (λ t. key keyword.Step ∷ number t ∷ []) step
+
+-- a modifier's word opens a level, in which its expressions stand
+abbrev pub modifier : ModifierTree → List Piece
+modifier (If t) = opening keyword.If ∷ number t ∷ []
+modifier (Unless t) = opening keyword.Unless ∷ number t ∷ []
+modifier (While t) = opening keyword.While ∷ number t ∷ []
+modifier (Until t) = opening keyword.Until ∷ number t ∷ []
+modifier (ForModifier v start limit step) = opening keyword.For ∷ range v start limit step
+
+-- ---- functions of the program and assignments
+
+abbrev pub name : Name → List Piece
+name n = NameOf want.Either n ∷ []
+
+-- parameters in parentheses, where there are any
+abbrev pub parameters : List Name → List Piece
+parameters [] = []
+parameters (n ∷ ns) = opening_parenthesis ∷ (many name (n ∷ ns) ++ sign_of sign.Closing ∷ closing ∷ [])
+
+-- `=` and a value of a kind
+abbrev pub value : Bool → Tree → List Piece
+value is_textual t = sign_of sign.Equal ∷ Expression (want_of is_textual) t ∷ []
+
+-- the kind of the first target, which all have
+abbrev pub kind_of_first : List Tree → Bool
+kind_of_first [] = false
+kind_of_first (t ∷ ts) = is_text t
+
+-- ---- CHAIN
+
+abbrev pub first_word : List Word → Option Word
+first_word [] = None
+first_word (w ∷ ws) = Some w
+
+abbrev pub last_word : List Word → Option Word
+last_word [] = None
+last_word (w ∷ []) = Some w
+last_word (w ∷ (v ∷ ws)) = last_word (v ∷ ws)
+
+abbrev pub is_name : Option Word → Bool
+is_name (Some (Named n)) = true
+is_name (Some (FnNamed n)) = true
+is_name other = false
+
+-- whether a number may begin with a word right behind a text whose last word is that one:
+-- not with a sign, and not with `(` behind a name, since that opens the name's own list
+abbrev pub may_follow : Option Word → Option Word → Bool
+may_follow last (Some (Punctuation sign.Plus)) = false
+may_follow last (Some (Punctuation sign.Minus)) = false
+may_follow last (Some (Punctuation sign.Opening)) = not (is_name last)
+may_follow last other = true
+
+abbrev pub chain_line : Tree → ChainLineTree → List Piece
+chain_line program l =
+    perhaps l.word (key keyword.Line)
+    ++ Holds (l.word || may_follow (last_word (words (steps_of program))) (first_word (words (steps_of l.number))))
+    ∷ number l.number ∷ []
+
+-- ---- files
+
+abbrev pub open_for : OpenFor → List Piece
+open_for purpose.Input = key keyword.For ∷ key keyword.Input ∷ []
+open_for purpose.Output = key keyword.For ∷ key keyword.Output ∷ []
+open_for purpose.Either = []
+
+-- a comma, a word and a number
+abbrev pub option_of : Keyword → Option Tree → List Piece
+option_of word t = optional (λ n. sign_of sign.Comma ∷ key word ∷ number n ∷ []) t
+
+abbrev pub close_channel : CloseChannelTree → List Piece
+close_channel c = perhaps c.hash (sign_of sign.Hash) ++ number c.number ∷ []
+
+abbrev pub field_part : FieldPartTree → List Piece
+field_part p = number p.width ∷ key keyword.As ∷ NameOf want.Text p.name ∷ []

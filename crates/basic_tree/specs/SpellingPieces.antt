@@ -1,0 +1,116 @@
+-- What statements are spelled from: words, expressions, names and literals; parts that may be left out, and lists.
+use Rattle.std.specs.Prelude.{◌≡◌, ℕ, ◌&&◌, Bool, true, false, nat_lt, if◌then◌else◌, List, [], ◌∷◌, ◌++◌, Option, Some, None}
+use Rattle.basic_tree.specs.declared.names.Name.{Name}
+use Rattle.basic_tree.specs.declared.tokens.Keyword.{Keyword}
+use Rattle.basic_tree.specs.declared.tokens.Sign.{Sign}
+use Rattle.basic_tree.specs.declared.tokens.Sign.TheVariants as sign
+use Rattle.basic_tree.specs.declared.kinds.Want.{Want}
+use Rattle.basic_tree.specs.declared.kinds.Want.TheVariants as want
+use Rattle.basic_tree.specs.SpellingWords.{Word, Key, Punctuation, Named, Number, Step, Plain, Opens, Closes}
+use Rattle.basic_tree.specs.Trees.{Tree, Variable, Element}
+use Rattle.basic_tree.specs.SpellingExpressions.{steps_of, Fits, IsTree}
+
+pub data Piece : Type 0 where
+  -- a word, or the end of a level
+  Fixed : Step → Piece
+  -- an expression of a wanted kind
+  Expression : Want → Tree → Piece
+  -- the name of a variable or an array of a wanted kind
+  NameOf : Want → Name → Piece
+  -- a number as a literal, where the test holds
+  LiteralOf : Bool → ℕ → Piece
+  -- no word, but the test holds
+  Holds : Bool → Piece
+
+abbrev pub piece_steps : Piece → List Step
+piece_steps (Fixed step) = step ∷ []
+piece_steps (Expression w t) = steps_of t
+piece_steps (NameOf w name) = Plain (Named name) ∷ []
+piece_steps (LiteralOf holds n) = Plain (Number n) ∷ []
+piece_steps (Holds holds) = []
+
+-- a piece is as its place wants it
+abbrev pub IsPiece : Piece → Type 0
+IsPiece (Fixed step) = Unit {0}
+IsPiece (Expression w t) = IsTree t × Fits w t
+IsPiece (NameOf w name) = Fits w (Variable name)
+IsPiece (LiteralOf holds n) = holds ≡ true
+IsPiece (Holds holds) = holds ≡ true
+
+abbrev pub pieces_steps : List Piece → List Step
+pieces_steps [] = []
+pieces_steps (p ∷ pieces) = piece_steps p ++ pieces_steps pieces
+
+abbrev pub ArePieces : List Piece → Type 0
+ArePieces [] = Unit {0}
+ArePieces (p ∷ pieces) = IsPiece p × ArePieces pieces
+
+-- ---- single pieces
+
+abbrev pub key : Keyword → Piece
+key k = Fixed (Plain (Key k))
+
+abbrev pub sign_of : Sign → Piece
+sign_of s = Fixed (Plain (Punctuation s))
+
+-- a word that opens a level of nesting, and the end of a level
+abbrev pub opening : Keyword → Piece
+opening k = Fixed (Opens (Key k))
+
+abbrev pub opening_parenthesis : Piece
+opening_parenthesis = Fixed (Opens (Punctuation sign.Opening))
+
+abbrev pub closing : Piece
+closing = Fixed Closes
+
+abbrev pub number : Tree → Piece
+number t = Expression want.Number t
+
+abbrev pub text : Tree → Piece
+text t = Expression want.Text t
+
+-- the number of a line
+abbrev pub line : ℕ → Piece
+line n = LiteralOf (nat_lt 0 n && nat_lt n 32768) n
+
+-- the number of a line, or 0
+abbrev pub line_or_zero : ℕ → Piece
+line_or_zero n = LiteralOf (nat_lt n 32768) n
+
+-- a bound of an array, or the channel of DIM
+abbrev pub bound : ℕ → Piece
+bound n = LiteralOf (nat_lt n 32768) n
+
+-- a variable or an element of an array
+abbrev pub is_target : Tree → Bool
+is_target (Variable name) = true
+is_target (Element name subscripts) = true
+is_target other = false
+
+abbrev pub target : Want → Tree → List Piece
+target w t = Holds (is_target t) ∷ Expression w t ∷ []
+
+-- ---- parts that may be left out, and lists
+
+-- a word or sign that changes nothing
+abbrev pub perhaps : Bool → Piece → List Piece
+perhaps stands p = if stands then p ∷ [] else []
+
+abbrev pub optional : {A : Type 0} → (A → List Piece) → Option A → List Piece
+optional pieces None = []
+optional pieces (Some a) = pieces a
+
+-- each behind the last
+abbrev pub each : {A : Type 0} → (A → List Piece) → List A → List Piece
+each pieces [] = []
+each pieces (a ∷ more) = pieces a ++ each pieces more
+
+-- each behind a comma
+abbrev pub after_commas : {A : Type 0} → (A → List Piece) → List A → List Piece
+after_commas pieces [] = []
+after_commas pieces (a ∷ more) = sign_of sign.Comma ∷ (pieces a ++ after_commas pieces more)
+
+-- one or more, with commas between
+abbrev pub many : {A : Type 0} → (A → List Piece) → List A → List Piece
+many pieces [] = Holds false ∷ []
+many pieces (a ∷ more) = pieces a ++ after_commas pieces more

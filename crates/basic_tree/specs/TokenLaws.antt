@@ -1,0 +1,56 @@
+-- What a user relies on of tokens, over their definition alone.
+use Rattle.basic_tree.specs.declared.tokens.TokenKind.TheVariants as kind
+use Rattle.std.specs.Prelude.{◌≢◌, ◌⊎◌, ◌++◌, nat_lt, if◌then◌else◌, ◌≡◌, ℕ, ◌+◌, ◌<◌, ◌≤◌, max, true, List, [], ◌∷◌, length, map, take, drop, Contains, Ok, Err}
+use Rattle.basic_tree.specs.Tokens.{Lexeme, Reading, is_blank, stands, longest_length, tokens_from, tokens_of}
+use Rattle.basic_tree.specs.Words.{keywords}
+use Rattle.basic_tree.specs.declared.tokens.Front.{Front}
+use Rattle.basic_tree.specs.declared.tokens.Front.TheVariants as front
+
+-- a token has at least one byte and lies in the rest of the line, and so do the four letters of DATA
+abbrev pub Fits : Front → List ℕ → Type 0
+Fits (front.Token k len) rest = (0 < len) × (len ≤ length rest)
+Fits front.Data rest = 4 ≤ length rest
+Fits other rest = Unit {0}
+
+-- the bytes of a token are the slice of the line at its start
+pub record IsSlice (line : List ℕ) (token : Lexeme) : Type 0 where
+  pub within : token.start + length token.bytes ≤ length line
+  pub bytes : take (length token.bytes) (drop token.start line) ≡ token.bytes
+
+-- the tokens are slices of the line from a place on: each begins behind the start of the one before it, and not before its end
+abbrev pub AreCut : List ℕ → ℕ → List Lexeme → Type 0
+AreCut line from [] = Unit {0}
+AreCut line from (token ∷ tokens) = (from ≤ token.start) × IsSlice line token × AreCut line (token.start + max 1 (length token.bytes)) tokens
+
+-- the tokens of a line are slices of it, whose starts rise and of which no two overlap
+abbrev pub TokensAreSlices : Type 0
+TokensAreSlices = (line : List ℕ) (tokens : List Lexeme) → tokens_of line ≡ Ok tokens → AreCut line 0 tokens
+
+-- the token, and what a line reads as, so many bytes further on
+abbrev pub moved : ℕ → Lexeme → Lexeme
+moved by token = record { kind = token.kind; start = token.start + by; bytes = token.bytes }
+
+abbrev pub moved_reading : ℕ → Reading → Reading
+moved_reading by (Ok tokens) = Ok (map (moved by) tokens)
+moved_reading by (Err refusal) = Err (record { place = refusal.place + by; cause = refusal.cause })
+
+-- a blank in front of what begins at a place moves its tokens, or its refused place, and changes no kind, no bytes and no cause
+abbrev pub BlanksMoveTokens : Type 0
+BlanksMoveTokens = (place blank : ℕ) (rest : List ℕ) → is_blank blank ≡ true → tokens_from place 0 (blank ∷ rest) ≡ moved_reading 1 (tokens_from place 0 rest)
+
+-- of the words that stand at the front the longest is taken: none of them is longer
+abbrev pub LongestIsTaken : Type 0
+LongestIsTaken = (word rest : List ℕ) → Contains (map (λ entry. entry.1) keywords) word → stands word rest ≡ true → length word ≤ longest_length keywords rest
+
+-- a blank put in at a place moves the tokens that start there or behind it
+abbrev pub moved_from : ℕ → Lexeme → Lexeme
+moved_from place token = if nat_lt token.start place then token else moved 1 token
+
+-- a token that is no item of DATA starts at the place
+abbrev pub StartsAt : ℕ → List Lexeme → Type 0
+StartsAt place [] = ⊥
+StartsAt place (token ∷ tokens) = ((token.start ≡ place) × (token.kind ≢ kind.DataItem)) ⊎ StartsAt place tokens
+
+-- a blank where a token starts moves the tokens from there on, and changes no sort and no bytes
+abbrev pub BlanksSeparateTokens : Type 0
+BlanksSeparateTokens = (before behind : List ℕ) (blank : ℕ) (tokens : List Lexeme) → is_blank blank ≡ true → tokens_of (before ++ behind) ≡ Ok tokens → StartsAt (length before) tokens → tokens_of (before ++ blank ∷ behind) ≡ Ok (map (moved_from (length before)) tokens)

@@ -1,0 +1,9 @@
+//! What is wanted of an expression.
+
+/// Whether a number, a text or either is wanted.
+#[derive(Clone, Copy, Debug, PartialEq, Eq, Hash)]
+pub enum Want {
+    Number,
+    Text,
+    Either,
+}

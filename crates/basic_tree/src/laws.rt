@@ -1,0 +1,23 @@
+//! What a user relies on, as laws over the definitions: each is the contract of a function that does nothing.
+
+ghost use Rattle.basic_tree.specs.TokenLaws.{TokensAreSlices, BlanksMoveTokens, BlanksSeparateTokens, LongestIsTaken};
+
+/// The tokens of a line are slices of it, whose starts rise and of which no two overlap.
+pub fn tokens_are_slices()
+    ensures { TokensAreSlices }
+{}
+
+/// A blank in front of what begins at a place moves its tokens, and changes nothing else of them.
+pub fn blanks_move_tokens()
+    ensures { BlanksMoveTokens }
+{}
+
+/// Of the keywords that stand at a place none is longer than the one that is taken.
+pub fn longest_is_taken()
+    ensures { LongestIsTaken }
+{}
+
+/// A blank where a token starts changes no token's sort and bytes.
+pub fn blanks_separate_tokens()
+    ensures { BlanksSeparateTokens }
+{}

@@ -1,0 +1,156 @@
+//! Statements as trees. Each variant is a form of the grammar, its fields in the order of the text.
+//! A field of `bool` tells whether a word or sign stands there that changes nothing.
+
+use crate::expressions::Expr;
+use crate::names::Name;
+use crate::parts::{
+    ChainLine, CloseChannel, FieldPart, FileShape, Modifier, OpenFor, PrintChannel, PrintItem,
+    Printed, Prompt, Shape, Target,
+};
+use crate::series::Series;
+use basic_values::Text;
+
+/// What an IF runs: the line of this number, or a statement.
+#[cycle(statements)]
+#[derive(Debug, Drop)]
+pub enum Clause {
+    Line(u16),
+    Statement(Box<Statement>),
+}
+
+/// A statement.
+#[cycle(statements)]
+#[derive(Debug, Drop)]
+pub enum Statement {
+    /// IF .. THEN, and perhaps ELSE.
+    IfThen {
+        condition: Expr,
+        clause: Clause,
+        otherwise: Option<Clause>,
+    },
+    /// IF .. GOTO, and perhaps ELSE.
+    IfGoto {
+        condition: Expr,
+        line: u16,
+        otherwise: Option<Clause>,
+    },
+    /// A statement and a modifier behind it: with several the rightmost is outermost.
+    Modified {
+        statement: Box<Statement>,
+        modifier: Modifier,
+    },
+    For {
+        variable: Name,
+        from: Expr,
+        to: Expr,
+        step: Option<Expr>,
+    },
+    Next(Name),
+    FnEnd,
+    /// The items as they stand between the commas.
+    Data(Series<Text>),
+    Dim(Series<Shape>),
+    /// DIM of arrays in the file of a channel.
+    DimFile {
+        channel: u16,
+        shapes: Series<FileShape>,
+    },
+    /// DEF, with the value of a function of one line.
+    Def {
+        function: Name,
+        parameters: Series<Name>,
+        value: Option<Expr>,
+    },
+    /// An assignment, behind the word LET or without it.
+    Let {
+        word: bool,
+        targets: Series<Target>,
+        value: Expr,
+    },
+    /// The result of a function, given in its body.
+    Result {
+        function: Name,
+        value: Expr,
+    },
+    Print {
+        channel: Option<PrintChannel>,
+        items: Series<PrintItem>,
+        last: Option<Printed>,
+    },
+    Input {
+        channel: Option<Expr>,
+        prompt: Option<Prompt>,
+        targets: Series<Target>,
+    },
+    InputLine {
+        channel: Option<Expr>,
+        variable: Name,
+    },
+    Read(Series<Target>),
+    Restore,
+    /// GOTO, or GO TO in two words.
+    Goto {
+        apart: bool,
+        line: u16,
+    },
+    /// GOSUB, or GO SUB in two words.
+    Gosub {
+        apart: bool,
+        line: u16,
+    },
+    Return,
+    OnGoto {
+        selector: Expr,
+        lines: Series<u16>,
+    },
+    OnGosub {
+        selector: Expr,
+        lines: Series<u16>,
+    },
+    OnErrorGoto(Option<u16>),
+    Resume(Option<u16>),
+    Stop,
+    End,
+    Chain {
+        program: Expr,
+        line: Option<ChainLine>,
+    },
+    Sleep(Expr),
+    Open {
+        file: Expr,
+        purpose: OpenFor,
+        hash: bool,
+        channel: Expr,
+        record_size: Option<Expr>,
+        cluster_size: Option<Expr>,
+        mode: Option<Expr>,
+    },
+    Close(Series<CloseChannel>),
+    Get {
+        channel: Expr,
+        record: Option<Expr>,
+    },
+    Put {
+        channel: Expr,
+        record: Option<Expr>,
+    },
+    Unlock(Expr),
+    Field {
+        channel: Expr,
+        parts: Series<FieldPart>,
+    },
+    Lset {
+        variable: Name,
+        value: Expr,
+    },
+    Rset {
+        variable: Name,
+        value: Expr,
+    },
+    Kill(Expr),
+    /// NAME .. AS.
+    Rename {
+        old: Expr,
+        new: Expr,
+    },
+}
