@@ -1,26 +1,23 @@
 -- What a move of the machine took, its symbol spells.
-use Rattle.std.proofs.Common.{subst, ◌&&◌, ◌||◌, ◌==◌, not, ◌≡◌, ◌<◌, ℕ, zero, suc, ◌≤◌, Bool, true, false, cond, if◌then◌else◌, nat_lt, List, [], ◌∷◌, ◌++◌, Option, Some, None, refl, sym, ap, ◌∙◌, append_assoc, arith}
-use Rattle.std.proofs.lemmas.List.{append-nil}
+use Rattle.std.proofs.Common.{subst, ◌==◌, ◌≡◌, ℕ, zero, suc, ◌≤◌, Bool, true, false, cond, if◌then◌else◌, nat_lt, List, [], ◌∷◌, ◌++◌, Option, Some, None, refl, sym, ap, ◌∙◌, append_assoc, arith}
 use Rattle.std.proofs.lemmas.Bool.{eqb-true}
-use Rattle.basic_tree.specs.declared.names.Name.{Name}
 use Rattle.basic_tree.specs.declared.tokens.Keyword.{Keyword}
 use Rattle.basic_tree.specs.declared.tokens.Keyword.TheVariants as keyword
 use Rattle.basic_tree.specs.declared.tokens.Sign.{Sign}
 use Rattle.basic_tree.specs.declared.tokens.Sign.TheVariants as sign
 use Rattle.basic_tree.specs.declared.expressions.Operator.{Operator}
-use Rattle.basic_tree.specs.declared.expressions.Operator.TheVariants as operator
 use Rattle.basic_tree.specs.declared.expressions.Relation.{Relation}
 use Rattle.basic_tree.specs.declared.expressions.Function.{Function}
 use Rattle.basic_tree.specs.declared.kinds.Want.{Want}
 use Rattle.basic_tree.specs.declared.kinds.Want.TheVariants as want
 use Rattle.basic_tree.specs.SpellingWords.{Word, Key, Punctuation, Named, FnNamed, Number, Quotation, Item, Step, Plain, Opens, Closes}
-use Rattle.basic_tree.specs.Trees.{Tree, Literal, Quoted, Variable, Element, FunctionOf, Call, Parenthesized, Negative, Positive, Not, Operation, Comparison, Trees, NoTrees, AndTrees}
-use Rattle.basic_tree.specs.SpellingExpressions.{mark, steps_of, list_steps, more_steps, is_text, Fits, want_of, level_of, is_exponent, IsRight, Fill, IsTree, AreTrees}
-use Rattle.basic_tree.specs.GrammarTables.{sign_level, relation_level, not_level, operator_level, operator_word, joins_texts, relation_sign, function_keyword, arguments_of, gives_text}
-use Rattle.basic_tree.specs.GrammarWords.{operator_of, relation_of, function_of, sign_number, is_same_sign}
-use Rattle.basic_tree.specs.GrammarMachine.{Term, Several, Values, top, several, below, kept, with_last, made, others, Action, Collect, MakeElement, MakeFunction, MakeCall, MakeNegative, MakePositive, MakeNot, MakeOperation, MakeComparison, Symbol, Level, More, MoreRelations, Exponent, Expect, Opening, Close, Do, Subscripts, SecondSubscript, Arguments, MoreArguments, Start, starts, behind, takes, if_takes, more_expected, arguments_expected, function_start, atom, prefixed, signed, negated, side, relations, Rank, Signs, Relations, Nots, Chain, rank_of, ranked, start, loosest, Move, Takes, Skips, Refuses, begun, right_of, joined, more_of, no_relation, related, exponent, expect, open_list, subscripts, second_subscript, arguments, more_arguments, move}
-use Rattle.basic_tree.specs.GrammarMachine.{Closes as Ends}
-use Rattle.basic_tree.proofs.MachineSpelled.{Fine, Grown, Led, Listed, IsSecond, Kept, joined_trees, Spelled, as_is}
+use Rattle.basic_tree.specs.Trees.{Tree, Literal, Quoted, FunctionOf, Parenthesized, Negative, Positive, Not, Trees, NoTrees, AndTrees}
+use Rattle.basic_tree.specs.SpellingExpressions.{mark, steps_of, list_steps, more_steps, is_text, Fits, level_of, Fill, IsTree, AreTrees}
+use Rattle.basic_tree.specs.GrammarTables.{sign_level, relation_level, not_level, operator_word, relation_sign, function_keyword, arguments_of, gives_text}
+use Rattle.basic_tree.specs.GrammarWords.{operator_of, relation_of, function_of}
+use Rattle.basic_tree.specs.GrammarStack.{Term, Several, Values, with_last, made, others, Action, MakeFunction, MakeNegative, MakePositive, MakeNot, Symbol, Level, More, MoreRelations, Close, Do, Subscripts, Arguments}
+use Rattle.basic_tree.specs.GrammarStarts.{Start, starts, behind, if_takes, more_expected, arguments_expected, function_start, atom, prefixed, signed, negated, side, relations, Rank, Signs, Relations, Nots, Chain, rank_of, ranked, start}
+use Rattle.basic_tree.proofs.MachineSpelled.{Fine, Kept, joined_trees, Spelled}
 
 -- a word that opens a level or does not
 abbrev pub taken : Bool → Word → Step
@@ -36,7 +33,7 @@ StartBack l w vs t (Some s) = TakesBack s.opens (Level l w) vs s.values t s.expe
 
 -- ---- lists of trees
 
-joined-with_last : (ts : Trees) (a : Tree) (more : Trees) → joined_trees (with_last ts a) more ≡ joined_trees ts (AndTrees a more)
+pub joined-with_last : (ts : Trees) (a : Tree) (more : Trees) → joined_trees (with_last ts a) more ≡ joined_trees ts (AndTrees a more)
 joined-with_last NoTrees a more = refl
 joined-with_last (AndTrees b ts) a more = ap (λ x. AndTrees b x) (joined-with_last ts a more)
 
@@ -98,7 +95,7 @@ same_word (Punctuation s) = same_sign_word s
 same_word (Key k) = same_key_word k
 same_word t = refl
 
-operator_back : (t : Word) (o : Operator) → operator_of t ≡ Some o → operator_word o ≡ t
+pub operator_back : (t : Word) (o : Operator) → operator_of t ≡ Some o → operator_word o ≡ t
 operator_back t o h = ap (λ x. word_for t x) (sym h) ∙ same_word t
 
 abbrev relation_word : Word → Option Relation → Word
@@ -113,7 +110,7 @@ same_relation : (t : Word) → relation_word t (relation_of t) ≡ t
 same_relation (Punctuation s) = same_relation_sign s
 same_relation t = refl
 
-relation_back : (t : Word) (r : Relation) → relation_of t ≡ Some r → Punctuation (relation_sign r) ≡ t
+pub relation_back : (t : Word) (r : Relation) → relation_of t ≡ Some r → Punctuation (relation_sign r) ≡ t
 relation_back t r h = ap (λ x. relation_word t x) (sym h) ∙ same_relation t
 
 function_back : (w : Want) (vs : Values) (k : Keyword) (o : Option Function) → function_of k ≡ o → StartBack 0 w vs (Key k) (function_start w vs o)
@@ -130,7 +127,7 @@ literal_back : (w : Want) (vs : Values) (n : ℕ) (b : Bool) → nat_lt n 32768 
 literal_back w vs n false e fits = tt
 literal_back w vs n true e fits = λ k q u h. (Literal n, q, refl, record { tree = le_of n e; within = omega arith; kind = fits (Literal n) refl }, h)
 
-atom_back : (w : Want) (vs : Values) (t : Word) → StartBack 0 w vs t (atom w vs t)
+pub atom_back : (w : Want) (vs : Values) (t : Word) → StartBack 0 w vs t (atom w vs t)
 atom_back w vs (Number n) = kind_back w false (cond (nat_lt n 32768) (starts false (Term (Literal n) ∷ vs) []) None) 0 vs (Number n) (literal_back w vs n (nat_lt n 32768) refl)
 atom_back w vs (Quotation text) = kind_back w true (starts false (Term (Quoted text) ∷ vs) []) 0 vs (Quotation text) (λ fits k q u h. (Quoted text, q, refl, record { tree = tt; within = omega arith; kind = fits (Quoted text) refl }, h))
 atom_back w vs (Named name) = kind_back w name.text (starts false vs (Subscripts name ∷ [])) 0 vs (Named name) (λ fits k q u h. (h.0, h.2, ap (λ x. Plain (Named name) ∷ x) h.3 ∙ ap (λ x. x ++ h.2) (sym h.4.spelled), record { tree = h.4.tree; within = omega (arith, h.4.level); kind = fits h.0 h.4.kind }, h.5))
@@ -176,3 +173,57 @@ negated_back l le w vs (Key keyword.Not) s h = prefixed_back l not_level w vs (K
 negated_back l le w vs (Key other) s h = h
 negated_back l le w vs (Punctuation p) s h = h
 negated_back l le w vs other s h = h
+
+-- ---- more operands at a level
+
+fits_same : (w : Want) (a b : Tree) → is_text b ≡ is_text a → Fits w a → Fits w b
+fits_same want.Number a b e f = e ∙ f
+fits_same want.Text a b e f = e ∙ f
+fits_same want.Either a b e f = tt
+
+grow_chain : (l : ℕ) (w : Want) (vs : Values) (k : List Symbol) (q : List Step) (u : Values) → Spelled (Level l w ∷ More (suc l) ∷ k) vs q u → Spelled (Level (suc l) w ∷ k) vs q u
+grow_chain l w vs k q u g =
+    let m = g.4 in
+    let within : level_of g.0 ≤ suc l = omega (arith, g.3.within) in
+    (m.0, m.2, g.2 ∙ ap (λ x. steps_of g.0 ++ x) m.3 ∙ sym (append_assoc (steps_of g.0) m.1 m.2) ∙ ap (λ x. x ++ m.2) (sym m.4.spelled), record { tree = m.4.tree g.3.tree within; within = m.4.within within; kind = fits_same w g.0 m.0 m.5 g.3.kind }, m.6)
+
+grow_kept : (b : Bool) (l : ℕ) (w v : Want) (vs : Values) → suc l ≡ relation_level → ((t : Tree) → Kept b t → Fits w t) → (k : List Symbol) (q : List Step) (u : Values) → Spelled (Level l v ∷ MoreRelations b ∷ k) vs q u → Spelled (Level (suc l) w ∷ k) vs q u
+grow_kept b l w v vs e fits k q u g =
+    let m = g.4 in
+    let within : level_of g.0 ≤ relation_level = omega (arith, g.3.within) in
+    let after : level_of m.0 ≤ relation_level = m.4.within within in
+    (m.0, m.2, g.2 ∙ ap (λ x. steps_of g.0 ++ x) m.3 ∙ sym (append_assoc (steps_of g.0) m.1 m.2) ∙ ap (λ x. x ++ m.2) (sym m.4.spelled), record { tree = m.4.tree g.3.tree within; within = omega arith; kind = fits m.0 m.5 }, m.6)
+
+grow_relation : (l : ℕ) (w : Want) (vs : Values) → suc l ≡ relation_level → (k : List Symbol) (q : List Step) (u : Values) → Spelled (Level l (side w) ∷ (relations w ++ k)) vs q u → Spelled (Level (suc l) w ∷ k) vs q u
+grow_relation l want.Number vs e k q u g = grow_kept true l want.Number want.Either vs e (λ t x. x) k q u g
+grow_relation l want.Text vs e k q u g = (g.0, g.1, g.2, record { tree = g.3.tree; within = omega (arith, g.3.within); kind = g.3.kind }, g.4)
+grow_relation l want.Either vs e k q u g = grow_kept false l want.Either want.Either vs e (λ t x. tt) k q u g
+
+start_behind : (l m : ℕ) (v w : Want) (vs : Values) (t : Word) (s : Option Start) (more : List Symbol) → ((k : List Symbol) (q : List Step) (u : Values) → Spelled (Level l v ∷ (more ++ k)) vs q u → Spelled (Level m w ∷ k) vs q u) → StartBack l v vs t s → StartBack m w vs t (behind more s)
+start_behind l m v w vs t None more grow h = tt
+start_behind l m v w vs t (Some s) more grow h = λ k q u r. grow k (taken s.opens t ∷ q) u (h (more ++ k) q u (subst (λ x. Spelled x s.values q u) (append_assoc s.expected more k) r))
+
+-- what the rank of a level says of it
+abbrev pub RankFact : Rank → ℕ → Type 0
+RankFact Signs n = n ≡ sign_level
+RankFact Relations n = n ≡ relation_level
+RankFact Nots n = n ≡ not_level
+RankFact Chain n = Unit {0}
+
+pub rank_fact : (n : ℕ) → RankFact (rank_of n) n
+rank_fact n = go (n == sign_level) refl (n == relation_level) refl (n == not_level) refl where
+  go : (a : Bool) → (n == sign_level) ≡ a → (b : Bool) → (n == relation_level) ≡ b → (c : Bool) → (n == not_level) ≡ c → RankFact (if a then Signs else (if b then Relations else (if c then Nots else Chain))) n
+  go true e b f c g = eqb-true n sign_level e
+  go false e true f c g = eqb-true n relation_level f
+  go false e false f true g = eqb-true n not_level g
+  go false e false f false g = tt
+
+ranked_back : (r : Rank) (l : ℕ) → RankFact r (suc l) → (w : Want) (vs : Values) (t : Word) (tighter : Want → Option Start) → ((v : Want) → StartBack l v vs t (tighter v)) → StartBack (suc l) w vs t (ranked r (suc l) w vs t tighter)
+ranked_back Signs l e w vs t tighter h = signed_back (suc l) (omega (arith, e)) w vs t (tighter w) (raise l (suc l) (omega arith) w vs t (tighter w) (h w))
+ranked_back Relations l e w vs t tighter h = start_behind l (suc l) (side w) w vs t (tighter (side w)) (relations w) (grow_relation l w vs e) (h (side w))
+ranked_back Nots l e w vs t tighter h = negated_back (suc l) (omega (arith, e)) w vs t (tighter w) (raise l (suc l) (omega arith) w vs t (tighter w) (h w))
+ranked_back Chain l e w vs t tighter h = start_behind l (suc l) w w vs t (tighter w) (More (suc l) ∷ []) (grow_chain l w vs) (h w)
+
+pub start_back : (l : ℕ) (w : Want) (vs : Values) (t : Word) → StartBack l w vs t (start l w vs t)
+start_back zero w vs t = atom_back w vs t
+start_back (suc l) w vs t = ranked_back (rank_of (suc l)) l (rank_fact (suc l)) w vs t (λ v. start l v vs t) (λ v. start_back l v vs t)

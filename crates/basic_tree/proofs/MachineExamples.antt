@@ -1,5 +1,5 @@
 -- Expressions read by the machine, computed.
-use Rattle.std.proofs.Common.{◌≡◌, ℕ, zero, suc, Bool, true, false, List, [], ◌∷◌, Option, Some, None, Result, Ok, Err, refl}
+use Rattle.std.proofs.Common.{◌≡◌, ℕ, zero, suc, true, false, List, [], ◌∷◌, None, Ok, Err, refl}
 use Rattle.std.specs.Prelude.{codes}
 use Rattle.basic_tree.specs.declared.names.Name.{Name}
 use Rattle.basic_tree.specs.declared.tokens.Keyword.TheVariants as keyword
@@ -12,8 +12,8 @@ use Rattle.basic_tree.specs.declared.kinds.Want.TheVariants as want
 use Rattle.basic_tree.specs.Words.{keywords, signs}
 use Rattle.basic_tree.specs.Tokens.{Reading, letter_front, digit_front, quote_front, sign_front, front_of, items_from, tokens_from, tokens_of}
 use Rattle.basic_tree.specs.SpellingWords.{Word, Key, Punctuation, Number, words_of, most_levels}
-use Rattle.basic_tree.specs.Trees.{Literal, Variable, Element, FunctionOf, Call, Negative, Not, Operation, Comparison, NoTrees, AndTrees}
-use Rattle.basic_tree.specs.GrammarMachine.{Term, Level, loosest}
+use Rattle.basic_tree.specs.Trees.{Literal, Variable, FunctionOf, Call, Negative, Not, Operation, Comparison, NoTrees, AndTrees}
+use Rattle.basic_tree.specs.GrammarStack.{Term, Level, loosest}
 use Rattle.basic_tree.specs.GrammarRun.{Wrong, TooDeep, Outcome, run}
 
 -- the words of a line's bytes; none where the line is refused

@@ -1,5 +1,5 @@
 -- What the stack still takes, and that each state can be completed.
-use Rattle.std.proofs.Common.{◌≡◌, ℕ, zero, suc, ◌≤◌, Bool, true, false, List, [], ◌∷◌, ◌++◌, refl, sym, ap, ◌∙◌, arith}
+use Rattle.std.proofs.Common.{◌≡◌, ℕ, ◌≤◌, Bool, true, false, List, [], ◌∷◌, ◌++◌, refl, sym, arith}
 use Rattle.std.proofs.lemmas.List.{append-nil}
 use Rattle.basic_tree.specs.declared.tokens.Sign.TheVariants as sign
 use Rattle.basic_tree.specs.declared.expressions.Relation.TheVariants as relation
@@ -9,7 +9,7 @@ use Rattle.basic_tree.specs.SpellingWords.{Word, Punctuation, Named, FnNamed, Nu
 use Rattle.basic_tree.specs.Trees.{Tree, Literal, Quoted, Variable, Call, Comparison, Trees, NoTrees, AndTrees}
 use Rattle.basic_tree.specs.SpellingExpressions.{mark, steps_of, more_steps, is_text, Fits, level_of, is_exponent, IsTree, AreTrees}
 use Rattle.basic_tree.specs.GrammarTables.{relation_level}
-use Rattle.basic_tree.specs.GrammarMachine.{Term, Several, Values, top, several, below, made, others, Symbol, Level, More, MoreRelations, Exponent, Expect, Opening, Close, Do, Subscripts, SecondSubscript, Arguments, MoreArguments}
+use Rattle.basic_tree.specs.GrammarStack.{Term, Several, Values, top, several, below, made, others, Symbol, Level, More, MoreRelations, Exponent, Expect, Opening, Close, Do, Subscripts, SecondSubscript, Arguments, MoreArguments}
 
 -- a tree of a level and a wanted kind
 pub record Fine (l : ℕ) (w : Want) (t : Tree) : Type 0 where

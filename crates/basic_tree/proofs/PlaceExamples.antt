@@ -1,14 +1,14 @@
 -- Which trees are lines, and which are too deep, computed.
-use Rattle.std.proofs.Common.{◌≡◌, ℕ, zero, suc, Bool, true, false, List, [], ◌∷◌, Option, Some, None, refl, arith}
+use Rattle.std.proofs.Common.{◌≡◌, ℕ, zero, suc, true, false, [], Some, None, refl, arith}
 use Rattle.basic_tree.specs.declared.names.Name.{Name}
 use Rattle.basic_tree.specs.declared.expressions.Operator.TheVariants as operator
 use Rattle.basic_tree.specs.declared.expressions.Relation.TheVariants as relation
 use Rattle.basic_tree.specs.declared.expressions.Function.TheVariants as function
-use Rattle.basic_tree.specs.SpellingWords.{words, too_deep}
-use Rattle.basic_tree.specs.Trees.{Tree, Literal, Quoted, Variable, Element, FunctionOf, Parenthesized, Negative, Not, Operation, Comparison, NoTrees, AndTrees, Value, If, ClauseTree, LineClause, StatementClause, NoElse, Else, StatementTree, IfThen, Modified, Print, Stop, Chain, LineTree}
-use Rattle.basic_tree.specs.SpellingExpressions.{steps_of, IsTree, IsExpr}
+use Rattle.basic_tree.specs.SpellingWords.{too_deep}
+use Rattle.basic_tree.specs.Trees.{Tree, Literal, Quoted, Variable, Element, FunctionOf, Parenthesized, Negative, Not, Operation, Comparison, NoTrees, AndTrees, Value, If, LineClause, StatementClause, NoElse, Else, StatementTree, IfThen, Modified, Print, Stop, Chain, LineTree}
+use Rattle.basic_tree.specs.SpellingExpressions.{steps_of, IsTree}
 use Rattle.basic_tree.specs.SpellingPieces.{ArePieces}
-use Rattle.basic_tree.specs.SpellingStatements.{line_pieces, line_steps, IsLine}
+use Rattle.basic_tree.specs.SpellingStatements.{line_pieces, line_steps}
 
 abbrev alone : StatementTree → LineTree
 alone s = record { first = Some s; others = [] }

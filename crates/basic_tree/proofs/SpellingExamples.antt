@@ -1,5 +1,5 @@
 -- Lines and what spells them, computed: the words of the bytes are those of the tree.
-use Rattle.std.proofs.Common.{◌≡◌, ℕ, Bool, true, false, List, [], ◌∷◌, Option, Some, None, Result, Ok, Err, refl}
+use Rattle.std.proofs.Common.{◌≡◌, ℕ, true, false, List, [], ◌∷◌, Some, None, Ok, Err, refl}
 use Rattle.std.specs.Prelude.{codes}
 use Rattle.basic_tree.specs.declared.names.Name.{Name}
 use Rattle.basic_tree.specs.declared.expressions.Operator.TheVariants as operator
@@ -8,9 +8,9 @@ use Rattle.basic_tree.specs.declared.expressions.Function.TheVariants as functio
 use Rattle.basic_tree.specs.declared.parts.Separator.TheVariants as separator
 use Rattle.basic_tree.specs.declared.parts.OpenFor.TheVariants as purpose
 use Rattle.basic_tree.specs.Words.{keywords, signs}
-use Rattle.basic_tree.specs.Tokens.{Lexeme, Reading, letter_front, digit_front, quote_front, sign_front, front_of, items_from, tokens_from, tokens_of}
+use Rattle.basic_tree.specs.Tokens.{Reading, letter_front, digit_front, quote_front, sign_front, front_of, items_from, tokens_from, tokens_of}
 use Rattle.basic_tree.specs.SpellingWords.{Word, words_of, words}
-use Rattle.basic_tree.specs.Trees.{Tree, Literal, Quoted, Variable, Element, FunctionOf, Call, Parenthesized, Negative, Positive, Not, Operation, Comparison, Trees, NoTrees, AndTrees, PrintedTree, Value, Tab, ModifierTree, If, Unless, While, Until, ForModifier, ClauseTree, LineClause, StatementClause, ElseTree, NoElse, Else, StatementTree, IfThen, IfGoto, Modified, For, Next, FnEnd, Data, Dim, DimFile, Def, Let, Result as ResultOf, Print, Input, InputLine, Read, Restore, Goto, Gosub, Return, OnGoto, OnGosub, OnErrorGoto, Resume, Stop, End, Chain, Sleep, Open, Close, Get, Put, Unlock, Field, Lset, Rset, Kill, Rename, LineTree}
+use Rattle.basic_tree.specs.Trees.{Literal, Quoted, Variable, Element, FunctionOf, Call, Parenthesized, Negative, Not, Operation, Comparison, NoTrees, AndTrees, Value, Tab, If, ForModifier, LineClause, StatementClause, NoElse, Else, StatementTree, IfThen, Modified, For, Data, DimFile, Def, Let, Result as ResultOf, Print, Input, Goto, Gosub, OnErrorGoto, Stop, Chain, Open, Field}
 use Rattle.basic_tree.specs.SpellingStatements.{line_steps}
 
 -- the words of a line's bytes; none where the line is refused

@@ -1,6 +1,8 @@
 pub mod GrammarMachine
 pub mod GrammarPlaces
 pub mod GrammarRun
+pub mod GrammarStack
+pub mod GrammarStarts
 pub mod GrammarTables
 pub mod GrammarWords
 pub mod SpellingExpressions

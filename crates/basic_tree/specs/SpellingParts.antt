@@ -1,11 +1,10 @@
 -- The parts of statements: targets, shapes, items of PRINT, modifiers and the options of OPEN.
-use Rattle.std.specs.Prelude.{ℕ, ◌&&◌, ◌||◌, Bool, true, false, not, nat_lt, length, if◌then◌else◌, List, [], ◌∷◌, ◌++◌, Option, Some, None}
+use Rattle.std.specs.Prelude.{ℕ, ◌&&◌, ◌||◌, Bool, true, false, not, nat_lt, List, [], ◌∷◌, ◌++◌, Option, Some, None}
 use Rattle.std.specs.Int.{is_power_of_two}
 use Rattle.basic_tree.specs.declared.names.Name.{Name}
 use Rattle.basic_tree.specs.declared.tokens.Keyword.{Keyword}
 use Rattle.basic_tree.specs.declared.tokens.Keyword.TheVariants as keyword
 use Rattle.basic_tree.specs.declared.tokens.Sign.TheVariants as sign
-use Rattle.basic_tree.specs.declared.kinds.Want.{Want}
 use Rattle.basic_tree.specs.declared.kinds.Want.TheVariants as want
 use Rattle.basic_tree.specs.declared.parts.Shape.{Shape}
 use Rattle.basic_tree.specs.declared.parts.FileShape.{FileShape}
@@ -13,10 +12,10 @@ use Rattle.basic_tree.specs.declared.parts.Separator.{Separator}
 use Rattle.basic_tree.specs.declared.parts.Separator.TheVariants as separator
 use Rattle.basic_tree.specs.declared.parts.OpenFor.{OpenFor}
 use Rattle.basic_tree.specs.declared.parts.OpenFor.TheVariants as purpose
-use Rattle.basic_tree.specs.SpellingWords.{Word, Key, Punctuation, Named, FnNamed, Quotation, Item, Plain, words}
+use Rattle.basic_tree.specs.SpellingWords.{Word, Punctuation, Named, FnNamed, Quotation, Plain, words}
 use Rattle.basic_tree.specs.Trees.{Tree, PrintedTree, Value, Tab, ModifierTree, If, Unless, While, Until, ForModifier, PrintItemTree, PrintChannelTree, PromptTree, ChainLineTree, CloseChannelTree, FieldPartTree}
 use Rattle.basic_tree.specs.SpellingExpressions.{steps_of, is_text, want_of}
-use Rattle.basic_tree.specs.SpellingPieces.{Piece, Fixed, Expression, NameOf, LiteralOf, Holds, key, sign_of, opening, opening_parenthesis, closing, number, text, bound, target, perhaps, optional, many}
+use Rattle.basic_tree.specs.SpellingPieces.{Piece, Fixed, Expression, NameOf, LiteralOf, Holds, key, sign_of, opening, opening_parenthesis, closing, number, bound, perhaps, optional, many}
 
 -- ---- shapes of arrays
 
@@ -105,7 +104,7 @@ abbrev pub kind_of_first : List Tree → Bool
 kind_of_first [] = false
 kind_of_first (t ∷ ts) = is_text t
 
--- ---- CHAIN
+-- ---- CHAIN: the one statement in which an expression stands right behind another
 
 abbrev pub first_word : List Word → Option Word
 first_word [] = None
@@ -122,7 +121,7 @@ is_name (Some (FnNamed n)) = true
 is_name other = false
 
 -- whether a number may begin with a word right behind a text whose last word is that one:
--- not with a sign, and not with `(` behind a name, since that opens the name's own list
+-- not with a sign, and not with `(` behind a name, which opens the name's own list: `CHAIN A$ (5)` is CHAIN of an element
 abbrev pub may_follow : Option Word → Option Word → Bool
 may_follow last (Some (Punctuation sign.Plus)) = false
 may_follow last (Some (Punctuation sign.Minus)) = false

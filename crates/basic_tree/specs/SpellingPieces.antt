@@ -6,7 +6,7 @@ use Rattle.basic_tree.specs.declared.tokens.Sign.{Sign}
 use Rattle.basic_tree.specs.declared.tokens.Sign.TheVariants as sign
 use Rattle.basic_tree.specs.declared.kinds.Want.{Want}
 use Rattle.basic_tree.specs.declared.kinds.Want.TheVariants as want
-use Rattle.basic_tree.specs.SpellingWords.{Word, Key, Punctuation, Named, Number, Step, Plain, Opens, Closes}
+use Rattle.basic_tree.specs.SpellingWords.{Key, Punctuation, Named, Number, Step, Plain, Opens, Closes}
 use Rattle.basic_tree.specs.Trees.{Tree, Variable, Element}
 use Rattle.basic_tree.specs.SpellingExpressions.{steps_of, Fits, IsTree}
 

@@ -1,14 +1,13 @@
 -- The forms of statements and lines: of each tree its pieces in the order of the text.
 use Rattle.std.specs.Prelude.{◌≡◌, ℕ, nat_lt, length, Bool, true, false, not, ◌&&◌, ◌||◌, if◌then◌else◌, List, [], ◌∷◌, ◌++◌, Option, Some, None}
-use Rattle.basic_tree.specs.declared.names.Name.{Name}
 use Rattle.basic_tree.specs.declared.tokens.Keyword.{Keyword}
 use Rattle.basic_tree.specs.declared.tokens.Keyword.TheVariants as keyword
 use Rattle.basic_tree.specs.declared.tokens.Sign.TheVariants as sign
 use Rattle.basic_tree.specs.declared.kinds.Want.TheVariants as want
 use Rattle.basic_tree.specs.SpellingWords.{Word, FnNamed, Item, Step, Plain, words}
-use Rattle.basic_tree.specs.Trees.{Tree, ModifierTree, ClauseTree, LineClause, StatementClause, ElseTree, NoElse, Else, StatementTree, IfThen, IfGoto, Modified, For, Next, FnEnd, Data, Dim, DimFile, Def, Let, Result, Print, Input, InputLine, Read, Restore, Goto, Gosub, Return, OnGoto, OnGosub, OnErrorGoto, Resume, Stop, End, Chain, Sleep, Open, Close, Get, Put, Unlock, Field, Lset, Rset, Kill, Rename, LineTree}
+use Rattle.basic_tree.specs.Trees.{ClauseTree, LineClause, StatementClause, ElseTree, NoElse, Else, StatementTree, IfThen, IfGoto, Modified, For, Next, FnEnd, Data, Dim, DimFile, Def, Let, Result, Print, Input, InputLine, Read, Restore, Goto, Gosub, Return, OnGoto, OnGosub, OnErrorGoto, Resume, Stop, End, Chain, Sleep, Open, Close, Get, Put, Unlock, Field, Lset, Rset, Kill, Rename, LineTree}
 use Rattle.basic_tree.specs.SpellingExpressions.{want_of}
-use Rattle.basic_tree.specs.SpellingPieces.{Piece, Fixed, Expression, NameOf, Holds, pieces_steps, ArePieces, key, sign_of, opening, closing, number, text, line, line_or_zero, bound, target, perhaps, optional, each, many}
+use Rattle.basic_tree.specs.SpellingPieces.{Piece, Fixed, NameOf, Holds, pieces_steps, ArePieces, key, sign_of, opening, closing, number, text, line, line_or_zero, bound, target, perhaps, optional, each, many}
 use Rattle.basic_tree.specs.SpellingParts.{shape, file_shape, printed, print_item, channel, print_channel, is_parted, channel_and_comma, prompt, is_one, range, modifier, parameters, value, kind_of_first, chain_line, open_for, option_of, close_channel, field_part}
 
 -- ---- where a statement may stand

@@ -1,5 +1,6 @@
 //! What a user relies on, as laws over the definitions: each is the contract of a function that does nothing.
 
+ghost use Rattle.basic_tree.specs.GrammarPlaces.{OneTree};
 ghost use Rattle.basic_tree.specs.TokenLaws.{TokensAreSlices, BlanksMoveTokens, BlanksSeparateTokens, LongestIsTaken};
 
 /// The tokens of a line are slices of it, whose starts rise and of which no two overlap.
@@ -20,4 +21,9 @@ pub fn longest_is_taken()
 /// A blank where a token starts changes no token's sort and bytes.
 pub fn blanks_separate_tokens()
     ensures { BlanksSeparateTokens }
+{}
+
+/// No words are two expressions, whatever kinds are wanted.
+pub fn one_tree()
+    ensures { OneTree }
 {}

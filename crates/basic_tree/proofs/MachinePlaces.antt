@@ -1,0 +1,90 @@
+-- Where the machine stops: some expression begins with what it passed, and none goes on with the word that it refused.
+use Rattle.std.proofs.Common.{subst, ◌≡◌, ℕ, zero, suc, ◌+◌, List, [], ◌∷◌, ◌++◌, length, Some, None, Ok, Err, refl, sym, ap, ◌∙◌, append_assoc, arith}
+use Rattle.std.proofs.lemmas.List.{append-nil}
+use Rattle.basic_tree.specs.declared.kinds.Want.{Want}
+use Rattle.basic_tree.specs.SpellingWords.{Word, words, most_levels}
+use Rattle.basic_tree.specs.SpellingExpressions.{steps_of, IsExpr}
+use Rattle.basic_tree.specs.GrammarPlaces.{Begins}
+use Rattle.basic_tree.specs.GrammarStack.{Term, Values, top, Symbol, Level, loosest}
+use Rattle.basic_tree.specs.GrammarRun.{Turn, Next, Ended, Stuck, Deep, turn, Wrong, TooDeep, Outcome, turned, run}
+use Rattle.basic_tree.proofs.MachineSpelled.{Spelled, fill}
+use Rattle.basic_tree.proofs.MachineLeads.{words_append}
+use Rattle.basic_tree.proofs.MachineComplete.{depth_of}
+use Rattle.basic_tree.proofs.MachineForms.{taken_whole}
+use Rattle.basic_tree.specs.Trees.{Tree}
+use Rattle.basic_tree.proofs.MachineTurns.{ends, TurnBack, end_back, turn_back}
+use Rattle.basic_tree.proofs.MachinePasses.{left, left_short, Further, turn_more, passes}
+
+-- some expression begins with the words that were passed
+pub viable : (w : Want) (p r : List Word) → left (run most_levels (p ++ r) (Level loosest w ∷ []) []) ≡ r → Begins w p
+viable w p r h =
+    let at = passes p r most_levels (Level loosest w ∷ []) [] h in
+    let f = fill at.1 at.2 in
+    let s = at.3.spells f.0 f.1 f.2 in
+    let same = ap (λ x. x ++ words f.0) (sym at.3.spelled) ∙ sym (words_append at.3.steps f.0) ∙ ap (λ x. words x) (s.2 ∙ ap (λ x. steps_of s.0 ++ x) s.4.0 ∙ append-nil (steps_of s.0)) in
+    (words f.0, s.0, record { tree = s.3.tree; kind = s.3.kind; spelling = same })
+
+-- a word is refused, or all that was expected has ended, whatever the levels
+stops : (d : ℕ) (c : Word) (r : List Word) (n : ℕ) (k : List Symbol) (vs : Values) → left (run n (c ∷ r) k vs) ≡ c ∷ r → (run n (c ∷ r) k vs ≡ Err (TooDeep (c ∷ r)) → ⊥) → (q : List Word) → left (run (n + d) (c ∷ q) k vs) ≡ c ∷ q
+unfolding run
+stops d c r n k vs h not_deep q = go (turn k n vs (Some c)) (turn_more k n d vs (Some c)) h not_deep where
+  go : (x : Turn) → Further d x (turn k (n + d) vs (Some c)) → left (turned x (c ∷ r) (λ m vs' k'. run m r k' vs')) ≡ c ∷ r → (turned x (c ∷ r) (λ m vs' k'. run m r k' vs') ≡ Err (TooDeep (c ∷ r)) → ⊥) → left (turned (turn k (n + d) vs (Some c)) (c ∷ q) (λ m vs' k'. run m q k' vs')) ≡ c ∷ q
+  go (Next m a b) y l nd = absurd (omega (arith, ap length l, left_short r m b a))
+  go (Ended u) y l nd = rw y refl
+  go Stuck y l nd = rw y refl
+  go Deep y l nd = absurd (nd refl)
+
+-- nothing that goes on with that word is taken whole, with any levels
+pub goes_no_further : (d : ℕ) (p : List Word) (c : Word) (r : List Word) (n : ℕ) (k : List Symbol) (vs : Values) → left (run n (p ++ c ∷ r) k vs) ≡ c ∷ r → (run n (p ++ c ∷ r) k vs ≡ Err (TooDeep (c ∷ r)) → ⊥) → (q : List Word) → left (run (n + d) (p ++ c ∷ q) k vs) ≡ c ∷ q
+goes_no_further d p c r n k vs h nd q =
+    let at = passes p (c ∷ r) n k vs h in
+    let none : n + 0 ≡ n = omega arith in
+    let left_over : at.0 + 0 ≡ at.0 = omega arith in
+    let here = ap (λ i. run i (p ++ c ∷ r) k vs) (sym none) ∙ at.3.runs 0 (c ∷ r) ∙ ap (λ i. run i (c ∷ r) at.1 at.2) left_over in
+    ap left (at.3.runs d (c ∷ q)) ∙ stops d c r at.0 at.1 at.2 (ap left (sym here) ∙ h) (λ e. nd (here ∙ e)) q
+
+-- no expression begins with the words that were passed and the one that was refused
+pub no_more : (w : Want) (p : List Word) (c : Word) (r : List Word) → left (run most_levels (p ++ c ∷ r) (Level loosest w ∷ []) []) ≡ c ∷ r → (run most_levels (p ++ c ∷ r) (Level loosest w ∷ []) [] ≡ Err (TooDeep (c ∷ r)) → ⊥) → Begins w (p ++ c ∷ []) → ⊥
+no_more w p c r h nd b =
+    let d = depth_of b.1 in
+    let whole = taken_whole (most_levels + d) w ((p ++ c ∷ []) ++ b.0) b.1 b.2 (omega arith) in
+    let further = goes_no_further d p c r most_levels (Level loosest w ∷ []) [] h nd b.0 in
+    let same : c ∷ b.0 ≡ [] = sym further ∙ ap (λ x. left (run (most_levels + d) x (Level loosest w ∷ []) [])) (sym (append_assoc p (c ∷ []) b.0)) ∙ ap left whole in
+    absurd cc
+
+-- what was taken has been spelled, where the machine ends
+abbrev values : Outcome → Values
+values (Ok x) = x.0
+values (Err e) = []
+
+ended : (r : List Word) (n : ℕ) (k : List Symbol) (vs u : Values) → run n r k vs ≡ Ok (u, r) → (c : ℕ) × Spelled k vs (ends c []) u
+unfolding run
+ended [] n k vs u h = go (turn k n vs None) refl h where
+  go : (x : Turn) → turn k n vs None ≡ x → turned x [] (λ m vs' k'. Err (Wrong [])) ≡ Ok (u, []) → (c : ℕ) × Spelled k vs (ends c []) u
+  go (Next m a b) e l = absurd cc
+  go (Ended v) e l = let same : v ≡ u = ap values l in let s = subst (λ y. TurnBack k n vs None y) e (end_back k n vs) in (s.0, subst (λ x. Spelled k vs (ends s.0 []) x) same s.1)
+  go Stuck e l = absurd cc
+  go Deep e l = absurd cc
+ended (c ∷ r) n k vs u h = go (turn k n vs (Some c)) refl h where
+  go : (x : Turn) → turn k n vs (Some c) ≡ x → turned x (c ∷ r) (λ m vs' k'. run m r k' vs') ≡ Ok (u, c ∷ r) → (i : ℕ) × Spelled k vs (ends i []) u
+  go (Next m a b) e l = absurd (omega (arith, ap (λ o. length (left o)) l, left_short r m b a))
+  go (Ended v) e l = let same : v ≡ u = ap values l in let s = subst (λ y. TurnBack k n vs (Some c) y) e (turn_back k n vs c) in (s.0, subst (λ x. Spelled k vs (ends s.0 []) x) same s.1)
+  go Stuck e l = absurd cc
+  go Deep e l = absurd cc
+
+words_of_ends : (c : ℕ) → words (ends c []) ≡ []
+words_of_ends zero = refl
+words_of_ends (suc c) = words_of_ends c
+
+-- where the machine ends, the words that it passed are an expression, with the tree that it made
+pub read : (w : Want) (p r : List Word) (t : Tree) → run most_levels (p ++ r) (Level loosest w ∷ []) [] ≡ Ok (Term t ∷ [], r) → IsExpr w p t
+read w p r t h =
+    let at = passes p r most_levels (Level loosest w ∷ []) [] (ap left h) in
+    let none : most_levels + 0 ≡ most_levels = omega arith in
+    let left_over : at.0 + 0 ≡ at.0 = omega arith in
+    let here = ap (λ i. run i (p ++ r) (Level loosest w ∷ []) []) (sym none) ∙ at.3.runs 0 r ∙ ap (λ i. run i r at.1 at.2) left_over in
+    let e = ended r at.0 at.1 at.2 (Term t ∷ []) (sym here ∙ h) in
+    let s = at.3.spells (ends e.0 []) (Term t ∷ []) e.1 in
+    let same : s.0 ≡ t = ap top s.4.1 in
+    let spelling = sym at.3.spelled ∙ sym (append-nil (words at.3.steps)) ∙ ap (λ x. words at.3.steps ++ x) (sym (words_of_ends e.0)) ∙ sym (words_append at.3.steps (ends e.0 [])) ∙ ap (λ x. words x) (s.2 ∙ ap (λ x. steps_of s.0 ++ x) s.4.0 ∙ append-nil (steps_of s.0)) in
+    subst (λ x. IsExpr w p x) same (record { tree = s.3.tree; kind = s.3.kind; spelling = spelling })
