@@ -13,6 +13,7 @@ pub mod MachineLevels
 pub mod MachineMoves
 pub mod MachinePasses
 pub mod MachinePlaces
+pub mod MachineReads
 pub mod MachineSpelled
 pub mod MachineSteps
 pub mod MachineTrees

@@ -18,11 +18,7 @@ use Rattle.basic_tree.specs.GrammarWords.{operator_of, relation_of, function_of}
 use Rattle.basic_tree.specs.GrammarStack.{Term, Several, Values, with_last, made, others, Action, MakeFunction, MakeNegative, MakePositive, MakeNot, Symbol, Level, More, MoreRelations, Close, Do, Subscripts, Arguments}
 use Rattle.basic_tree.specs.GrammarStarts.{Start, starts, behind, if_takes, more_expected, arguments_expected, function_start, atom, prefixed, signed, negated, side, relations, Rank, Signs, Relations, Nots, Chain, rank_of, ranked, start}
 use Rattle.basic_tree.proofs.MachineSpelled.{Fine, Kept, joined_trees, Spelled}
-
--- a word that opens a level or does not
-abbrev pub taken : Bool → Word → Step
-taken true t = Opens t
-taken false t = Plain t
+pub use Rattle.basic_tree.proofs.MachineReads.{taken}
 
 abbrev pub TakesBack : Bool → Symbol → Values → Values → Word → List Symbol → Type 0
 TakesBack opens s vs vs' t more = (k : List Symbol) (q : List Step) (u : Values) → Spelled (more ++ k) vs' q u → Spelled (s ∷ k) vs (taken opens t ∷ q) u

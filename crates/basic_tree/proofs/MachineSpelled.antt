@@ -1,15 +1,18 @@
 -- What the stack still takes, and that each state can be completed.
-use Rattle.std.proofs.Common.{◌≡◌, ℕ, ◌≤◌, Bool, true, false, List, [], ◌∷◌, ◌++◌, refl, sym, arith}
+use Rattle.std.proofs.Common.{◌≡◌, ℕ, ◌≤◌, Bool, true, false, List, [], ◌∷◌, ◌++◌, Option, None, inr, refl, sym, subst, arith}
+use Rattle.basic_tree.specs.declared.names.Name.{Name}
 use Rattle.std.proofs.lemmas.List.{append-nil}
 use Rattle.basic_tree.specs.declared.tokens.Sign.TheVariants as sign
 use Rattle.basic_tree.specs.declared.expressions.Relation.TheVariants as relation
 use Rattle.basic_tree.specs.declared.kinds.Want.{Want}
 use Rattle.basic_tree.specs.declared.kinds.Want.TheVariants as want
 use Rattle.basic_tree.specs.SpellingWords.{Word, Punctuation, Named, FnNamed, Number, Quotation, Step, Plain, Opens, Closes}
-use Rattle.basic_tree.specs.Trees.{Tree, Literal, Quoted, Variable, Call, Comparison, Trees, NoTrees, AndTrees}
+use Rattle.basic_tree.specs.Trees.{Tree, Literal, Quoted, Variable, Call, Comparison, Trees, NoTrees, AndTrees, ModifierTree, LineClause, StatementClause, StatementTree}
 use Rattle.basic_tree.specs.SpellingExpressions.{mark, steps_of, more_steps, is_text, Fits, level_of, is_exponent, IsTree, AreTrees}
 use Rattle.basic_tree.specs.GrammarTables.{relation_level}
-use Rattle.basic_tree.specs.GrammarStack.{Term, Several, Values, top, several, below, made, others, Symbol, Level, More, MoreRelations, Exponent, Expect, Opening, Close, Do, Subscripts, SecondSubscript, Arguments, MoreArguments}
+use Rattle.basic_tree.specs.GrammarStack.{Value, Term, Several, Stated, Parsed, Values, top, several, stated, parsed, below, with_statement, made, others, Limit, LineNumber, Bound, Size, within, Form, Made, TakeKey, TakeSign, TakeClosing, IfKey, IfSign, ExprOf, ExprIf, TargetOf, NameIn, FnNameIn, LiteralIn, LiteralIf, QuotedIf, ItemIn, MoreItems, MoreOf, MorePrinted, ClauseIn, Symbol, Level, More, MoreRelations, Exponent, Expect, Opening, Close, Do, Subscripts, SecondSubscript, Arguments, MoreArguments, Go, Await, AwaitClause, Modifiers, OneStatement, MoreStatements}
+use Rattle.basic_tree.specs.SpellingPieces.{pieces_steps, ArePieces, each}
+use Rattle.basic_tree.proofs.MachineReads.{Reads, modifiers_steps, AreModifiers, modified_by, place_pieces, separated}
 
 -- a tree of a level and a wanted kind
 pub record Fine (l : ℕ) (w : Want) (t : Tree) : Type 0 where
@@ -66,6 +69,12 @@ Spelled (Subscripts name ∷ k) vs p u = (t : Tree) × (g : List Step) × (r : L
 Spelled (SecondSubscript ∷ k) vs p u = (more : Trees) × (g : List Step) × (r : List Step) × (p ≡ g ++ r) × Listed g more × IsSecond more × Spelled k (Several (joined_trees (several vs) more) ∷ below vs) r u
 Spelled (Arguments name ∷ k) vs p u = (t : Tree) × (g : List Step) × (r : List Step) × (p ≡ g ++ r) × Led (FnNamed name) name.text g t × Spelled k (Term t ∷ vs) r u
 Spelled (MoreArguments ∷ k) vs p u = (more : Trees) × (g : List Step) × (r : List Step) × (p ≡ g ++ r) × Listed g more × Spelled k (Several (joined_trees (several vs) more) ∷ below vs) r u
+Spelled (Go f ∷ k) vs p u = (g : List Step) × (v : Value) × (r : List Step) × (p ≡ g ++ r) × Reads f g v × Spelled k (v ∷ vs) r u
+Spelled (Await h ∷ k) vs p u = (g : List Step) × (v : Value) × (r : List Step) × (p ≡ g ++ r) × Reads (h (top vs)) g v × Spelled k (v ∷ below vs) r u
+Spelled (AwaitClause h ∷ k) vs p u = (g : List Step) × (v : Value) × (r : List Step) × (p ≡ g ++ r) × Reads (h (StatementClause (stated vs))) g v × Spelled k (v ∷ below vs) r u
+Spelled (Modifiers ∷ k) vs p u = (ms : List ModifierTree) × (r : List Step) × (p ≡ modifiers_steps ms ++ r) × AreModifiers ms × Spelled k (Stated (modified_by (stated vs) ms) ∷ below vs) r u
+Spelled (OneStatement ∷ k) vs p u = (s : Option StatementTree) × (r : List Step) × (p ≡ pieces_steps (place_pieces s) ++ r) × ArePieces (place_pieces s) × Spelled k (with_statement s vs) r u
+Spelled (MoreStatements ∷ k) vs p u = (ss : List (Option StatementTree)) × (r : List Step) × (p ≡ pieces_steps (each separated ss) ++ r) × ArePieces (each separated ss) × Spelled k (Parsed (parsed vs ++ ss) ∷ below vs) r u
 
 -- ---- each state can be completed
 
@@ -90,6 +99,52 @@ keep true a = go (is_text a) refl where
   go false e = (a, [], as_is relation_level a, e)
   go true e = (Comparison a relation.Equal (Quoted []), mark sign.Equal ∷ Plain (Quotation []) ∷ [], record { spelled = refl; tree = λ h w. (h, tt, w, omega arith, sym e); within = λ w. omega arith }, refl)
 
+-- ---- forms
+
+pub some_name : Want → Name
+some_name want.Text = record { letter = 65; digit = None; text = true }
+some_name w = record { letter = 65; digit = None; text = false }
+
+some_fits : (w : Want) → Fits w (Variable (some_name w))
+unfolding some_name
+some_fits want.Number = refl
+some_fits want.Text = refl
+some_fits want.Either = tt
+
+pub some_literal : Limit → ℕ
+some_literal LineNumber = 1
+some_literal Bound = 1
+some_literal Size = 2
+
+some_within : (limit : Limit) → within limit (some_literal limit) ≡ true
+unfolding some_literal lib.Count.ones
+some_within LineNumber = refl
+some_within Bound = refl
+some_within Size = refl
+
+pub fill_form : (f : Form) → (p : List Step) × (v : Value) × Reads f p v
+fill_form (Made v) = ([], v, (refl, refl))
+fill_form (TakeKey opens k f) = let h = fill_form f in (_, h.1, (h.0, refl, h.2))
+fill_form (TakeSign opens s f) = let h = fill_form f in (_, h.1, (h.0, refl, h.2))
+fill_form (TakeClosing f) = let h = fill_form f in (_, h.1, (h.0, refl, h.2))
+fill_form (IfKey opens k f h) = let x = fill_form h in (x.0, x.1, inr x.2)
+fill_form (IfSign opens s f h) = let x = fill_form h in (x.0, x.1, inr x.2)
+fill_form (ExprOf w g) = let h = fill_form (g (simplest w)) in (_, h.1, (simplest w, h.0, refl, (simplest_fine 0 w).tree, (simplest_fine 0 w).kind, h.2))
+fill_form (ExprIf test w g h) = let x = fill_form h in (x.0, x.1, inr x.2)
+fill_form (TargetOf w g) = let h = fill_form (g (Variable (some_name w))) in (_, h.1, (Variable (some_name w), h.0, refl, tt, some_fits w, refl, h.2))
+fill_form (NameIn w g) = let h = fill_form (g (some_name w)) in (_, h.1, (some_name w, h.0, refl, some_fits w, h.2))
+fill_form (FnNameIn g) = let h = fill_form (g (some_name want.Number)) in (_, h.1, (some_name want.Number, h.0, refl, h.2))
+fill_form (LiteralIn limit g) = let h = fill_form (g (some_literal limit)) in (_, h.1, (some_literal limit, h.0, refl, some_within limit, h.2))
+fill_form (LiteralIf limit g h) = let x = fill_form h in (x.0, x.1, inr x.2)
+fill_form (QuotedIf g h) = let x = fill_form h in (x.0, x.1, inr x.2)
+fill_form (ItemIn g) = let h = fill_form (g []) in (_, h.1, ([], h.0, refl, h.2))
+fill_form (MoreItems items g) = let h = fill_form (g items) in (h.0, h.1, ([], h.0, refl, subst (λ x. Reads (g x) h.0 h.1) (sym (append-nil items)) h.2))
+fill_form (MoreOf s items g) = let h = fill_form (g items) in (h.0, h.1, ([], h.0, refl, tt, subst (λ x. Reads (g x) h.0 h.1) (sym (append-nil items)) h.2))
+fill_form (MorePrinted c items) = ([], _, ([], None, refl, tt, refl))
+fill_form (ClauseIn g) = let h = fill_form (g (LineClause 1)) in (_, h.1, (LineClause 1, h.0, refl, (refl, tt), h.2))
+
+-- ---- whole stacks
+
 pub fill : (k : List Symbol) (vs : Values) → (p : List Step) × (u : Values) × Spelled k vs p u
 fill [] vs = ([], vs, (refl, refl))
 fill (Level l w ∷ k) vs = let f = fill k (Term (simplest w) ∷ vs) in (steps_of (simplest w) ++ f.0, f.1, (simplest w, f.0, refl, simplest_fine l w, f.2))
@@ -104,3 +159,9 @@ fill (Subscripts name ∷ k) vs = let f = fill k (Term (Variable name) ∷ vs) i
 fill (SecondSubscript ∷ k) vs = let f = fill k (Several (joined_trees (several vs) NoTrees) ∷ below vs) in (f.0, f.1, (NoTrees, [], f.0, refl, record { spelled = refl; trees = tt }, tt, f.2))
 fill (Arguments name ∷ k) vs = let f = fill k (Term (Call name NoTrees) ∷ vs) in (f.0, f.1, (Call name NoTrees, [], f.0, refl, record { spelled = refl; tree = tt; level = refl; kind = refl; exponent = refl }, f.2))
 fill (MoreArguments ∷ k) vs = let f = fill k (Several (joined_trees (several vs) NoTrees) ∷ below vs) in (f.0, f.1, (NoTrees, [], f.0, refl, record { spelled = refl; trees = tt }, f.2))
+fill (Go f ∷ k) vs = let h = fill_form f in let x = fill k (h.1 ∷ vs) in (h.0 ++ x.0, x.1, (h.0, h.1, x.0, refl, h.2, x.2))
+fill (Await g ∷ k) vs = let h = fill_form (g (top vs)) in let x = fill k (h.1 ∷ below vs) in (h.0 ++ x.0, x.1, (h.0, h.1, x.0, refl, h.2, x.2))
+fill (AwaitClause g ∷ k) vs = let h = fill_form (g (StatementClause (stated vs))) in let x = fill k (h.1 ∷ below vs) in (h.0 ++ x.0, x.1, (h.0, h.1, x.0, refl, h.2, x.2))
+fill (Modifiers ∷ k) vs = let x = fill k (Stated (stated vs) ∷ below vs) in (x.0, x.1, ([], x.0, refl, tt, x.2))
+fill (OneStatement ∷ k) vs = let x = fill k (with_statement None vs) in (x.0, x.1, (None, x.0, refl, tt, x.2))
+fill (MoreStatements ∷ k) vs = let x = fill k (Parsed (parsed vs ++ []) ∷ below vs) in (x.0, x.1, ([], x.0, refl, tt, x.2))

@@ -1,6 +1,8 @@
 -- What each expected symbol does with the word that follows, or at the end.
-use Rattle.std.specs.Prelude.{ℕ, ◌||◌, ◌&&◌, ◌==◌, not, List, [], ◌∷◌, Bool, true, false, cond, Option, Some, None, option_and_then}
+use Rattle.std.specs.Prelude.{ℕ, ◌||◌, ◌&&◌, ◌==◌, not, List, [], ◌∷◌, ◌++◌, Bool, true, false, cond, Option, Some, None, option_and_then}
 use Rattle.basic_tree.specs.declared.names.Name.{Name}
+use Rattle.basic_tree.specs.declared.tokens.Keyword.{Keyword}
+use Rattle.basic_tree.specs.declared.tokens.Keyword.TheVariants as keyword
 use Rattle.basic_tree.specs.declared.tokens.Sign.{Sign}
 use Rattle.basic_tree.specs.declared.tokens.Sign.TheVariants as sign
 use Rattle.basic_tree.specs.declared.expressions.Operator.{Operator}
@@ -8,13 +10,16 @@ use Rattle.basic_tree.specs.declared.expressions.Operator.TheVariants as operato
 use Rattle.basic_tree.specs.declared.expressions.Relation.{Relation}
 use Rattle.basic_tree.specs.declared.kinds.Want.{Want}
 use Rattle.basic_tree.specs.declared.kinds.Want.TheVariants as want
-use Rattle.basic_tree.specs.SpellingWords.{Word, Punctuation}
-use Rattle.basic_tree.specs.Trees.{Variable, Call, NoTrees}
+use Rattle.basic_tree.specs.SpellingWords.{Word, Key, Punctuation, Named, FnNamed, Number, Quotation}
+use Rattle.basic_tree.specs.SpellingWords.{Item as ItemOf}
+use Rattle.basic_tree.specs.Trees.{Tree, Variable, Call, NoTrees, PrintedTree, Value, Tab, PrintItemTree, PrintChannelTree, ClauseTree, LineClause, StatementClause, Print}
 use Rattle.basic_tree.specs.GrammarTables.{sign_level, not_level, operator_level, joins_texts}
-use Rattle.basic_tree.specs.GrammarWords.{operator_of, relation_of, is_same_sign}
+use Rattle.basic_tree.specs.GrammarWords.{operator_of, relation_of, is_same_sign, is_same_keyword}
 use Rattle.basic_tree.specs.SpellingExpressions.{is_text, want_of}
-use Rattle.basic_tree.specs.GrammarStack.{Arguments, Close, Collect, Do, Expect, Exponent, Level, MakeCall, MakeComparison, MakeElement, MakeOperation, More, MoreArguments, MoreRelations, Opening, SecondSubscript, Several, Subscripts, Symbol, Term, Values, kept, kept_several, loosest, made, others, top}
-use Rattle.basic_tree.specs.GrammarStarts.{Start, atom, signed, start}
+use Rattle.basic_tree.specs.GrammarStack.{AddStatement, Arguments, Await, AwaitClause, ClauseIn, Close, Collect, Do, Expect, Exponent, ExprIf, ExprOf, FnNameIn, Form, Go, IfKey, IfSign, Item, ItemIn, Level, Limit, LineNumber, LiteralIf, LiteralIn, Made, MakeCall, MakeComparison, MakeElement, MakeOperation, Modifiers, Modify, More, MoreArguments, MoreItems, MoreOf, MorePrinted, MoreRelations, MoreStatements, NameIn, OneStatement, Opening, QuotedIf, SecondSubscript, Sequence, Several, Stated, Subscripts, Symbol, TakeClosing, TakeKey, TakeSign, TargetOf, Term, Values, below, kept, kept_parsed, kept_several, kept_stated, loosest, made, others, stated, top, with_statement, within}
+use Rattle.basic_tree.specs.GrammarForms.{begins_value, item_form, has_room, printed_form}
+use Rattle.basic_tree.specs.GrammarSentences.{Class, Choice, Head, Simple, Sentence, sentence_of, modifier_of}
+use Rattle.basic_tree.specs.GrammarStarts.{Start, takes, atom, signed, start}
 
 -- ---- what a symbol does where a word follows, or the end
 
@@ -96,6 +101,134 @@ abbrev pub more_arguments : Values → Option Word → Move
 more_arguments vs (Some (Punctuation sign.Comma)) = Takes false vs (Level loosest want.Either ∷ Do Collect ∷ MoreArguments ∷ [])
 more_arguments vs other = Skips (kept_several vs)
 
+-- ---- statements
+
+-- what is expected behind what was taken; nothing is skipped there
+abbrev pub then_also : List Symbol → Move → Move
+then_also more (Takes opens vs ks) = Takes opens vs (ks ++ more)
+then_also more other = Refuses
+
+abbrev pub take_key : Bool → Keyword → Values → Option Word → List Symbol → Move → Move
+take_key opens k vs (Some (Key l)) more else_move = cond (is_same_keyword k l) (Takes opens vs more) else_move
+take_key opens k vs other more else_move = else_move
+
+abbrev pub take_sign : Bool → Sign → Values → Option Word → List Symbol → Move → Move
+take_sign opens s vs (Some (Punctuation t)) more else_move = cond (is_same_sign s t) (Takes opens vs more) else_move
+take_sign opens s vs other more else_move = else_move
+
+abbrev pub expression : Want → (Tree → Form) → Values → Option Word → Move
+expression w g vs o = then_also (Await g ∷ []) (begin loosest w vs o)
+
+abbrev pub expression_if : (Word → Bool) → Want → (Tree → Form) → Values → Option Word → Move → Move
+expression_if test w g vs None else_move = else_move
+expression_if test w g vs (Some t) else_move = cond (test t) (expression w g vs (Some t)) else_move
+
+abbrev pub target : Want → (Tree → Form) → Values → Option Word → Move
+target w g vs (Some (Named name)) = cond (takes w name.text) (Takes false vs (Subscripts name ∷ Await g ∷ [])) Refuses
+target w g vs other = Refuses
+
+abbrev pub name_in : Want → (Name → Form) → Values → Option Word → Move
+name_in w g vs (Some (Named name)) = cond (takes w name.text) (Takes false vs (Go (g name) ∷ [])) Refuses
+name_in w g vs other = Refuses
+
+abbrev pub fn_name_in : (Name → Form) → Values → Option Word → Move
+fn_name_in g vs (Some (FnNamed name)) = Takes false vs (Go (g name) ∷ [])
+fn_name_in g vs other = Refuses
+
+abbrev pub literal_in : Limit → (ℕ → Form) → Values → Option Word → Move → Move
+literal_in limit g vs (Some (Number n)) else_move = cond (within limit n) (Takes false vs (Go (g n) ∷ [])) else_move
+literal_in limit g vs other else_move = else_move
+
+abbrev pub quoted_if : (List ℕ → Form) → Values → Option Word → Move → Move
+quoted_if g vs (Some (Quotation text)) else_move = Takes false vs (Go (g text) ∷ [])
+quoted_if g vs other else_move = else_move
+
+abbrev pub item_in : (List ℕ → Form) → Values → Option Word → Move → Move
+item_in g vs (Some (ItemOf item)) else_move = Takes false vs (Go (g item) ∷ [])
+item_in g vs other else_move = else_move
+
+abbrev pub more_of_list : Sequence → List Item → (List Item → Form) → Values → Option Word → Move → Move
+more_of_list s items g vs (Some (Punctuation sign.Comma)) else_move =
+    cond (has_room s items) (Takes false vs (Go (item_form s (λ item. MoreOf s (items ++ item ∷ []) g)) ∷ [])) else_move
+more_of_list s items g vs other else_move = else_move
+
+-- behind TAB
+abbrev pub tab_form : Option PrintChannelTree → List PrintItemTree → Form
+tab_form c items = TakeSign true sign.Opening (ExprOf want.Number (λ t. TakeClosing (printed_form c items (Tab t))))
+
+abbrev pub more_printed : Option PrintChannelTree → List PrintItemTree → Values → Option Word → Move
+more_printed c items vs o =
+    take_key false keyword.Tab vs o (Go (tab_form c items) ∷ [])
+    (expression_if begins_value want.Either (λ t. printed_form c items (Value t)) vs o (Skips (Stated (Print c items None) ∷ vs)))
+
+-- what a form does, given what a clause does
+abbrev pub form_move_with : ((ClauseTree → Form) → Values → Option Word → Move) → Form → Values → Option Word → Move
+form_move_with clause (Made v) vs o = Skips (v ∷ vs)
+form_move_with clause (TakeKey opens k f) vs o = take_key opens k vs o (Go f ∷ []) Refuses
+form_move_with clause (TakeSign opens s f) vs o = take_sign opens s vs o (Go f ∷ []) Refuses
+form_move_with clause (TakeClosing f) vs o = take_sign false sign.Closing vs o (Close ∷ Go f ∷ []) Refuses
+form_move_with clause (IfKey opens k f h) vs o = take_key opens k vs o (Go f ∷ []) (form_move_with clause h vs o)
+form_move_with clause (IfSign opens s f h) vs o = take_sign opens s vs o (Go f ∷ []) (form_move_with clause h vs o)
+form_move_with clause (ExprOf w g) vs o = expression w g vs o
+form_move_with clause (ExprIf test w g h) vs o = expression_if test w g vs o (form_move_with clause h vs o)
+form_move_with clause (TargetOf w g) vs o = target w g vs o
+form_move_with clause (NameIn w g) vs o = name_in w g vs o
+form_move_with clause (FnNameIn g) vs o = fn_name_in g vs o
+form_move_with clause (LiteralIn limit g) vs o = literal_in limit g vs o Refuses
+form_move_with clause (LiteralIf limit g h) vs o = literal_in limit g vs o (form_move_with clause h vs o)
+form_move_with clause (QuotedIf g h) vs o = quoted_if g vs o (form_move_with clause h vs o)
+form_move_with clause (ItemIn g) vs o = item_in g vs o Refuses
+form_move_with clause (MoreItems items g) vs o = item_in (λ item. MoreItems (items ++ item ∷ []) g) vs o (form_move_with clause (g items) vs o)
+form_move_with clause (MoreOf s items g) vs o = more_of_list s items g vs o (form_move_with clause (g items) vs o)
+form_move_with clause (MorePrinted c items) vs o = more_printed c items vs o
+form_move_with clause (ClauseIn g) vs o = clause g vs o
+
+-- no statement begins with a clause
+abbrev pub no_clause : (ClauseTree → Form) → Values → Option Word → Move
+no_clause g vs o = Refuses
+
+-- what stands behind a statement that is a clause
+abbrev pub behind_clause : (ClauseTree → Form) → Class → Move → Move
+behind_clause g Choice m = then_also (Close ∷ AwaitClause g ∷ []) m
+behind_clause g Head m = Refuses
+behind_clause g Simple m = then_also (Modifiers ∷ Close ∷ AwaitClause g ∷ []) m
+
+abbrev pub clause_sentence : (ClauseTree → Form) → Values → Word → Option Sentence → Move
+clause_sentence g vs t None = Refuses
+clause_sentence g vs t (Some s) = behind_clause g s.class (form_move_with no_clause s.form vs (Some t))
+
+abbrev pub clause_move : (ClauseTree → Form) → Values → Option Word → Move
+clause_move g vs None = Refuses
+clause_move g vs (Some (Number n)) = cond (within LineNumber n) (Takes false vs (Close ∷ Go (g (LineClause n)) ∷ [])) Refuses
+clause_move g vs (Some t) = clause_sentence g vs t (sentence_of t)
+
+abbrev pub form_move : Form → Values → Option Word → Move
+form_move f vs o = form_move_with clause_move f vs o
+
+-- what stands behind a statement of the line
+abbrev pub behind_class : Class → List Symbol
+behind_class Simple = Modifiers ∷ Do AddStatement ∷ []
+behind_class other = Do AddStatement ∷ []
+
+abbrev pub statement_move : Values → Word → Option Sentence → Move
+statement_move vs t None = Skips (with_statement None vs)
+statement_move vs t (Some s) = then_also (behind_class s.class) (form_move s.form vs (Some t))
+
+abbrev pub one_statement : Values → Option Word → Move
+one_statement vs None = Skips (with_statement None vs)
+one_statement vs (Some t) = statement_move vs t (sentence_of t)
+
+abbrev pub modified : Values → Word → Option Form → Move
+modified vs t None = Skips (kept_stated vs)
+modified vs t (Some f) = then_also (Do Modify ∷ Modifiers ∷ Close ∷ []) (form_move f vs (Some t))
+
+abbrev pub modifiers : Values → Option Word → Move
+modifiers vs None = Skips (kept_stated vs)
+modifiers vs (Some t) = modified vs t (modifier_of t)
+
+abbrev pub more_statements : Values → Option Word → Move
+more_statements vs o = take_sign false sign.Colon vs o (OneStatement ∷ MoreStatements ∷ []) (Skips (kept_parsed vs))
+
 abbrev pub move : Symbol → Values → Option Word → Move
 move (Level l w) vs t = begin l w vs t
 move (More l) vs t = more l t (is_text (top vs)) vs
@@ -109,3 +242,9 @@ move (Subscripts name) vs t = subscripts name vs t
 move SecondSubscript vs t = second_subscript vs t
 move (Arguments name) vs t = arguments name vs t
 move MoreArguments vs t = more_arguments vs t
+move (Go f) vs t = form_move f vs t
+move (Await g) vs t = form_move (g (top vs)) (below vs) t
+move (AwaitClause g) vs t = form_move (g (StatementClause (stated vs))) (below vs) t
+move Modifiers vs t = modifiers vs t
+move OneStatement vs t = one_statement vs t
+move MoreStatements vs t = more_statements vs t

@@ -98,3 +98,89 @@ sign_number sign.Different = 20
 
 abbrev pub is_same_sign : Sign → Sign → Bool
 is_same_sign s t = sign_number s == sign_number t
+
+-- a number for each keyword
+abbrev pub keyword_number : Keyword → ℕ
+keyword_number keyword.Abs = 1
+keyword_number keyword.And = 2
+keyword_number keyword.As = 3
+keyword_number keyword.Ascii = 4
+keyword_number keyword.Chain = 5
+keyword_number keyword.Chr = 6
+keyword_number keyword.Close = 7
+keyword_number keyword.ClusterSize = 8
+keyword_number keyword.CvtToNumber = 9
+keyword_number keyword.CvtToText = 10
+keyword_number keyword.Data = 11
+keyword_number keyword.Def = 12
+keyword_number keyword.Dim = 13
+keyword_number keyword.Else = 14
+keyword_number keyword.End = 15
+keyword_number keyword.Eqv = 16
+keyword_number keyword.Erl = 17
+keyword_number keyword.Err = 18
+keyword_number keyword.Error = 19
+keyword_number keyword.Field = 20
+keyword_number keyword.File = 21
+keyword_number keyword.FnEnd = 22
+keyword_number keyword.For = 23
+keyword_number keyword.Get = 24
+keyword_number keyword.Go = 25
+keyword_number keyword.Gosub = 26
+keyword_number keyword.Goto = 27
+keyword_number keyword.If = 28
+keyword_number keyword.Imp = 29
+keyword_number keyword.Input = 30
+keyword_number keyword.Instr = 31
+keyword_number keyword.Kill = 32
+keyword_number keyword.Left = 33
+keyword_number keyword.Len = 34
+keyword_number keyword.Let = 35
+keyword_number keyword.Line = 36
+keyword_number keyword.Lset = 37
+keyword_number keyword.Mid = 38
+keyword_number keyword.Mode = 39
+keyword_number keyword.Name = 40
+keyword_number keyword.Next = 41
+keyword_number keyword.Not = 42
+keyword_number keyword.Num = 43
+keyword_number keyword.Num1 = 44
+keyword_number keyword.On = 45
+keyword_number keyword.Open = 46
+keyword_number keyword.Or = 47
+keyword_number keyword.Output = 48
+keyword_number keyword.Pos = 49
+keyword_number keyword.Print = 50
+keyword_number keyword.Put = 51
+keyword_number keyword.Read = 52
+keyword_number keyword.Record = 53
+keyword_number keyword.RecordSize = 54
+keyword_number keyword.Recount = 55
+keyword_number keyword.Rem = 56
+keyword_number keyword.Restore = 57
+keyword_number keyword.Resume = 58
+keyword_number keyword.Return = 59
+keyword_number keyword.Right = 60
+keyword_number keyword.Rset = 61
+keyword_number keyword.Sgn = 62
+keyword_number keyword.Sleep = 63
+keyword_number keyword.Space = 64
+keyword_number keyword.Step = 65
+keyword_number keyword.Stop = 66
+keyword_number keyword.StringOf = 67
+keyword_number keyword.Sub = 68
+keyword_number keyword.Swap = 69
+keyword_number keyword.Sys = 70
+keyword_number keyword.Tab = 71
+keyword_number keyword.Then = 72
+keyword_number keyword.To = 73
+keyword_number keyword.Unless = 74
+keyword_number keyword.Unlock = 75
+keyword_number keyword.Until = 76
+keyword_number keyword.Val = 77
+keyword_number keyword.While = 78
+keyword_number keyword.Xlate = 79
+keyword_number keyword.Xor = 80
+
+abbrev pub is_same_keyword : Keyword → Keyword → Bool
+is_same_keyword k l = keyword_number k == keyword_number l

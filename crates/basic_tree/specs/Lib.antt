@@ -1,6 +1,8 @@
+pub mod GrammarForms
 pub mod GrammarMachine
 pub mod GrammarPlaces
 pub mod GrammarRun
+pub mod GrammarSentences
 pub mod GrammarStack
 pub mod GrammarStarts
 pub mod GrammarTables
