@@ -2,6 +2,7 @@ mod MachineExamples
 mod PlaceExamples
 mod SpellingExamples
 mod TokenExamples
+pub mod FormLeads
 pub mod FrontLemmas
 pub mod GapLemmas
 pub mod GapNumberLemmas
