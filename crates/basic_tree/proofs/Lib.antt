@@ -2,7 +2,11 @@ mod MachineExamples
 mod PlaceExamples
 mod SpellingExamples
 mod TokenExamples
+pub mod FormBack
 pub mod FormLeads
+pub mod FormLists
+pub mod SentenceBack
+pub mod StatementSound
 pub mod FrontLemmas
 pub mod GapLemmas
 pub mod GapNumberLemmas

@@ -14,8 +14,10 @@ use Rattle.basic_tree.specs.SpellingWords.{Word, Key, Punctuation, Named, FnName
 use Rattle.basic_tree.specs.Trees.{Tree, Literal, Quoted, FunctionOf, Parenthesized, Negative, Positive, Not, Trees, NoTrees, AndTrees}
 use Rattle.basic_tree.specs.SpellingExpressions.{mark, steps_of, list_steps, more_steps, is_text, Fits, level_of, Fill, IsTree, AreTrees}
 use Rattle.basic_tree.specs.GrammarTables.{sign_level, relation_level, not_level, operator_word, relation_sign, function_keyword, arguments_of, gives_text}
-use Rattle.basic_tree.specs.GrammarWords.{operator_of, relation_of, function_of}
+use Rattle.basic_tree.specs.GrammarWords.{operator_of, relation_of, function_of, sign_number, is_same_sign}
 use Rattle.basic_tree.specs.GrammarStack.{Term, Several, Values, with_last, made, others, Action, MakeFunction, MakeNegative, MakePositive, MakeNot, Symbol, Level, More, MoreRelations, Close, Do, Subscripts, Arguments}
+use Rattle.basic_tree.specs.GrammarMachine.{Move, Takes, Skips, Refuses}
+use Rattle.basic_tree.specs.GrammarMachine.{Closes as Ends}
 use Rattle.basic_tree.specs.GrammarStarts.{Start, starts, behind, if_takes, more_expected, arguments_expected, function_start, atom, prefixed, signed, negated, side, relations, Rank, Signs, Relations, Nots, Chain, rank_of, ranked, start}
 use Rattle.basic_tree.proofs.MachineSpelled.{Fine, Kept, joined_trees, Spelled}
 pub use Rattle.basic_tree.proofs.MachineReads.{taken}
@@ -223,3 +225,33 @@ ranked_back Chain l e w vs t tighter h = start_behind l (suc l) w w vs t (tighte
 pub start_back : (l : ℕ) (w : Want) (vs : Values) (t : Word) → StartBack l w vs t (start l w vs t)
 start_back zero w vs t = atom_back w vs t
 start_back (suc l) w vs t = ranked_back (rank_of (suc l)) l (rank_fact (suc l)) w vs t (λ v. start l v vs t) (λ v. start_back l v vs t)
+
+-- ---- moves
+
+-- what a move of one symbol took, the symbol spells
+abbrev pub MoveBack : Symbol → Values → Option Word → Move → Type 0
+MoveBack s vs None (Takes opens vs' ns) = Unit {0}
+MoveBack s vs (Some t) (Takes opens vs' ns) = TakesBack opens s vs vs' t ns
+MoveBack s vs o (Skips vs') = (k : List Symbol) (q : List Step) (u : Values) → Spelled k vs' q u → Spelled (s ∷ k) vs q u
+MoveBack s vs o (Ends vs') = (k : List Symbol) (q : List Step) (u : Values) → Spelled k vs' q u → Spelled (s ∷ k) vs (Closes ∷ q) u
+MoveBack s vs o Refuses = Unit {0}
+
+-- ---- signs by number
+
+-- the sign with a number
+abbrev sign_from : ℕ → List Sign → Sign
+sign_from n [] = sign.Plus
+sign_from zero (s ∷ ss) = s
+sign_from (suc n) (s ∷ ss) = sign_from n ss
+
+abbrev all_signs : List Sign
+all_signs =
+    sign.Plus ∷ sign.Plus ∷ sign.Minus ∷ sign.Star ∷ sign.Slash ∷ sign.Caret ∷ sign.DoubleStar ∷ sign.Opening ∷ sign.Closing ∷ sign.Comma ∷ sign.Semicolon
+    ∷ sign.Colon ∷ sign.Backslash ∷ sign.Hash ∷ sign.Equal ∷ sign.Same ∷ sign.Less ∷ sign.Greater ∷ sign.LessOrEqual ∷ sign.GreaterOrEqual ∷ sign.Different ∷ []
+
+numbered : (s : Sign) → sign_from (sign_number s) all_signs ≡ s
+numbered sign.Plus = refl
+numbered s = refl
+
+pub same_sign : (s t : Sign) → is_same_sign s t ≡ true → s ≡ t
+same_sign s t h = sym (numbered s) ∙ ap (λ n. sign_from n all_signs) (eqb-true (sign_number s) (sign_number t) h) ∙ numbered t

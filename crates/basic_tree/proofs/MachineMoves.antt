@@ -14,21 +14,15 @@ use Rattle.basic_tree.specs.Trees.{Tree, Variable, Element, Call, Negative, Posi
 use Rattle.basic_tree.specs.SpellingExpressions.{mark, steps_of, more_steps, is_text, Fits, want_of, level_of, is_exponent, IsRight, AreSubscripts, IsTree}
 use Rattle.basic_tree.specs.GrammarTables.{sign_level, relation_level, operator_level, operator_word, joins_texts, relation_sign}
 use Rattle.basic_tree.specs.GrammarWords.{operator_of, relation_of, sign_number, is_same_sign}
-use Rattle.basic_tree.specs.GrammarStack.{Term, Several, Values, top, several, below, kept, kept_several, made, others, Action, MakeOperation, MakeComparison, Symbol, Level, More, MoreRelations, Exponent, Expect, Opening, Close, Do, Subscripts, SecondSubscript, Arguments, MoreArguments}
+use Rattle.basic_tree.specs.GrammarStack.{Term, Several, Values, top, several, below, kept, kept_several, made, others, Action, MakeOperation, MakeComparison, Symbol, Level, More, MoreRelations, Exponent, Expect, Opening, Close, Do, Subscripts, SecondSubscript, Arguments, MoreArguments, Go, Await, AwaitClause, Modifiers, OneStatement, MoreStatements}
+use Rattle.basic_tree.proofs.SentenceBack.{go_back, await_back, await_clause_back, modifiers_back, one_statement_back, more_statements_back}
 use Rattle.basic_tree.specs.GrammarStarts.{Start, atom, signed, start}
 use Rattle.basic_tree.specs.GrammarMachine.{Move, Takes, Skips, Refuses, begun, right_of, joined, more_of, no_relation, related, expect, open_list, subscripts, second_subscript, arguments, more_arguments, move}
 use Rattle.basic_tree.specs.GrammarStack.{with_last}
 use Rattle.basic_tree.specs.GrammarMachine.{Closes as Ends}
 use Rattle.basic_tree.proofs.MachineSpelled.{IsSecond, joined_trees, Spelled, as_is}
+pub use Rattle.basic_tree.proofs.MachineBack.{MoveBack, same_sign}
 use Rattle.basic_tree.proofs.MachineBack.{TakesBack, StartBack, joined-with_last, start_back, atom_back, operator_back, relation_back}
-
--- what a move of one symbol took, the symbol spells
-abbrev pub MoveBack : Symbol → Values → Option Word → Move → Type 0
-MoveBack s vs None (Takes opens vs' ns) = Unit {0}
-MoveBack s vs (Some t) (Takes opens vs' ns) = TakesBack opens s vs vs' t ns
-MoveBack s vs o (Skips vs') = (k : List Symbol) (q : List Step) (u : Values) → Spelled k vs' q u → Spelled (s ∷ k) vs q u
-MoveBack s vs o (Ends vs') = (k : List Symbol) (q : List Step) (u : Values) → Spelled k vs' q u → Spelled (s ∷ k) vs (Closes ∷ q) u
-MoveBack s vs o Refuses = Unit {0}
 
 begun_back : (l : ℕ) (w : Want) (vs : Values) (t : Word) (s : Option Start) → StartBack l w vs t s → MoveBack (Level l w) vs (Some t) (begun s)
 begun_back l w vs t None h = tt
@@ -158,24 +152,6 @@ exponent_back vs other = exponent_atom vs other (atom want.Number vs other) (ato
 
 -- ---- signs, and the ends of levels
 
--- the sign with a number
-abbrev sign_from : ℕ → List Sign → Sign
-sign_from n [] = sign.Plus
-sign_from zero (s ∷ ss) = s
-sign_from (suc n) (s ∷ ss) = sign_from n ss
-
-abbrev all_signs : List Sign
-all_signs =
-    sign.Plus ∷ sign.Plus ∷ sign.Minus ∷ sign.Star ∷ sign.Slash ∷ sign.Caret ∷ sign.DoubleStar ∷ sign.Opening ∷ sign.Closing ∷ sign.Comma ∷ sign.Semicolon
-    ∷ sign.Colon ∷ sign.Backslash ∷ sign.Hash ∷ sign.Equal ∷ sign.Same ∷ sign.Less ∷ sign.Greater ∷ sign.LessOrEqual ∷ sign.GreaterOrEqual ∷ sign.Different ∷ []
-
-numbered : (s : Sign) → sign_from (sign_number s) all_signs ≡ s
-numbered sign.Plus = refl
-numbered s = refl
-
-same_sign : (s t : Sign) → is_same_sign s t ≡ true → s ≡ t
-same_sign s t h = sym (numbered s) ∙ ap (λ n. sign_from n all_signs) (eqb-true (sign_number s) (sign_number t) h) ∙ numbered t
-
 sign_back : (s t : Sign) (vs : Values) (b : Bool) → is_same_sign s t ≡ b → MoveBack (Expect s) vs (Some (Punctuation t)) (cond b (Takes false vs []) Refuses)
 sign_back s t vs true e = λ k q u h. (q, ap (λ x. mark x ∷ q) (sym (same_sign s t e)), h)
 sign_back s t vs false e = tt
@@ -283,3 +259,9 @@ move_back (Subscripts name) vs o = subscripts_back name vs o
 move_back SecondSubscript vs o = second_back vs o
 move_back (Arguments name) vs o = arguments_back name vs o
 move_back MoreArguments vs o = more_arguments_back vs o
+move_back (Go f) vs o = go_back f vs o
+move_back (Await g) vs o = await_back g vs o
+move_back (AwaitClause g) vs o = await_clause_back g vs o
+move_back Modifiers vs o = modifiers_back vs o
+move_back OneStatement vs o = one_statement_back vs o
+move_back MoreStatements vs o = more_statements_back vs o
