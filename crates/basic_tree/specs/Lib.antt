@@ -1,4 +1,5 @@
 pub mod GrammarForms
+pub mod GrammarJudge
 pub mod GrammarMachine
 pub mod GrammarPlaces
 pub mod GrammarRun
@@ -7,6 +8,7 @@ pub mod GrammarStack
 pub mod GrammarStarts
 pub mod GrammarTables
 pub mod GrammarWords
+pub mod LineVerdicts
 pub mod SpellingExpressions
 pub mod SpellingParts
 pub mod SpellingPieces

@@ -1,0 +1,31 @@
+-- The machine's verdict on a line.
+use Rattle.std.specs.Prelude.{List, [], ◌∷◌, Ok, Err}
+use Rattle.basic_tree.specs.declared.tokens.Cause.TheVariants as cause
+use Rattle.basic_tree.specs.Tokens.{Reading, tokens_of}
+use Rattle.basic_tree.specs.SpellingWords.{Word, words_of, most_levels}
+use Rattle.basic_tree.specs.GrammarStack.{Values, Parsed, Symbol, OneStatement, MoreStatements}
+use Rattle.basic_tree.specs.GrammarRun.{Wrong, TooDeep, Outcome, run}
+use Rattle.basic_tree.specs.LineVerdicts.{Verdict, HasTree, RefusedFor, Judge}
+
+-- what is expected of a line, and the statements at its start
+abbrev pub line_symbols : List Symbol
+line_symbols = OneStatement ∷ MoreStatements ∷ []
+
+abbrev pub line_values : Values
+line_values = Parsed [] ∷ []
+
+abbrev pub outcome_verdict : Outcome → Verdict
+outcome_verdict (Ok (values, [])) = HasTree
+outcome_verdict (Ok (values, word ∷ words)) = RefusedFor cause.Syntax
+outcome_verdict (Err (Wrong words)) = RefusedFor cause.Syntax
+outcome_verdict (Err (TooDeep words)) = RefusedFor cause.TooDeep
+
+unfoldable pub verdict_of : List Word → Verdict
+verdict_of ws = outcome_verdict (run most_levels ws line_symbols line_values)
+
+abbrev pub reading_verdict : Reading → Verdict
+reading_verdict (Err refusal) = RefusedFor refusal.cause
+reading_verdict (Ok tokens) = verdict_of (words_of tokens)
+
+abbrev pub judge_of : Judge
+judge_of line = reading_verdict (tokens_of line)
