@@ -1,30 +1,25 @@
 -- Words one by one.
-use Rattle.std.proofs.Common.{◌≡◌, ℕ, suc, ◌+◌, ◌<◌, ◌≤◌, List, [], ◌∷◌, ◌++◌, length, get_or, take, drop, Some, refl, sym, ap, ◌∙◌, arith, add-one, drop-cons}
+use Rattle.std.proofs.Common.{◌≡◌, ℕ, ◌+◌, ◌<◌, List, [], ◌∷◌, ◌++◌, length, get_or, take, drop, Some, refl, ap, ◌∙◌, add-one, drop-cons}
 use Rattle.std.specs.Prelude.{All, slice_get}
 use Rattle.std.proofs.Math.Seq.{take-suc}
 use Rattle.std.proofs.lemmas.List.{map-append}
-use Rattle.std.proofs.lemmas.List.Elements.{All-append, All-get_or}
 use Rattle.std.proofs.lemmas.Option.{slice_get_within, get_or_from_slice_get, slice_get-map}
 use Rattle.basic_tree.specs.Tokens.{Lexeme}
-use Rattle.basic_tree.specs.SpellingWords as spelling
+use Rattle.basic_tree.specs.SpellingWords.{word_of, words_of}
 use Rattle.basic_expr.specs.declared.words.Word.{Word}
 use Rattle.basic_expr.specs.Views.{as_word, as_words, IsShort}
 
 -- one token more
-pub words_more : (tokens : List Lexeme) (k : ℕ) (token : Lexeme) → slice_get tokens k ≡ Some token → spelling.words_of (take (k + 1) tokens) ≡ spelling.words_of (take k tokens) ++ spelling.word_of token ∷ []
+pub words_more : (tokens : List Lexeme) (k : ℕ) (token : Lexeme) → slice_get tokens k ≡ Some token → words_of (take (k + 1) tokens) ≡ words_of (take k tokens) ++ word_of token ∷ []
 words_more tokens k token e =
     let here : get_or tokens k token ≡ token = get_or_from_slice_get tokens k token token e in
     let within : k < length tokens = slice_get_within tokens k token e in
-    let more : take (k + 1) tokens ≡ take k tokens ++ token ∷ [] =
-        rw (add-one, take-suc tokens k token within, here) refl in
-    ap spelling.words_of more ∙ map-append spelling.word_of (take k tokens) (token ∷ [])
+    let more : take (k + 1) tokens ≡ take k tokens ++ token ∷ [] = rw (add-one, take-suc tokens k token within, here) refl in
+    ap words_of more ∙ map-append word_of (take k tokens) (token ∷ [])
 
 -- one word more
 pub as_words_more : (words : List Word) (word : Word) → as_words (words ++ word ∷ []) ≡ as_words words ++ as_word word ∷ []
 as_words_more words word = map-append as_word words (word ∷ [])
-
-pub short_more : (words : List Word) (word : Word) → All IsShort words → IsShort word → All IsShort (words ++ word ∷ [])
-short_more words word all one = All-append IsShort words (word ∷ []) all (one, tt)
 
 -- the word at a place, and those behind it
 pub word_at : (words : List Word) (k : ℕ) (word : Word) → slice_get words k ≡ Some word → (k < length (as_words words)) × (drop k (as_words words) ≡ as_word word ∷ drop (k + 1) (as_words words))
@@ -37,5 +32,5 @@ word_at words k word e =
 pub short_at : (words : List Word) (k : ℕ) (word : Word) → slice_get words k ≡ Some word → All IsShort words → IsShort word
 short_at words k word e all =
     let here : get_or words k word ≡ word = get_or_from_slice_get words k word word e in
-    let within : k < length words = slice_get_within words k word e in
-    rw here at (All-get_or IsShort words k word within all)
+    let short : IsShort (get_or words k word) = all k word (slice_get_within words k word e) in
+    rw here at short
