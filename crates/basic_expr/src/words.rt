@@ -1,6 +1,6 @@
 //! The words of a line, as the grammar sees them.
 
-ghost use Rattle.std.specs.Prelude.{◌≡◌, ◌+◌, ◌-◌, ◌<◌, ◌≤◌, ◌×◌, ◌==◌, ◌∷◌, [], length, map, drop, take, slice_index, MatchOption, IfOk, OnOk};
+ghost use Rattle.std.specs.Prelude.{◌≡◌, ◌+◌, ◌-◌, ◌<◌, ◌≤◌, ◌==◌, ◌∷◌, [], length, map, drop, take, slice_index, MatchOption, IfOk, OnOk};
 ghost use Rattle.basic_tree.specs.SpellingWords.{one_sign, name_of, key_or_item, sign_or_item, word_with, words_of};
 ghost use Rattle.basic_tree.specs.Tokens.{keyword_of, sign_of};
 ghost use Rattle.basic_expr.specs.Views.{as_word, IsShort};
