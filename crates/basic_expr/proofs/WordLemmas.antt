@@ -44,8 +44,8 @@ short_at words k word e all =
 slice_get_none : (words : List Word) (k : ℕ) → slice_get words k ≡ None → length words ≤ k
 slice_get_none words k e =
     elim (slice_get_cases words k).1 [
-      inl (x, _, there, _) ↦ let no : Some x ≡ None = sym there ∙ e in absurd (cc)
-    | inr (past, _) ↦ past
+      | inl (x, _, there, _) ↦ let no : Some x ≡ None = sym there ∙ e in absurd (cc)
+      | inr (past, _) ↦ past
     ]
 
 -- an element that is read, and then copied
