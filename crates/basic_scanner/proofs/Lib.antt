@@ -1,3 +1,4 @@
 mod DigitLemmas
 mod ItemLemmas
+mod ShortLemmas
 mod WordLemmas

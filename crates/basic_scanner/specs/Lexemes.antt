@@ -1,5 +1,5 @@
 -- The tokens of the code, without where their bytes lie in memory.
-use Rattle.std.specs.Prelude.{List, map}
+use Rattle.std.specs.Prelude.{◌≤◌, List, length, map, All}
 use Rattle.basic_tree.specs.Tokens.{Lexeme}
 use Rattle.basic_scanner.specs.declared.scanner.Token.{Token}
 
@@ -8,3 +8,7 @@ lexeme_of token = record { kind = token.kind; start = token.start; bytes = token
 
 abbrev pub lexemes : List Token → List Lexeme
 lexemes tokens = map lexeme_of tokens
+
+-- none of them has more bytes than a line may have
+abbrev pub AreShort : List Lexeme → Type 0
+AreShort tokens = All (λ token. length token.bytes ≤ 255) tokens

@@ -139,6 +139,13 @@ fn capped_value(digits: &[u8]) -> u32
     value
 }
 
+/// The value of the digits at the front, 32768 for any above 32767.
+pub fn literal_value(bytes: &[u8]) -> u16
+    ensures { result ≡ min 32768 (digits_value 10 (take (prefix_len is_ascii_digit bytes.now) bytes.now)) }
+{
+    capped_value(&bytes[..digits_length(bytes)]) as u16
+}
+
 /// The run of digits, and `%` where it stands behind them.
 #[tactic(auto, unfolding(basic_tree::specs::Tokens::digit_front))]
 fn digit_front(rest: &[u8]) -> Front

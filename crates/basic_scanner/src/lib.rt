@@ -5,6 +5,7 @@ mod front;
 mod scanner;
 mod words;
 
+pub use front::literal_value;
 pub use scanner::{Token, Tokens, scan};
 pub use words::{keyword_of, sign_of};
 

@@ -32,17 +32,18 @@ impl<'a> Model for Tokens<'a> {
 
     ghost Value = { List Lexeme };
 
-    ghost use Rattle.basic_scanner.specs.Lexemes.{lexemes};
+    ghost use Rattle.basic_scanner.specs.Lexemes.{lexemes, AreShort};
 
     ghost view = { λ all. lexemes all.tokens.items };
 
-    ghost invariant = { λ all. vec_len all.tokens ≤ 256 };
+    ghost invariant = { λ all. (vec_len all.tokens ≤ 256) × AreShort (lexemes all.tokens.items) };
 }
 
 impl<'a> Tokens<'a> {
     /// How many there are.
     pub fn len(&self) -> u16
-        ensures { result ≡ length self.now }
+        ensures value { result ≡ length self.now }
+        ensures few { result ≤ 256 }
     {
         self.tokens.len() as u16
     }
@@ -50,7 +51,8 @@ impl<'a> Tokens<'a> {
     /// The one at a place, from 0.
     pub fn token(&self, k: u16) -> Token<'a>
         requires { k < length self.now }
-        ensures { slice_get self.now k ≡ Some (lexeme_of result) }
+        ensures value { slice_get self.now k ≡ Some (lexeme_of result) }
+        ensures short { length result.bytes.now ≤ 255 }
     {
         self.tokens[k as usize]
     }

@@ -405,5 +405,8 @@ fn long_lines_and_words(rt: HostRuntime) -> Result<(), Fail> {
     assert_eq!(rt; keyword_of(b"LEF"), None);
     assert_eq!(rt; sign_of(b"**"), Some(Sign::DoubleStar));
     assert_eq!(rt; sign_of(b"!"), None);
+    assert_eq!(rt; literal_value(b"0012%"), 12);
+    assert_eq!(rt; literal_value(b"99999"), 32768);
+    assert_eq!(rt; literal_value(b"%"), 0);
     Ok(())
 }

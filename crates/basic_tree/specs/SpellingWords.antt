@@ -1,5 +1,5 @@
 -- Tokens as the grammar sees them: without their places, letters as capitals, a literal by its value, and one word for two spellings of it.
-use Rattle.std.specs.Prelude.{ℕ, ◌+◌, ◌-◌, ◌==◌, nat_lt, if◌then◌else◌, List, [], ◌∷◌, length, map, position, take, drop, slice_index, Option, Some, None}
+use Rattle.std.specs.Prelude.{ℕ, ◌+◌, ◌-◌, ◌==◌, nat_lt, min, if◌then◌else◌, List, [], ◌∷◌, length, map, position, take, drop, slice_index, Option, Some, None}
 use Rattle.std.specs.Char.{is_ascii_digit, to_ascii_uppercase}
 use Rattle.std.specs.List.{prefix_len}
 use Rattle.std.specs.Str.Parse.{digits_value}
@@ -48,11 +48,12 @@ abbrev pub sign_or_item : List ℕ → Option Sign → Word
 sign_or_item bytes (Some sign) = Punctuation (one_sign sign)
 sign_or_item bytes None = Item bytes
 
+-- a literal by its value, where all above 32767 count alike (the scanner makes none)
 abbrev pub word_with : TokenKind → List ℕ → Word
 word_with kind.Keyword bytes = key_or_item bytes (keyword_of bytes)
 word_with kind.FnName bytes = FnNamed (name_of (drop 2 bytes))
 word_with kind.Variable bytes = Named (name_of bytes)
-word_with kind.Literal bytes = Number (digits_value 10 (take (prefix_len is_ascii_digit bytes) bytes))
+word_with kind.Literal bytes = Number (min 32768 (digits_value 10 (take (prefix_len is_ascii_digit bytes) bytes)))
 word_with kind.Quoted bytes = Quotation (take (length bytes - 2) (drop 1 bytes))
 word_with kind.DataItem bytes = Item bytes
 word_with kind.Sign bytes = sign_or_item bytes (sign_of bytes)

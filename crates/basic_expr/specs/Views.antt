@@ -1,0 +1,23 @@
+-- The words of the code as those of the grammar.
+use Rattle.std.specs.Prelude.{◌≤◌, List, length, map}
+use Rattle.basic_tree.specs.SpellingWords as spelling
+use Rattle.basic_expr.specs.declared.words.Word.{Word}
+use Rattle.basic_expr.specs.declared.words.Word.TheVariants.{Key, Punctuation, Named, FnNamed, Number, Quotation, Item}
+
+-- a word without where its bytes lie in memory
+abbrev pub as_word : Word → spelling.Word
+as_word (Key keyword) = spelling.Key keyword
+as_word (Punctuation sign) = spelling.Punctuation sign
+as_word (Named name) = spelling.Named name
+as_word (FnNamed name) = spelling.FnNamed name
+as_word (Number value) = spelling.Number value
+as_word (Quotation bytes) = spelling.Quotation bytes.now
+as_word (Item bytes) = spelling.Item bytes.now
+
+abbrev pub as_words : List Word → List spelling.Word
+as_words words = map as_word words
+
+-- a text in quotes has no more bytes than a line may have
+abbrev pub IsShort : Word → Type 0
+IsShort (Quotation bytes) = length bytes.now ≤ 255
+IsShort other = Unit {0}
