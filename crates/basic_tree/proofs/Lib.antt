@@ -2,6 +2,8 @@ mod MachineExamples
 mod PlaceExamples
 mod SpellingExamples
 mod TokenExamples
+pub mod BetweenLemmas
+pub mod ExpressionPlaces
 pub mod FrontLemmas
 pub mod GapLemmas
 pub mod GapNumberLemmas
@@ -13,8 +15,10 @@ pub mod MachineLevels
 pub mod MachineMoves
 pub mod MachinePasses
 pub mod MachinePlaces
+pub mod MachineRefusals
 pub mod MachineSpelled
 pub mod MachineSteps
+pub mod MachineStops
 pub mod MachineTrees
 pub mod MachineTurns
 pub mod MoveLemmas
