@@ -16,7 +16,8 @@ use Rattle.basic_tree.proofs.MachinePasses.{left}
 use Rattle.basic_tree.proofs.MachineLevels.{Above, tree_above}
 use Rattle.basic_tree.proofs.MachinePlaces.{viable, no_more}
 use Rattle.basic_tree.proofs.MachineStops.{Nests, passed, deepest, finished, finished_flat, TakesWhole}
-use Rattle.basic_tree.proofs.MachineRefusals.{none_there, goes_on}
+use Rattle.basic_tree.proofs.MachineRefusals.{none_there}
+use Rattle.basic_tree.proofs.ExpressionSymbols.{ALevel}
 use Rattle.basic_tree.proofs.BetweenLemmas.{cut_between, length-between, between_more_with, between_more, behind_place}
 
 abbrev wanted : Want → List Symbol
@@ -91,7 +92,7 @@ expression_wrong w ws from k le inside h =
     let split : words (f.steps ++ f.rest) ≡ between ws from k ++ words f.rest = words_append f.steps f.rest ∙ ap (λ x. x ++ words f.rest) f.spelled in
     record {
       limit = limit w ws from k (Err (Wrong (drop k ws))) le inside h refl (λ e. cc);
-      none = λ t x. none_there goes_on (λ ws. (t : Tree) × IsExpr w ws t) (wanted w) [] (expression_taken w) (between ws from k) (drop k ws) here (t, x);
+      none = λ t x. none_there (λ ws. (t : Tree) × IsExpr w ws t) (wanted w) [] (ALevel loosest w, tt) (expression_taken w) (between ws from k) (drop k ws) here (t, x);
       flat = (words f.rest, i.0, subst (λ (x : List Word). IsExpr w x i.0) split i.2, subst (λ (x : List Step). IsFlatTo (k - from) x) i.1 (subst (λ (n : ℕ). IsFlatTo n (f.steps ++ f.rest)) (length-between ws from k le inside) f.flat));
     }
 

@@ -4,6 +4,7 @@ mod SpellingExamples
 mod TokenExamples
 pub mod BetweenLemmas
 pub mod ExpressionPlaces
+pub mod ExpressionSymbols
 pub mod FrontLemmas
 pub mod GapLemmas
 pub mod GapNumberLemmas
