@@ -4,6 +4,9 @@ use Rattle.std.proofs.lemmas.List.{take-append-drop, drop-drop, take_more, get_o
 use Rattle.std.proofs.Math.Seq.{drop-cons}
 use Rattle.basic_tree.specs.SpellingWords.{Word, Number}
 use Rattle.basic_tree.specs.GrammarPlaces.{between}
+use Rattle.basic_tree.specs.GrammarStack.{Values, Symbol}
+use Rattle.basic_tree.specs.GrammarRun.{run}
+use Rattle.basic_tree.proofs.MachinePasses.{left, left_short}
 
 -- the words from a place on, cut at a later one
 pub cut_between : (ws : List Word) (from k : ℕ) → from ≤ k → between ws from k ++ drop k ws ≡ drop from ws
@@ -29,3 +32,7 @@ between_more_with ws from k q le lt = rw (between_more ws from k le lt, append_a
 -- what stands behind a place, with its first word apart
 pub behind_place : (ws : List Word) (k : ℕ) → k < length ws → drop k ws ≡ get_or ws k (Number 0) ∷ drop (suc k) ws
 behind_place ws k lt = drop-cons ws k (Number 0) lt
+
+-- the machine stops at the place or behind it
+pub stops_behind : (ws : List Word) (n from k : ℕ) (s : List Symbol) (vs : Values) → from ≤ length ws → k ≤ length ws → left (run n (drop from ws) s vs) ≡ drop k ws → from ≤ k
+stops_behind ws n from k s vs begun inside h = omega (arith, left_short (drop from ws) n s vs, ap length h, length-drop from ws, length-drop k ws)

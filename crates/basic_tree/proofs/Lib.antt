@@ -8,6 +8,7 @@ pub mod ExpressionSymbols
 pub mod FrontLemmas
 pub mod GapLemmas
 pub mod GapNumberLemmas
+pub mod LinePlaces
 pub mod MachineBack
 pub mod MachineComplete
 pub mod MachineForms

@@ -53,7 +53,7 @@ no_more w p c r h nd b =
     absurd cc
 
 -- what was taken has been spelled, where the machine ends
-abbrev values : Outcome → Values
+abbrev pub values : Outcome → Values
 values (Ok x) = x.0
 values (Err e) = []
 

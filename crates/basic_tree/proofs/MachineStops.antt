@@ -71,7 +71,9 @@ pub record Passed (p : List Word) (k : List Symbol) (vs : Values) : Type 0 where
   pub steps : List Step
   pub rest : List Step
   pub made : Values
+  pub levels_left : ℕ
   pub spelled : words steps ≡ p
+  pub counts : Counts most_levels steps levels_left
   pub spells : Spelled k vs (steps ++ rest) made
   pub flat : IsFlatTo (length p) (steps ++ rest)
 
@@ -85,7 +87,9 @@ passed p r k vs nests h =
       steps = at.3.steps;
       rest = f.0;
       made = f.1;
+      levels_left = at.0;
       spelled = at.3.spelled;
+      counts = at.3.counts;
       spells = s;
       flat = subst (λ (x : List Word). IsFlatTo (length x) (at.3.steps ++ f.0)) at.3.spelled whole;
     }
