@@ -53,11 +53,11 @@ no_more w p c r h nd b =
     absurd cc
 
 -- what was taken has been spelled, where the machine ends
-abbrev values : Outcome → Values
+abbrev pub values : Outcome → Values
 values (Ok x) = x.0
 values (Err e) = []
 
-ended : (r : List Word) (n : ℕ) (k : List Symbol) (vs u : Values) → run n r k vs ≡ Ok (u, r) → (c : ℕ) × Spelled k vs (ends c []) u
+pub ended : (r : List Word) (n : ℕ) (k : List Symbol) (vs u : Values) → run n r k vs ≡ Ok (u, r) → (c : ℕ) × Spelled k vs (ends c []) u
 unfolding run
 ended [] n k vs u h = go (turn k n vs None) refl h where
   go : (x : Turn) → turn k n vs None ≡ x → turned x [] (λ m vs' k'. Err (Wrong [])) ≡ Ok (u, []) → (c : ℕ) × Spelled k vs (ends c []) u
@@ -72,7 +72,7 @@ ended (c ∷ r) n k vs u h = go (turn k n vs (Some c)) refl h where
   go Stuck e l = absurd cc
   go Deep e l = absurd cc
 
-words_of_ends : (c : ℕ) → words (ends c []) ≡ []
+pub words_of_ends : (c : ℕ) → words (ends c []) ≡ []
 words_of_ends zero = refl
 words_of_ends (suc c) = words_of_ends c
 
