@@ -24,3 +24,6 @@ pub mod OneTree
 pub mod SeamLemmas
 pub mod SliceLemmas
 pub mod TokenLemmas
+pub mod SoundPieces
+pub mod SoundLists
+pub mod SoundSimple
