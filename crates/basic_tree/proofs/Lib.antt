@@ -27,3 +27,6 @@ pub mod TokenLemmas
 pub mod SoundPieces
 pub mod SoundLists
 pub mod SoundSimple
+pub mod SoundFiles
+pub mod SoundChoices
+pub mod SoundSentences

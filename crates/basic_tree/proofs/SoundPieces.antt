@@ -1,5 +1,6 @@
 -- Steps that pieces spell, put together piece by piece from the front.
 use Rattle.std.proofs.Common.{◌≡◌, ℕ, Bool, true, false, List, [], ◌∷◌, ◌++◌, Option, Some, refl, sym, ap, ◌∙◌, subst, append_assoc}
+use Rattle.std.proofs.lemmas.List.{append-nil}
 use Rattle.basic_tree.specs.declared.names.Name.{Name}
 use Rattle.basic_tree.specs.declared.kinds.Want.{Want}
 use Rattle.basic_tree.specs.SpellingWords.{Named, Number, Step, Plain}
@@ -58,6 +59,10 @@ both {a = a} {q = q} s t = joined a (ap (λ p. p ++ q) s.spelled) s.wanted t
 -- the steps are given by an equation
 pub as_steps : {a : List Piece} {p q : List Step} → p ≡ q → Spells a q → Spells a p
 as_steps e s = record { wanted = s.wanted; spelled = e ∙ s.spelled }
+
+-- steps with nothing behind them
+pub only : {a : List Piece} {p q : List Step} (s : List Step) → p ≡ s ++ q → q ≡ [] → Spells a s → Spells a p
+only s e n h = as_steps (e ∙ ap (λ q. s ++ q) n ∙ append-nil s) h
 
 -- ---- statements and modifiers
 

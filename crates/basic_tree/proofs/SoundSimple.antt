@@ -1,13 +1,13 @@
 -- Statements of one form: what each form reads is the statement.
 use Rattle.std.proofs.Common.{◌≡◌, ℕ, Bool, true, false, ◌⊎◌, inl, inr, List, [], ◌∷◌, ◌++◌, length, Option, Some, None, refl, sym, ap, ◌∙◌, subst}
-use Rattle.std.proofs.lemmas.List.{append-nil}
 use Rattle.basic_tree.specs.declared.names.Name.{Name}
 use Rattle.basic_tree.specs.declared.tokens.Keyword.{Keyword}
 use Rattle.basic_tree.specs.declared.tokens.Keyword.TheVariants as keyword
 use Rattle.basic_tree.specs.declared.tokens.Sign.TheVariants as sign
 use Rattle.basic_tree.specs.declared.kinds.Want.{Want}
 use Rattle.basic_tree.specs.declared.kinds.Want.TheVariants as want
-use Rattle.basic_tree.specs.SpellingWords.{Step}
+use Rattle.basic_tree.specs.SpellingWords.{Step, Plain}
+use Rattle.basic_tree.specs.SpellingWords.{Item as ItemOf}
 use Rattle.basic_tree.specs.Trees.{Tree, ModifierTree, If, Unless, While, Until, ForModifier, StatementTree, For, Next, FnEnd, Data, Result, Read, Restore, Goto, Gosub, Return, OnGoto, OnGosub, OnErrorGoto, Resume, Stop, End, Sleep, Get, Put, Unlock, Field, Close, Lset, Rset, Kill, Rename}
 use Rattle.basic_tree.specs.SpellingExpressions.{want_of}
 use Rattle.basic_tree.specs.SpellingPieces.{Piece, Fixed, each}
@@ -18,7 +18,7 @@ use Rattle.basic_tree.specs.GrammarForms.{list_form, targets_in, lines_in, chann
 use Rattle.basic_tree.specs.GrammarSentences.{Class, Choice, Head, Simple, for_form, next_form, data_form, result_form, go_form, on_form, field_form, lset_form, rset_form}
 use Rattle.basic_tree.proofs.MachineReads.{Reads, data_steps, items_steps}
 use Rattle.basic_tree.proofs.FormLeads.{Says, Modifies}
-use Rattle.basic_tree.proofs.SoundPieces.{Spells, ended, fixed, expression, name_of, literal, holds, joined, both, as_steps, said, modifying_said, Sound}
+use Rattle.basic_tree.proofs.SoundPieces.{Spells, ended, fixed, expression, name_of, literal, holds, joined, both, only, said, modifying_said, Sound}
 use Rattle.basic_tree.proofs.SoundLists.{targets_spelled, lines_spelled, channels_spelled, parts_spelled}
 
 -- ---- a word alone
@@ -88,7 +88,80 @@ on_sound p v h =
         ]
     | inr x ↦
         elim x.5 [
-          inl a ↦ let b = a.2 in said Simple (OnGoto x.0 (b.0 ∷ lines_in b.4.0)) p v b.4.4.1 (fixed h.1 (expression x.2 x.3 x.4 (fixed a.1 (literal b.2 b.3 (as_steps (b.4.2 ∙ ap (λ q. items_steps b.4.0 ++ q) b.4.4.0 ∙ append-nil (items_steps b.4.0)) (lines_spelled (LineItem b.0 ∷ []) b.4.0 b.4.3)))))) refl (refl, refl)
-        | inr a ↦ let b = a.2 in said Simple (OnGosub x.0 (b.0 ∷ lines_in b.4.0)) p v b.4.4.1 (fixed h.1 (expression x.2 x.3 x.4 (fixed a.1 (literal b.2 b.3 (as_steps (b.4.2 ∙ ap (λ q. items_steps b.4.0 ++ q) b.4.4.0 ∙ append-nil (items_steps b.4.0)) (lines_spelled (LineItem b.0 ∷ []) b.4.0 b.4.3)))))) refl (refl, refl)
+          inl a ↦ let b = a.2 in said Simple (OnGoto x.0 (b.0 ∷ lines_in b.4.0)) p v b.4.4.1 (fixed h.1 (expression x.2 x.3 x.4 (fixed a.1 (literal b.2 b.3 (only (items_steps b.4.0) b.4.2 b.4.4.0 (lines_spelled (LineItem b.0 ∷ []) b.4.0 b.4.3)))))) refl (refl, refl)
+        | inr a ↦ let b = a.2 in said Simple (OnGosub x.0 (b.0 ∷ lines_in b.4.0)) p v b.4.4.1 (fixed h.1 (expression x.2 x.3 x.4 (fixed a.1 (literal b.2 b.3 (only (items_steps b.4.0) b.4.2 b.4.4.0 (lines_spelled (LineItem b.0 ∷ []) b.4.0 b.4.3)))))) refl (refl, refl)
         ]
     ]
+
+-- ---- statements that set or count
+
+pub range_read : (made : Name → Tree → Tree → Option Tree → Value) (p : List Step) (u : Value) → Reads (range_form (λ v start limit step. Made (made v start limit step))) p u → (v : Name) × (start : Tree) × (limit : Tree) × (step : Option Tree) × Spells (range v start limit step) p × (made v start limit step ≡ u)
+range_read made p u h =
+    let start = h.4.2 in
+    let limit = start.5.2 in
+    elim limit.5 [
+      inl x ↦
+        let step = x.2 in
+        (h.0, start.0, limit.0, Some step.0, name_of h.2 h.3 (fixed h.4.1 (expression start.2 start.3 start.4 (fixed start.5.1 (expression limit.2 limit.3 limit.4 (fixed x.1 (expression step.2 step.3 step.4 (ended step.5.0))))))), step.5.1)
+    | inr x ↦ (h.0, start.0, limit.0, None, name_of h.2 h.3 (fixed h.4.1 (expression start.2 start.3 start.4 (fixed start.5.1 (expression limit.2 limit.3 limit.4 (ended x.0))))), x.1)
+    ]
+
+pub for_sound : Sound Head for_form
+for_sound p v h =
+    let a = range_read (λ v start limit step. Stated (For v start limit step)) h.0 v h.2 in
+    said Head (For a.0 a.1 a.2 a.3) p v a.5 (fixed h.1 a.4) refl (refl, refl)
+
+pub result_sound : Sound Simple result_form
+result_sound p v h =
+    let a = h.3.2 in
+    said Simple (Result h.0 a.0) p v a.5.1 (fixed h.2 (fixed h.3.1 (expression a.2 a.3 a.4 (ended a.5.0)))) refl (refl, refl)
+
+pub lset_sound : Sound Simple lset_form
+lset_sound p v h =
+    let x = h.2 in
+    let a = x.4.2 in
+    said Simple (Lset x.0 a.0) p v a.5.1 (fixed h.1 (name_of x.2 x.3 (fixed x.4.1 (expression a.2 a.3 a.4 (ended a.5.0))))) refl (refl, refl)
+
+pub rset_sound : Sound Simple rset_form
+rset_sound p v h =
+    let x = h.2 in
+    let a = x.4.2 in
+    said Simple (Rset x.0 a.0) p v a.5.1 (fixed h.1 (name_of x.2 x.3 (fixed x.4.1 (expression a.2 a.3 a.4 (ended a.5.0))))) refl (refl, refl)
+
+-- ---- READ and DATA
+
+pub read_sound : Sound Simple (TakeKey false keyword.Read (list_form (Targets want.Either) (λ items. says (Read (targets_in items)))))
+read_sound p v h =
+    let t = h.2 in
+    let more = t.6 in
+    said Simple (Read (t.0 ∷ targets_in more.0)) p v more.4.1
+    (fixed h.1 (holds t.5 (expression t.2 t.3 t.4 (only (items_steps more.0) more.2 more.4.0 (targets_spelled want.Either (TargetItem t.0 ∷ []) more.0 more.3))))) refl (refl, refl)
+
+data_spelled : (more : List (List ℕ)) → Spells (each (λ i. Fixed (Plain (ItemOf i)) ∷ []) more) (data_steps more)
+data_spelled [] = ended refl
+data_spelled (item ∷ more) = fixed refl (data_spelled more)
+
+pub data_sound : Sound Head data_form
+data_sound p v h =
+    let a = h.2 in
+    let more = a.3 in
+    said Head (Data (a.0 ∷ more.0)) p v more.3.1 (fixed h.1 (fixed a.2 (only (data_steps more.0) more.2 more.3.0 (data_spelled more.0)))) refl (refl, refl)
+
+-- ---- modifiers
+
+pub if_modifier_sound : (p : List Step) (v : Value) → Reads (TakeKey true keyword.If (ExprOf want.Number (λ t. Made (Modifying (If t))))) p v → Modifies p v
+if_modifier_sound p v h = let a = h.2 in modifying_said (If a.0) p v a.5.1 (fixed h.1 (expression a.2 a.3 a.4 (ended a.5.0)))
+
+pub unless_modifier_sound : (p : List Step) (v : Value) → Reads (TakeKey true keyword.Unless (ExprOf want.Number (λ t. Made (Modifying (Unless t))))) p v → Modifies p v
+unless_modifier_sound p v h = let a = h.2 in modifying_said (Unless a.0) p v a.5.1 (fixed h.1 (expression a.2 a.3 a.4 (ended a.5.0)))
+
+pub while_modifier_sound : (p : List Step) (v : Value) → Reads (TakeKey true keyword.While (ExprOf want.Number (λ t. Made (Modifying (While t))))) p v → Modifies p v
+while_modifier_sound p v h = let a = h.2 in modifying_said (While a.0) p v a.5.1 (fixed h.1 (expression a.2 a.3 a.4 (ended a.5.0)))
+
+pub until_modifier_sound : (p : List Step) (v : Value) → Reads (TakeKey true keyword.Until (ExprOf want.Number (λ t. Made (Modifying (Until t))))) p v → Modifies p v
+until_modifier_sound p v h = let a = h.2 in modifying_said (Until a.0) p v a.5.1 (fixed h.1 (expression a.2 a.3 a.4 (ended a.5.0)))
+
+pub for_modifier_sound : (p : List Step) (v : Value) → Reads (TakeKey true keyword.For (range_form (λ v start limit step. Made (Modifying (ForModifier v start limit step))))) p v → Modifies p v
+for_modifier_sound p v h =
+    let a = range_read (λ v start limit step. Modifying (ForModifier v start limit step)) h.0 v h.2 in
+    modifying_said (ForModifier a.0 a.1 a.2 a.3) p v a.5 (fixed h.1 a.4)
