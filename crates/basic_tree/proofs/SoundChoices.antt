@@ -11,15 +11,15 @@ use Rattle.basic_tree.specs.declared.parts.Separator.TheVariants as separator
 use Rattle.basic_tree.specs.SpellingWords.{Step}
 use Rattle.basic_tree.specs.Trees.{Tree, PrintedTree, PrintItemTree, PrintChannelTree, PromptTree, ClauseTree, ElseTree, NoElse, Else, StatementTree, IfThen, IfGoto, Dim, DimFile, Def, Let, Print, Input, InputLine}
 use Rattle.basic_tree.specs.SpellingExpressions.{is_text, Fits, want_of}
-use Rattle.basic_tree.specs.SpellingPieces.{Piece, Holds, target, many, optional, perhaps, key, pieces_steps}
-use Rattle.basic_tree.specs.SpellingParts.{shape, file_shape, value, is_parted}
+use Rattle.basic_tree.specs.SpellingPieces.{Piece, Fixed, Holds, target, many, after_commas, optional, key, sign_of, closing, pieces_steps}
+use Rattle.basic_tree.specs.SpellingParts.{shape, file_shape, value, is_parted, kind_of_first, name, element_size, printed, print_item, channel_and_comma}
 use Rattle.basic_tree.specs.SpellingStatements.{has_else, clause_wants_else, clause_pieces, else_pieces}
-use Rattle.basic_tree.specs.GrammarStack.{Value, Stated, Item, TargetItem, ShapeItem, FileItem, NameItem, Targets, Shapes, FileShapes, Parameters, Form, TakeKey, TakeClosing}
+use Rattle.basic_tree.specs.GrammarStack.{Value, Stated, Item, TargetItem, ShapeItem, FileItem, NameItem, Targets, Shapes, FileShapes, Parameters, Form, TakeKey, TakeClosing, IfSign, LiteralIn, Size}
 use Rattle.basic_tree.specs.GrammarForms.{list_form, shape_form, size_form, targets_in, shapes_in, files_in, names_in, says, else_form, targets_form, value_form}
 use Rattle.basic_tree.specs.GrammarSentences.{Choice, Head, Simple, if_form, dim_form, def_form, print_form, input_targets, input_form}
 use Rattle.basic_tree.proofs.MachineReads.{Reads, items_steps, print_pieces}
 use Rattle.basic_tree.proofs.FormLeads.{Says}
-use Rattle.basic_tree.proofs.SoundPieces.{Spells, ended, fixed, expression, name_of, literal, holds, joined, only, said, Sound}
+use Rattle.basic_tree.proofs.SoundPieces.{Spells, ended, fixed, expression, name_of, literal, holds, joined, only, listed, regrouped, Starts, one_behind, said, Sound}
 use Rattle.basic_tree.proofs.SoundLists.{targets_spelled, shapes_spelled, files_spelled, names_spelled, few_names}
 
 -- ---- IF
@@ -56,7 +56,7 @@ targets_read word p v h =
     let others = targets_spelled (want_of (is_text h.0)) (TargetItem h.0 ∷ []) more.0 more.3 in
     (h.0 ∷ targets_in more.0, x.0,
     holds h.5 (expression h.2 h.3 (fits_own h.0 (is_text h.0) refl)
-    (joined (after_commas (λ t. target (want_of (is_text h.0)) t) (targets_in more.0)) (more.2 ∙ ap (λ s. s ++ more.1) others.spelled) others.wanted
+    (listed (items_steps more.0) more.2 others
     (fixed more.4.1 (expression x.2 x.3 x.4 (ended x.5.0))))),
     x.5.1)
 
@@ -70,25 +70,126 @@ assignment_sound p v h =
     let a = targets_read false p v h in
     said Simple (Let false a.0 a.1) p v a.3 a.2 refl (refl, refl)
 
--- ---- DEF
 
-pub def_sound : Sound Head def_form
-def_sound p v h = def_parameters h.2.3 where
-  def_parameters : Reads (IfSign true sign.Opening (list_form Parameters (λ items. TakeClosing (value_form h.2.0 (names_in items)))) (value_form h.2.0 [])) h.2.1 v → Says Head p v
-  def_parameters (inl x) =
-      let n = x.2 in
-      let more = n.4 in
-      let closed = more.4 in
-      let others = names_spelled (NameItem n.0 ∷ []) more.0 more.3 in
-      let w = value_read h.2.0 (n.0 ∷ names_in more.0) closed.0 v closed.2 in
-      said Head (Def h.2.0 (n.0 ∷ names_in more.0) w.0) p v w.2
-      (fixed h.1 (fixed h.2.2 (holds (few_names n.0 more.0 more.3) (fixed x.1 (name_of n.2 tt
-      (?))))))
-      refl (refl, refl)
-  def_parameters (inr x) =
-      let w = value_read h.2.0 [] h.2.1 v x in
-      said Head (Def h.2.0 [] w.0) p v w.2 (fixed h.1 (fixed h.2.2 (holds refl w.1))) refl (refl, refl)
+-- ---- DEF
 
 value_read : (f : Name) (ps : List Name) (p : List Step) (v : Value) → Reads (value_form f ps) p v → (o : Option Tree) × Spells (optional (λ t. value f.text t) o) p × (Stated (Def f ps o) ≡ v)
 value_read f ps p v (inl x) = let a = x.2 in (Some a.0, fixed x.1 (expression a.2 a.3 a.4 (ended a.5.0)), a.5.1)
 value_read f ps p v (inr x) = (None, ended x.0, x.1)
+
+pub def_sound : Sound Head def_form
+def_sound p v h =
+    let f = h.2 in
+    elim f.3 [
+      inl x ↦
+        let n = x.2 in
+        let more = n.4 in
+        let closed = more.4 in
+        let w = value_read f.0 (n.0 ∷ names_in more.0) closed.0 v closed.2 in
+        said Head (Def f.0 (n.0 ∷ names_in more.0) w.0) p v w.2
+        (fixed h.1 (fixed f.2 (holds (few_names n.0 more.0 more.3) (fixed x.1 (name_of n.2 tt
+        (regrouped (after_commas name (names_in more.0)) (sign_of sign.Closing ∷ closing ∷ []) (optional (λ t. value f.0.text t) w.0)
+        (listed (items_steps more.0) more.2 (names_spelled (NameItem n.0 ∷ []) more.0 more.3) (fixed closed.1 (fixed refl w.1)))))))))
+        refl (refl, refl)
+    | inr x ↦
+        let w = value_read f.0 [] f.1 v x in
+        said Head (Def f.0 [] w.0) p v w.2 (fixed h.1 (fixed f.2 (holds refl w.1))) refl (refl, refl)
+    ]
+
+-- ---- PRINT
+
+comma_parts : (c : Tree) (items : List PrintItemTree) (last : Option PrintedTree) → is_parted (Some (record { number = c; comma = true })) items last ≡ true
+comma_parts c [] None = refl
+comma_parts c [] (Some t) = refl
+comma_parts c (item ∷ items) last = refl
+
+pub print_sound : Sound Simple print_form
+print_sound p v h =
+    elim h.2 [
+      inl x ↦
+        let c = x.2 in
+        elim c.5 [
+          inl y ↦
+            let m = y.2 in
+            said Simple (Print (Some (record { number = c.0; comma = true })) m.0 m.1) p v m.4
+            (fixed h.1 (holds (comma_parts c.0 m.0 m.1) (fixed x.1 (expression c.2 c.3 c.4 (fixed y.1 (record { wanted = m.3; spelled = m.2 })))))) refl (refl, refl)
+        | inr y ↦
+            said Simple (Print (Some (record { number = c.0; comma = false })) [] None) p v y.1
+            (fixed h.1 (holds refl (fixed x.1 (expression c.2 c.3 c.4 (ended y.0))))) refl (refl, refl)
+        ]
+    | inr m ↦ said Simple (Print None m.0 m.1) p v m.4 (fixed h.1 (holds refl (record { wanted = m.3; spelled = m.2 }))) refl (refl, refl)
+    ]
+
+-- ---- INPUT
+
+inputs_read : (c : Option Tree) (o : Option PromptTree) (p : List Step) (v : Value) → Reads (input_targets c o) p v → (ts : List Tree) × Spells (many (λ t. target want.Either t) ts) p × (Stated (Input c o ts) ≡ v)
+inputs_read c o p v h =
+    let more = h.6 in
+    (h.0 ∷ targets_in more.0, holds h.5 (expression h.2 h.3 h.4 (only (items_steps more.0) more.2 more.4.0 (targets_spelled want.Either (TargetItem h.0 ∷ []) more.0 more.3))), more.4.1)
+
+pub input_sound : Sound Simple input_form
+input_sound p v h =
+    elim h.2 [
+      inl x ↦
+        elim x.2 [
+          inl y ↦
+            let c = y.2 in
+            let n = c.5.2 in
+            said Simple (InputLine (Some c.0) n.0) p v n.4.1 (fixed h.1 (fixed x.1 (fixed y.1 (expression c.2 c.3 c.4 (fixed c.5.1 (name_of n.2 n.3 (ended n.4.0))))))) refl (refl, refl)
+        | inr n ↦ said Simple (InputLine None n.0) p v n.4.1 (fixed h.1 (fixed x.1 (name_of n.2 n.3 (ended n.4.0)))) refl (refl, refl)
+        ]
+    | inr x ↦
+        elim x [
+          inl y ↦
+            let c = y.2 in
+            let ts = inputs_read (Some c.0) None c.5.0 v c.5.2 in
+            said Simple (Input (Some c.0) None ts.0) p v ts.2 (fixed h.1 (holds refl (fixed y.1 (expression c.2 c.3 c.4 (fixed c.5.1 ts.1))))) refl (refl, refl)
+        | inr y ↦
+            elim y [
+              inl z ↦
+                elim z.3 [
+                  inl k ↦
+                    let o : PromptTree = record { text = z.0; separator = separator.Semicolon } in
+                    let ts = inputs_read None (Some o) k.0 v k.2 in
+                    said Simple (Input None (Some o) ts.0) p v ts.2 (fixed h.1 (holds refl (fixed z.2 (fixed k.1 ts.1)))) refl (refl, refl)
+                | inr k ↦
+                    let o : PromptTree = record { text = z.0; separator = separator.Comma } in
+                    let ts = inputs_read None (Some o) k.0 v k.2 in
+                    said Simple (Input None (Some o) ts.0) p v ts.2 (fixed h.1 (holds refl (fixed z.2 (fixed k.1 ts.1)))) refl (refl, refl)
+                ]
+            | inr z ↦
+                let ts = inputs_read None None h.0 v z in
+                said Simple (Input None None ts.0) p v ts.2 (fixed h.1 (holds refl ts.1)) refl (refl, refl)
+            ]
+        ]
+    ]
+
+-- ---- DIM
+
+record ShapeRead (g : Shape → Form) (p : List Step) (v : Value) : Type 0 where
+  is : Shape
+  left : List Step
+  starts : Starts (shape is) p left
+  rest : Reads (g is) left v
+
+shape_read : (g : Shape → Form) (p : List Step) (v : Value) → Reads (shape_form g) p v → ShapeRead g p v
+shape_read g p v h =
+    let opened = h.4.1 in
+    let n = h.4.2 in
+    elim n.4 [
+      inl x ↦
+        let m = x.2 in
+        record {
+          is = record { name = h.0; first = n.0; second = Some m.0 };
+          left = m.4.0;
+          starts = record { wanted = (tt, tt, n.3, tt, m.3, tt, tt, tt); spelled = ? };
+          rest = m.4.2;
+        }
+    | inr x ↦
+        record {
+          is = record { name = h.0; first = n.0; second = None };
+          left = x.0;
+          starts = record { wanted = (tt, tt, n.3, tt, tt, tt); spelled = ? };
+          rest = x.2;
+        }
+    ]

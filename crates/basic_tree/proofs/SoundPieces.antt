@@ -64,6 +64,25 @@ as_steps e s = record { wanted = s.wanted; spelled = e ∙ s.spelled }
 pub only : {a : List Piece} {p q : List Step} (s : List Step) → p ≡ s ++ q → q ≡ [] → Spells a s → Spells a p
 only s e n h = as_steps (e ∙ ap (λ q. s ++ q) n ∙ append-nil s) h
 
+-- steps with others behind them
+pub listed : {a b : List Piece} {p q : List Step} (s : List Step) → p ≡ s ++ q → Spells a s → Spells b q → Spells (a ++ b) p
+listed {a = a} {q = q} s e h k = joined a (e ∙ ap (λ s. s ++ q) h.spelled) h.wanted k
+
+-- the same pieces in other groups
+pub regrouped : (a b c : List Piece) {p : List Step} → Spells (a ++ (b ++ c)) p → Spells ((a ++ b) ++ c) p
+regrouped a b c {p = p} h = subst (λ l. Spells l p) (sym (append_assoc a b c)) h
+
+-- the pieces are as their places want them, and the steps begin with theirs
+pub record Starts (pieces : List Piece) (p q : List Step) : Type 0 where
+  pub wanted : ArePieces pieces
+  pub spelled : p ≡ pieces_steps pieces ++ q
+
+pub one_behind : (a b : List Piece) (p q r : List Step) → Starts a p q → Starts b q r → Starts (a ++ b) p r
+one_behind a b p q r h k = record {
+  wanted = are_joined a b h.wanted k.wanted;
+  spelled = h.spelled ∙ ap (λ q. pieces_steps a ++ q) k.spelled ∙ sym (append_assoc (pieces_steps a) (pieces_steps b) r) ∙ ap (λ s. s ++ r) (sym (steps_join a b));
+}
+
 -- ---- statements and modifiers
 
 pub said : (c : Class) (s : StatementTree) (p : List Step) (v : Value) → Stated s ≡ v → Spells (pieces_of s) p → closings s ≡ [] → OfClass c s → Says c p v
