@@ -14,7 +14,7 @@ use Rattle.basic_tree.specs.SpellingExpressions.{is_text, Fits, want_of}
 use Rattle.basic_tree.specs.SpellingPieces.{Piece, Fixed, Holds, target, many, after_commas, optional, key, sign_of, closing, pieces_steps}
 use Rattle.basic_tree.specs.SpellingParts.{shape, file_shape, value, is_parted, kind_of_first, name, element_size, printed, print_item, channel_and_comma}
 use Rattle.basic_tree.specs.SpellingStatements.{has_else, clause_wants_else, clause_pieces, else_pieces}
-use Rattle.basic_tree.specs.GrammarStack.{Value, Stated, Item, TargetItem, ShapeItem, FileItem, NameItem, Targets, Shapes, FileShapes, Parameters, Form, TakeKey, TakeClosing, IfSign, LiteralIn, Size}
+use Rattle.basic_tree.specs.GrammarStack.{Value, Stated, Item, TargetItem, ShapeItem, FileItem, NameItem, Targets, Shapes, FileShapes, Parameters, Form, TakeKey, TakeClosing, IfSign, LiteralIn, MoreOf, Size}
 use Rattle.basic_tree.specs.GrammarForms.{list_form, shape_form, size_form, targets_in, shapes_in, files_in, names_in, says, else_form, targets_form, value_form}
 use Rattle.basic_tree.specs.GrammarSentences.{Choice, Head, Simple, if_form, dim_form, def_form, print_form, input_targets, input_form}
 use Rattle.basic_tree.proofs.MachineReads.{Reads, items_steps, print_pieces}
@@ -182,14 +182,49 @@ shape_read g p v h =
         record {
           is = record { name = h.0; first = n.0; second = Some m.0 };
           left = m.4.0;
-          starts = record { wanted = (tt, tt, n.3, tt, m.3, tt, tt, tt); spelled = ? };
+          starts = record { wanted = (tt, (tt, (n.3, (tt, (m.3, (tt, (tt, tt))))))); spelled = cc (h.2, opened, n.2, x.1, m.2, m.4.1) };
           rest = m.4.2;
         }
     | inr x ↦
         record {
           is = record { name = h.0; first = n.0; second = None };
           left = x.0;
-          starts = record { wanted = (tt, tt, n.3, tt, tt, tt); spelled = ? };
+          starts = record { wanted = (tt, (tt, (n.3, (tt, (tt, tt))))); spelled = cc (h.2, opened, n.2, x.1) };
           rest = x.2;
         }
+    ]
+
+record SizeRead (n : Name) (g : Option ℕ → Form) (p : List Step) (v : Value) : Type 0 where
+  is : Option ℕ
+  left : List Step
+  starts : Starts (optional (λ size. element_size n size) is) p left
+  rest : Reads (g is) left v
+
+size_read : (n : Name) (b : Bool) (g : Option ℕ → Form) (p : List Step) (v : Value) → n.text ≡ b → Reads (size_form b g) p v → SizeRead n g p v
+size_read n true g p v e (inl x) =
+    let a = x.2 in
+    record { is = Some a.0; left = a.1; starts = record { wanted = (e, (tt, (a.3, tt))); spelled = cc (x.1, a.2) }; rest = a.4 }
+size_read n true g p v e (inr x) = record { is = None; left = p; starts = record { wanted = tt; spelled = refl }; rest = x }
+size_read n false g p v e h = record { is = None; left = p; starts = record { wanted = tt; spelled = refl }; rest = h }
+
+pub dim_sound : Sound Head dim_form
+dim_sound p v h =
+    elim h.2 [
+      inl x ↦
+        let c = x.2 in
+        let s = shape_read (λ s. size_form s.name.text (λ size. MoreOf FileShapes (FileItem (record { shape = s; size = size }) ∷ []) (λ items. says (DimFile c.0 (files_in items))))) c.4.0 v c.4.2 in
+        let z = size_read s.is.name s.is.name.text (λ size. MoreOf FileShapes (FileItem (record { shape = s.is; size = size }) ∷ []) (λ items. says (DimFile c.0 (files_in items)))) s.left v refl s.rest in
+        let more = z.rest in
+        let f : FileShape = record { shape = s.is; size = z.is } in
+        let starts = one_behind (shape s.is) (optional (λ size. element_size s.is.name size) z.is) c.4.0 s.left z.left s.starts z.starts in
+        said Head (DimFile c.0 (f ∷ files_in more.0)) p v more.4.1
+        (fixed h.1 (fixed x.1 (literal c.2 c.3 (fixed c.4.1
+        (joined (file_shape f) starts.spelled starts.wanted (only (items_steps more.0) more.2 more.4.0 (files_spelled (FileItem f ∷ []) more.0 more.3)))))))
+        refl (refl, refl)
+    | inr x ↦
+        let s = shape_read (λ s. MoreOf Shapes (ShapeItem s ∷ []) (λ items. says (Dim (shapes_in items)))) h.0 v x in
+        let more = s.rest in
+        said Head (Dim (s.is ∷ shapes_in more.0)) p v more.4.1
+        (fixed h.1 (joined (shape s.is) s.starts.spelled s.starts.wanted (only (items_steps more.0) more.2 more.4.0 (shapes_spelled (ShapeItem s.is ∷ []) more.0 more.3))))
+        refl (refl, refl)
     ]
