@@ -23,10 +23,10 @@ pub mod MoveLemmas
 pub mod OneTree
 pub mod SeamLemmas
 pub mod SliceLemmas
-pub mod TokenLemmas
-pub mod SoundPieces
-pub mod SoundLists
-pub mod SoundSimple
-pub mod SoundFiles
 pub mod SoundChoices
+pub mod SoundFiles
+pub mod SoundLists
+pub mod SoundPieces
 pub mod SoundSentences
+pub mod SoundSimple
+pub mod TokenLemmas

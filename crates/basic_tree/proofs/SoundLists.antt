@@ -1,17 +1,15 @@
 -- Elements of lists with commas: those that a form reads are spelled by the pieces of the grammar's lists.
-use Rattle.std.proofs.Common.{◌≡◌, ℕ, ◌+◌, ◌<◌, ◌≤◌, Bool, true, false, List, [], ◌∷◌, ◌++◌, length, refl, sym, ap, ◌∙◌, subst, arith, ltb-true, lt-ltb, length-append, append_assoc}
+use Rattle.std.proofs.Common.{◌≡◌, ◌+◌, ◌<◌, ◌≤◌, true, List, [], ◌∷◌, ◌++◌, length, refl, arith, ltb-true, lt-ltb, length-append, append_assoc}
 use Rattle.std.specs.Prelude.{nat_lt}
 use Rattle.basic_tree.specs.declared.names.Name.{Name}
 use Rattle.basic_tree.specs.declared.kinds.Want.{Want}
-use Rattle.basic_tree.specs.SpellingWords.{Step}
-use Rattle.basic_tree.specs.Trees.{Tree}
 use Rattle.basic_tree.specs.SpellingExpressions.{steps_of}
-use Rattle.basic_tree.specs.SpellingPieces.{Piece, Holds, Fixed, pieces_steps, ArePieces, line, target, after_commas, each}
+use Rattle.basic_tree.specs.SpellingPieces.{line, target, after_commas}
 use Rattle.basic_tree.specs.SpellingParts.{shape, file_shape, name, close_channel, field_part}
-use Rattle.basic_tree.specs.GrammarStack.{Item, TargetItem, ShapeItem, FileItem, NameItem, LineItem, ChannelItem, FieldItem, Sequence, Targets, Shapes, FileShapes, Parameters, Lines, Channels, FieldParts}
+use Rattle.basic_tree.specs.GrammarStack.{Item, TargetItem, ShapeItem, FileItem, NameItem, LineItem, ChannelItem, FieldItem, Targets, Shapes, FileShapes, Parameters, Lines, Channels, FieldParts}
 use Rattle.basic_tree.specs.GrammarForms.{targets_in, shapes_in, files_in, names_in, lines_in, channels_in, parts_in}
 use Rattle.basic_tree.proofs.MachineReads.{AreItems, items_steps}
-use Rattle.basic_tree.proofs.SoundPieces.{Spells, ended, fixed, expression, holds, both, joined}
+use Rattle.basic_tree.proofs.SoundPieces.{Spells, ended, fixed, expression, holds, joined}
 
 pub targets_spelled : (w : Want) (before more : List Item) → AreItems (Targets w) before more → Spells (after_commas (λ t. target w t) (targets_in more)) (items_steps more)
 targets_spelled w before [] h = ended refl

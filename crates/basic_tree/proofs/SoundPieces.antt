@@ -1,5 +1,5 @@
 -- Steps that pieces spell, put together piece by piece from the front.
-use Rattle.std.proofs.Common.{◌≡◌, ℕ, Bool, true, false, List, [], ◌∷◌, ◌++◌, Option, Some, refl, sym, ap, ◌∙◌, subst, append_assoc}
+use Rattle.std.proofs.Common.{◌≡◌, ℕ, Bool, true, List, [], ◌∷◌, ◌++◌, refl, sym, ap, ◌∙◌, subst, append_assoc}
 use Rattle.std.proofs.lemmas.List.{append-nil}
 use Rattle.basic_tree.specs.declared.names.Name.{Name}
 use Rattle.basic_tree.specs.declared.kinds.Want.{Want}
@@ -51,10 +51,6 @@ are_joined (x ∷ a) b h k = (h.0, are_joined a b h.1 k)
 
 pub joined : (a : List Piece) {b : List Piece} {p q : List Step} → p ≡ pieces_steps a ++ q → ArePieces a → Spells b q → Spells (a ++ b) p
 joined a {b = b} e h s = record { wanted = are_joined a b h s.wanted; spelled = e ∙ ap (λ q. pieces_steps a ++ q) s.spelled ∙ sym (steps_join a b) }
-
--- two that are spelled, one behind the other
-pub both : {a b : List Piece} {p q : List Step} → Spells a p → Spells b q → Spells (a ++ b) (p ++ q)
-both {a = a} {q = q} s t = joined a (ap (λ p. p ++ q) s.spelled) s.wanted t
 
 -- the steps are given by an equation
 pub as_steps : {a : List Piece} {p q : List Step} → p ≡ q → Spells a q → Spells a p

@@ -1,11 +1,11 @@
 -- Soundness of the statements' forms: what the form that a word gives reads, is a statement or a modifier.
-use Rattle.std.proofs.Common.{◌≡◌, false, List, Option, Some, None, refl, ap, subst}
+use Rattle.std.proofs.Common.{◌≡◌, false, List, Some, subst}
 use Rattle.basic_tree.specs.declared.tokens.Keyword.{Keyword}
 use Rattle.basic_tree.specs.declared.tokens.Keyword.TheVariants as keyword
 use Rattle.basic_tree.specs.SpellingWords.{Word, Key, Named, FnNamed, Step}
 use Rattle.basic_tree.specs.GrammarStack.{Value, Form}
 use Rattle.basic_tree.specs.GrammarForms.{targets_form}
-use Rattle.basic_tree.specs.GrammarSentences.{Class, Sentence, Simple, key_sentence, sentence_of, result_form, key_modifier, modifier_of}
+use Rattle.basic_tree.specs.GrammarSentences.{Sentence, Simple, key_sentence, sentence_of, result_form, key_modifier, modifier_of}
 use Rattle.basic_tree.proofs.MachineReads.{Reads}
 use Rattle.basic_tree.proofs.FormLeads.{Says, Modifies}
 use Rattle.basic_tree.proofs.SoundPieces.{Sound}
@@ -19,6 +19,7 @@ found a b e h =
     let same : a ≡ b = cc in
     subst (λ s. Sound s.class s.form) same h
 
+-- a keyword's statement
 key_sound : (k : Keyword) (b : Sentence) → key_sentence k ≡ Some b → Sound b.class b.form
 key_sound keyword.If b e = found _ b e if_sound
 key_sound keyword.For b e = found _ b e for_sound
@@ -54,6 +55,7 @@ key_sound keyword.Kill b e = found _ b e kill_sound
 key_sound keyword.Name b e = found _ b e rename_sound
 key_sound other b e = absurd cc
 
+-- the statement that any word begins
 pub sentence_sound : (t : Word) (b : Sentence) → sentence_of t ≡ Some b → (p : List Step) (v : Value) → Reads b.form p v → Says b.class p v
 sentence_sound (Key k) b e = key_sound k b e
 sentence_sound (Named name) b e = found (record { class = Simple; form = targets_form false }) b e assignment_sound
@@ -62,15 +64,16 @@ sentence_sound other b e = absurd cc
 
 -- ---- modifiers
 
-abbrev Modified : Form → Type 0
-Modified f = (p : List Step) (v : Value) → Reads f p v → Modifies p v
+-- what the form reads is a modifier
+abbrev SoundModifier : Form → Type 0
+SoundModifier f = (p : List Step) (v : Value) → Reads f p v → Modifies p v
 
-found_modifier : (f g : Form) → Some f ≡ Some g → Modified f → Modified g
+found_modifier : (f g : Form) → Some f ≡ Some g → SoundModifier f → SoundModifier g
 found_modifier f g e h =
     let same : f ≡ g = cc in
-    subst (λ s. Modified s) same h
+    subst (λ s. SoundModifier s) same h
 
-key_modifier_sound : (k : Keyword) (f : Form) → key_modifier k ≡ Some f → Modified f
+key_modifier_sound : (k : Keyword) (f : Form) → key_modifier k ≡ Some f → SoundModifier f
 key_modifier_sound keyword.If f e = found_modifier _ f e if_modifier_sound
 key_modifier_sound keyword.Unless f e = found_modifier _ f e unless_modifier_sound
 key_modifier_sound keyword.While f e = found_modifier _ f e while_modifier_sound
@@ -78,6 +81,7 @@ key_modifier_sound keyword.Until f e = found_modifier _ f e until_modifier_sound
 key_modifier_sound keyword.For f e = found_modifier _ f e for_modifier_sound
 key_modifier_sound other f e = absurd cc
 
+-- the modifier that any word begins
 pub modifier_sound : (t : Word) (f : Form) → modifier_of t ≡ Some f → (p : List Step) (v : Value) → Reads f p v → Modifies p v
 modifier_sound (Key k) f e = key_modifier_sound k f e
 modifier_sound other f e = absurd cc

@@ -1,25 +1,21 @@
 -- Statements of one form: what each form reads is the statement.
-use Rattle.std.proofs.Common.{◌≡◌, ℕ, Bool, true, false, ◌⊎◌, inl, inr, List, [], ◌∷◌, ◌++◌, length, Option, Some, None, refl, sym, ap, ◌∙◌, subst}
+use Rattle.std.proofs.Common.{◌≡◌, ℕ, true, false, inl, inr, List, [], ◌∷◌, Option, Some, None, refl}
 use Rattle.basic_tree.specs.declared.names.Name.{Name}
-use Rattle.basic_tree.specs.declared.tokens.Keyword.{Keyword}
 use Rattle.basic_tree.specs.declared.tokens.Keyword.TheVariants as keyword
-use Rattle.basic_tree.specs.declared.tokens.Sign.TheVariants as sign
-use Rattle.basic_tree.specs.declared.kinds.Want.{Want}
 use Rattle.basic_tree.specs.declared.kinds.Want.TheVariants as want
 use Rattle.basic_tree.specs.SpellingWords.{Step, Plain}
 use Rattle.basic_tree.specs.SpellingWords.{Item as ItemOf}
-use Rattle.basic_tree.specs.Trees.{Tree, ModifierTree, If, Unless, While, Until, ForModifier, StatementTree, For, Next, FnEnd, Data, Result, Read, Restore, Goto, Gosub, Return, OnGoto, OnGosub, OnErrorGoto, Resume, Stop, End, Sleep, Get, Put, Unlock, Field, Close, Lset, Rset, Kill, Rename}
-use Rattle.basic_tree.specs.SpellingExpressions.{want_of}
-use Rattle.basic_tree.specs.SpellingPieces.{Piece, Fixed, each}
-use Rattle.basic_tree.specs.SpellingParts.{range, close_channel, field_part, option_of}
+use Rattle.basic_tree.specs.Trees.{Tree, If, Unless, While, Until, ForModifier, For, Next, FnEnd, Data, Result, Read, Restore, Goto, Gosub, Return, OnGoto, OnGosub, OnErrorGoto, Resume, Stop, End, Sleep, Lset, Rset, Kill, Rename}
+use Rattle.basic_tree.specs.SpellingPieces.{Fixed, each}
+use Rattle.basic_tree.specs.SpellingParts.{range}
 use Rattle.basic_tree.specs.SpellingStatements.{items}
-use Rattle.basic_tree.specs.GrammarStack.{Value, Stated, Modifying, TargetItem, LineItem, ChannelItem, FieldItem, Targets, Channels, FieldParts, Lines, LineNumber, Bound, Form, Made, TakeKey, TakeSign, ExprOf, NameIn, LiteralIn, LiteralIf}
-use Rattle.basic_tree.specs.GrammarForms.{list_form, targets_in, lines_in, channels_in, parts_in, says, range_form, number_option}
-use Rattle.basic_tree.specs.GrammarSentences.{Class, Choice, Head, Simple, for_form, next_form, data_form, result_form, go_form, on_form, field_form, lset_form, rset_form}
+use Rattle.basic_tree.specs.GrammarStack.{Value, Stated, Modifying, TargetItem, LineItem, Targets, LineNumber, Bound, Made, TakeKey, ExprOf, LiteralIn, LiteralIf}
+use Rattle.basic_tree.specs.GrammarForms.{list_form, targets_in, lines_in, says, range_form}
+use Rattle.basic_tree.specs.GrammarSentences.{Head, Simple, for_form, next_form, data_form, result_form, go_form, on_form, lset_form, rset_form}
 use Rattle.basic_tree.proofs.MachineReads.{Reads, data_steps, items_steps}
-use Rattle.basic_tree.proofs.FormLeads.{Says, Modifies}
-use Rattle.basic_tree.proofs.SoundPieces.{Spells, ended, fixed, expression, name_of, literal, holds, joined, both, only, said, modifying_said, Sound}
-use Rattle.basic_tree.proofs.SoundLists.{targets_spelled, lines_spelled, channels_spelled, parts_spelled}
+use Rattle.basic_tree.proofs.FormLeads.{Modifies}
+use Rattle.basic_tree.proofs.SoundPieces.{Spells, ended, fixed, expression, name_of, literal, holds, only, said, modifying_said, Sound}
+use Rattle.basic_tree.proofs.SoundLists.{targets_spelled, lines_spelled}
 
 -- ---- a word alone
 
@@ -64,15 +60,15 @@ gosub_sound p v h = let a = h.2 in said Simple (Gosub false a.0) p v a.4.1 (fixe
 pub go_sound : Sound Simple go_form
 go_sound p v h =
     elim h.2 [
-      inl x ↦ let a = x.2 in said Simple (Goto true a.0) p v a.4.1 (fixed h.1 (fixed x.1 (literal a.2 a.3 (ended a.4.0)))) refl (refl, refl)
-    | inr x ↦ let a = x.2 in said Simple (Gosub true a.0) p v a.4.1 (fixed h.1 (fixed x.1 (literal a.2 a.3 (ended a.4.0)))) refl (refl, refl)
+      | inl x ↦ let a = x.2 in said Simple (Goto true a.0) p v a.4.1 (fixed h.1 (fixed x.1 (literal a.2 a.3 (ended a.4.0)))) refl (refl, refl)
+      | inr x ↦ let a = x.2 in said Simple (Gosub true a.0) p v a.4.1 (fixed h.1 (fixed x.1 (literal a.2 a.3 (ended a.4.0)))) refl (refl, refl)
     ]
 
 pub resume_sound : Sound Simple (TakeKey false keyword.Resume (LiteralIf Bound (λ n. says (Resume (Some n))) (says (Resume None))))
 resume_sound p v h =
     elim h.2 [
-      inl a ↦ said Simple (Resume (Some a.0)) p v a.4.1 (fixed h.1 (literal a.2 a.3 (ended a.4.0))) refl (refl, refl)
-    | inr a ↦ said Simple (Resume None) p v a.1 (fixed h.1 (ended a.0)) refl (refl, refl)
+      | inl a ↦ said Simple (Resume (Some a.0)) p v a.4.1 (fixed h.1 (literal a.2 a.3 (ended a.4.0))) refl (refl, refl)
+      | inr a ↦ said Simple (Resume None) p v a.1 (fixed h.1 (ended a.0)) refl (refl, refl)
     ]
 
 -- ---- ON
@@ -80,17 +76,17 @@ resume_sound p v h =
 pub on_sound : Sound Simple on_form
 on_sound p v h =
     elim h.2 [
-      inl x ↦
-        let a = x.2 in
-        elim a.2 [
-          inl b ↦ said Simple (OnErrorGoto (Some b.0)) p v b.4.1 (fixed h.1 (fixed x.1 (fixed a.1 (literal b.2 b.3 (ended b.4.0))))) refl (refl, refl)
-        | inr b ↦ said Simple (OnErrorGoto None) p v b.1 (fixed h.1 (fixed x.1 (fixed a.1 (ended b.0)))) refl (refl, refl)
-        ]
-    | inr x ↦
-        elim x.5 [
-          inl a ↦ let b = a.2 in said Simple (OnGoto x.0 (b.0 ∷ lines_in b.4.0)) p v b.4.4.1 (fixed h.1 (expression x.2 x.3 x.4 (fixed a.1 (literal b.2 b.3 (only (items_steps b.4.0) b.4.2 b.4.4.0 (lines_spelled (LineItem b.0 ∷ []) b.4.0 b.4.3)))))) refl (refl, refl)
-        | inr a ↦ let b = a.2 in said Simple (OnGosub x.0 (b.0 ∷ lines_in b.4.0)) p v b.4.4.1 (fixed h.1 (expression x.2 x.3 x.4 (fixed a.1 (literal b.2 b.3 (only (items_steps b.4.0) b.4.2 b.4.4.0 (lines_spelled (LineItem b.0 ∷ []) b.4.0 b.4.3)))))) refl (refl, refl)
-        ]
+      | inl x ↦
+          let a = x.2 in
+          elim a.2 [
+            | inl b ↦ said Simple (OnErrorGoto (Some b.0)) p v b.4.1 (fixed h.1 (fixed x.1 (fixed a.1 (literal b.2 b.3 (ended b.4.0))))) refl (refl, refl)
+            | inr b ↦ said Simple (OnErrorGoto None) p v b.1 (fixed h.1 (fixed x.1 (fixed a.1 (ended b.0)))) refl (refl, refl)
+          ]
+      | inr x ↦
+          elim x.5 [
+            | inl a ↦ let b = a.2 in said Simple (OnGoto x.0 (b.0 ∷ lines_in b.4.0)) p v b.4.4.1 (fixed h.1 (expression x.2 x.3 x.4 (fixed a.1 (literal b.2 b.3 (only (items_steps b.4.0) b.4.2 b.4.4.0 (lines_spelled (LineItem b.0 ∷ []) b.4.0 b.4.3)))))) refl (refl, refl)
+            | inr a ↦ let b = a.2 in said Simple (OnGosub x.0 (b.0 ∷ lines_in b.4.0)) p v b.4.4.1 (fixed h.1 (expression x.2 x.3 x.4 (fixed a.1 (literal b.2 b.3 (only (items_steps b.4.0) b.4.2 b.4.4.0 (lines_spelled (LineItem b.0 ∷ []) b.4.0 b.4.3)))))) refl (refl, refl)
+          ]
     ]
 
 -- ---- statements that set or count
@@ -100,10 +96,10 @@ range_read made p u h =
     let start = h.4.2 in
     let limit = start.5.2 in
     elim limit.5 [
-      inl x ↦
-        let step = x.2 in
-        (h.0, start.0, limit.0, Some step.0, name_of h.2 h.3 (fixed h.4.1 (expression start.2 start.3 start.4 (fixed start.5.1 (expression limit.2 limit.3 limit.4 (fixed x.1 (expression step.2 step.3 step.4 (ended step.5.0))))))), step.5.1)
-    | inr x ↦ (h.0, start.0, limit.0, None, name_of h.2 h.3 (fixed h.4.1 (expression start.2 start.3 start.4 (fixed start.5.1 (expression limit.2 limit.3 limit.4 (ended x.0))))), x.1)
+      | inl x ↦
+          let step = x.2 in
+          (h.0, start.0, limit.0, Some step.0, name_of h.2 h.3 (fixed h.4.1 (expression start.2 start.3 start.4 (fixed start.5.1 (expression limit.2 limit.3 limit.4 (fixed x.1 (expression step.2 step.3 step.4 (ended step.5.0))))))), step.5.1)
+      | inr x ↦ (h.0, start.0, limit.0, None, name_of h.2 h.3 (fixed h.4.1 (expression start.2 start.3 start.4 (fixed start.5.1 (expression limit.2 limit.3 limit.4 (ended x.0))))), x.1)
     ]
 
 pub for_sound : Sound Head for_form
