@@ -32,5 +32,10 @@ pub mod OneTree
 pub mod SeamLemmas
 pub mod SentenceBack
 pub mod SliceLemmas
-pub mod StatementSound
+pub mod SoundChoices
+pub mod SoundFiles
+pub mod SoundLists
+pub mod SoundPieces
+pub mod SoundSentences
+pub mod SoundSimple
 pub mod TokenLemmas

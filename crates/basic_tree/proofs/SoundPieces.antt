@@ -1,0 +1,92 @@
+-- Steps that pieces spell, put together piece by piece from the front.
+use Rattle.std.proofs.Common.{◌≡◌, ℕ, Bool, true, List, [], ◌∷◌, ◌++◌, refl, sym, ap, ◌∙◌, subst, append_assoc}
+use Rattle.std.proofs.lemmas.List.{append-nil}
+use Rattle.basic_tree.specs.declared.names.Name.{Name}
+use Rattle.basic_tree.specs.declared.kinds.Want.{Want}
+use Rattle.basic_tree.specs.SpellingWords.{Named, Number, Step, Plain}
+use Rattle.basic_tree.specs.Trees.{Tree, Variable, StatementTree, ModifierTree}
+use Rattle.basic_tree.specs.SpellingExpressions.{steps_of, Fits, IsTree}
+use Rattle.basic_tree.specs.SpellingPieces.{Piece, Fixed, Expression, NameOf, LiteralOf, Holds, piece_steps, pieces_steps, ArePieces}
+use Rattle.basic_tree.specs.SpellingParts.{modifier}
+use Rattle.basic_tree.specs.SpellingStatements.{closings, pieces_of}
+use Rattle.basic_tree.specs.GrammarStack.{Value, Stated, Modifying, Form}
+use Rattle.basic_tree.specs.GrammarSentences.{Class}
+use Rattle.basic_tree.proofs.MachineReads.{Reads}
+use Rattle.basic_tree.proofs.FormLeads.{OfClass, Says, Modifies}
+
+-- the pieces are as their places want them, and spell the steps
+pub record Spells (pieces : List Piece) (p : List Step) : Type 0 where
+  pub wanted : ArePieces pieces
+  pub spelled : p ≡ pieces_steps pieces
+
+-- ---- single pieces
+
+pub ended : {p : List Step} → p ≡ [] → Spells [] p
+ended e = record { wanted = tt; spelled = e }
+
+pub fixed : {step : Step} {pieces : List Piece} {p q : List Step} → p ≡ step ∷ q → Spells pieces q → Spells (Fixed step ∷ pieces) p
+fixed {step = step} e s = record { wanted = (tt, s.wanted); spelled = e ∙ ap (λ q. step ∷ q) s.spelled }
+
+pub expression : {w : Want} {t : Tree} {pieces : List Piece} {p q : List Step} → p ≡ steps_of t ++ q → IsTree t → Fits w t → Spells pieces q → Spells (Expression w t ∷ pieces) p
+expression {t = t} e i f s = record { wanted = ((i, f), s.wanted); spelled = e ∙ ap (λ q. steps_of t ++ q) s.spelled }
+
+pub name_of : {w : Want} {n : Name} {pieces : List Piece} {p q : List Step} → p ≡ Plain (Named n) ∷ q → Fits w (Variable n) → Spells pieces q → Spells (NameOf w n ∷ pieces) p
+name_of {n = n} e f s = record { wanted = (f, s.wanted); spelled = e ∙ ap (λ q. Plain (Named n) ∷ q) s.spelled }
+
+pub literal : {b : Bool} {n : ℕ} {pieces : List Piece} {p q : List Step} → p ≡ Plain (Number n) ∷ q → b ≡ true → Spells pieces q → Spells (LiteralOf b n ∷ pieces) p
+literal {n = n} e f s = record { wanted = (f, s.wanted); spelled = e ∙ ap (λ q. Plain (Number n) ∷ q) s.spelled }
+
+pub holds : {b : Bool} {pieces : List Piece} {p : List Step} → b ≡ true → Spells pieces p → Spells (Holds b ∷ pieces) p
+holds e s = record { wanted = (e, s.wanted); spelled = s.spelled }
+
+-- ---- lists of pieces
+
+pub steps_join : (a b : List Piece) → pieces_steps (a ++ b) ≡ pieces_steps a ++ pieces_steps b
+steps_join [] b = refl
+steps_join (x ∷ a) b = ap (λ q. piece_steps x ++ q) (steps_join a b) ∙ sym (append_assoc (piece_steps x) (pieces_steps a) (pieces_steps b))
+
+pub are_joined : (a b : List Piece) → ArePieces a → ArePieces b → ArePieces (a ++ b)
+are_joined [] b h k = k
+are_joined (x ∷ a) b h k = (h.0, are_joined a b h.1 k)
+
+pub joined : (a : List Piece) {b : List Piece} {p q : List Step} → p ≡ pieces_steps a ++ q → ArePieces a → Spells b q → Spells (a ++ b) p
+joined a {b = b} e h s = record { wanted = are_joined a b h s.wanted; spelled = e ∙ ap (λ q. pieces_steps a ++ q) s.spelled ∙ sym (steps_join a b) }
+
+-- the steps are given by an equation
+pub as_steps : {a : List Piece} {p q : List Step} → p ≡ q → Spells a q → Spells a p
+as_steps e s = record { wanted = s.wanted; spelled = e ∙ s.spelled }
+
+-- steps with nothing behind them
+pub only : {a : List Piece} {p q : List Step} (s : List Step) → p ≡ s ++ q → q ≡ [] → Spells a s → Spells a p
+only s e n h = as_steps (e ∙ ap (λ q. s ++ q) n ∙ append-nil s) h
+
+-- steps with others behind them
+pub listed : {a b : List Piece} {p q : List Step} (s : List Step) → p ≡ s ++ q → Spells a s → Spells b q → Spells (a ++ b) p
+listed {a = a} {q = q} s e h k = joined a (e ∙ ap (λ s. s ++ q) h.spelled) h.wanted k
+
+-- the same pieces in other groups
+pub regrouped : (a b c : List Piece) {p : List Step} → Spells (a ++ (b ++ c)) p → Spells ((a ++ b) ++ c) p
+regrouped a b c {p = p} h = subst (λ l. Spells l p) (sym (append_assoc a b c)) h
+
+-- the pieces are as their places want them, and the steps begin with theirs
+pub record Starts (pieces : List Piece) (p q : List Step) : Type 0 where
+  pub wanted : ArePieces pieces
+  pub spelled : p ≡ pieces_steps pieces ++ q
+
+pub one_behind : (a b : List Piece) (p q r : List Step) → Starts a p q → Starts b q r → Starts (a ++ b) p r
+one_behind a b p q r h k = record {
+  wanted = are_joined a b h.wanted k.wanted;
+  spelled = h.spelled ∙ ap (λ q. pieces_steps a ++ q) k.spelled ∙ sym (append_assoc (pieces_steps a) (pieces_steps b) r) ∙ ap (λ s. s ++ r) (sym (steps_join a b));
+}
+
+-- ---- statements and modifiers
+
+pub said : (c : Class) (s : StatementTree) (p : List Step) (v : Value) → Stated s ≡ v → Spells (pieces_of s) p → closings s ≡ [] → OfClass c s → Says c p v
+said c s p v e h none class = subst (λ x. Says c p x) e (h.wanted, h.spelled, none, class)
+
+pub modifying_said : (m : ModifierTree) (p : List Step) (v : Value) → Modifying m ≡ v → Spells (modifier m) p → Modifies p v
+modifying_said m p v e h = subst (λ x. Modifies p x) e (h.wanted, h.spelled)
+
+-- what the form reads is a statement of the class
+abbrev pub Sound : Class → Form → Type 0
+Sound c f = (p : List Step) (v : Value) → Reads f p v → Says c p v
