@@ -7,7 +7,7 @@ pub mod ExpressionPlaces
 pub mod ExpressionSymbols
 pub mod FormBack
 pub mod FormLeads
-pub mod FormLists
+pub mod ListBack
 pub mod FrontLemmas
 pub mod GapLemmas
 pub mod GapNumberLemmas

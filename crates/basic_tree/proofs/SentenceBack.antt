@@ -17,7 +17,7 @@ use Rattle.basic_tree.proofs.FormLeads.{OfClass, Says, Modifies}
 use Rattle.basic_tree.proofs.MachineSpelled.{Spelled}
 use Rattle.basic_tree.proofs.MachineBack.{TakesBack, MoveBack}
 use Rattle.basic_tree.proofs.FormBack.{sign_back}
-use Rattle.basic_tree.proofs.FormLists.{steps_append, pieces_append, form_back}
+use Rattle.basic_tree.proofs.ListBack.{steps_append, pieces_append, form_back}
 use Rattle.basic_tree.proofs.SoundSentences.{sentence_sound, modifier_sound}
 
 -- ---- what stands behind a form
