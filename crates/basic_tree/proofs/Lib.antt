@@ -6,6 +6,8 @@ pub mod FormLeads
 pub mod FrontLemmas
 pub mod GapLemmas
 pub mod GapNumberLemmas
+pub mod LineLeads
+pub mod LineSteps
 pub mod MachineBack
 pub mod MachineComplete
 pub mod MachineForms
