@@ -6,6 +6,7 @@ pub mod FormLeads
 pub mod FrontLemmas
 pub mod GapLemmas
 pub mod GapNumberLemmas
+pub mod IfLeads
 pub mod LineLeads
 pub mod LineSteps
 pub mod MachineBack

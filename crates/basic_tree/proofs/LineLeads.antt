@@ -1,5 +1,5 @@
 -- The words of a statement with its modifiers lead the machine from the form of its first word to the statement.
-use Rattle.std.proofs.Common.{subst, ◌≡◌, ◌+◌, ◌-◌, max, ℕ, suc, ◌≤◌, Bool, true, false, not, List, [], ◌∷◌, ◌++◌, Option, Some, None, refl, sym, ap, ◌∙◌, append_assoc, arith}
+use Rattle.std.proofs.Common.{subst, ◌≡◌, ◌+◌, ◌-◌, max, ℕ, suc, ◌≤◌, Bool, true, false, not, ◌||◌, List, [], ◌∷◌, ◌++◌, Option, Some, None, refl, sym, ap, ◌∙◌, append_assoc, arith}
 use Rattle.basic_tree.specs.declared.tokens.Keyword.{Keyword}
 use Rattle.basic_tree.specs.declared.tokens.Keyword.TheVariants as keyword
 use Rattle.basic_tree.specs.declared.tokens.Sign.TheVariants as sign
@@ -152,3 +152,143 @@ parts_before (p ∷ a) b h = (h.0, parts_before a b h.1)
 pub parts_behind : (a b : List Piece) → ArePieces (a ++ b) → ArePieces b
 parts_behind [] b h = h
 parts_behind (p ∷ a) b h = parts_behind a b h.1
+
+-- ---- a statement with modifiers
+
+one_modifier : (m : ModifierTree) (d : BegunModifier m) (s : StatementTree) (n : ℕ) → d.bound ≤ n → (r : List Word) (k : List Symbol) (vs : List Value) → Ending true r → run (suc n) (words (pieces_steps (modifier m)) ++ r) (Modifiers ∷ k) (Stated s ∷ vs) ≡ run n r (Modifiers ∷ Close ∷ k) (Stated (Modified s m) ∷ vs)
+one_modifier m d s n le r k vs e =
+    ap (λ ws. run (suc n) (ws ++ r) (Modifiers ∷ k) (Stated s ∷ vs)) d.spelled
+    ∙ run_modifier (suc n) d.word (d.rest ++ r) d.form k (Stated s ∷ vs) d.known
+    ∙ ap (λ ws. run (suc n) (ws ++ r) (Go d.form ∷ Do Modify ∷ Modifiers ∷ Close ∷ k) (Stated s ∷ vs)) (sym d.spelled)
+    ∙ d.by n le r (Do Modify ∷ Modifiers ∷ Close ∷ k) (Stated s ∷ vs) e
+    ∙ run_do n Modify r (Modifiers ∷ Close ∷ k) (Modifying m ∷ Stated s ∷ vs)
+
+modifier_behind : (m : ModifierTree) (d : BegunModifier m) (r : List Word) → Ending true (words (pieces_steps (modifier m)) ++ r)
+modifier_behind m d r = subst (λ x. Ending true (x ++ r)) (sym d.spelled) (modifier_ends d.word (d.rest ++ r) d.form d.known)
+
+-- a statement that may have modifiers, up to where the levels of its modifiers end
+pub record BegunModified (s : StatementTree) : Type 0 where
+  pub word : Word
+  pub rest : List Word
+  pub sentence : Sentence
+  pub known : sentence_of word ≡ Some sentence
+  pub spelled : words (pieces_steps (pieces_of s)) ≡ word ∷ rest
+  pub class : sentence.class ≡ Simple
+  pub bound : ℕ
+  pub by : (n : ℕ) → bound ≤ n → (r : List Word) (k : List Symbol) (vs : List Value) → Ending true r → run (levels_before s n) (words (pieces_steps (pieces_of s)) ++ r) (Go sentence.form ∷ Modifiers ∷ k) vs ≡ run n r (Modifiers ∷ closes s k) (Stated s ∷ vs)
+
+class_simple : (c : Class) (s : StatementTree) → OfClass c s → is_if s ≡ false → is_head s ≡ false → c ≡ Simple
+class_simple Choice s h i e = absurd cc
+class_simple Head s h i e = absurd (cc (h.1))
+class_simple Simple s h i e = refl
+
+unmodified : SimpleLeads → (s : StatementTree) → is_if s ≡ false → is_head s ≡ false → closings s ≡ [] → ((n : ℕ) → levels_before s n ≡ n) → ((k : List Symbol) → closes s k ≡ k) → ArePieces (pieces_of s) → BegunModified s
+unmodified simple s i e c l d h =
+    let b = simple s i c h in
+    record {
+      word = b.word;
+      rest = b.rest;
+      sentence = b.sentence;
+      known = b.known;
+      spelled = b.spelled;
+      class = class_simple b.sentence.class s b.class i e;
+      bound = b.leads.bound;
+      by = λ n le r k vs x.
+          ap (λ m. run m (words (pieces_steps (pieces_of s)) ++ r) (Go b.sentence.form ∷ Modifiers ∷ k) vs) (l n)
+          ∙ b.leads.by n le r (Modifiers ∷ k) vs x
+          ∙ ap (λ q. run n r (Modifiers ∷ q) (Stated s ∷ vs)) (sym (d k));
+    }
+
+one_more : (s : StatementTree) (m : ModifierTree) → BegunModified s → BegunModifier m → BegunModified (Modified s m)
+one_more s m b d = record {
+  word = b.word;
+  rest = b.rest ++ words (pieces_steps (modifier m));
+  sentence = b.sentence;
+  known = b.known;
+  spelled =
+      ap (λ x. words x) (pieces_append (pieces_of s) (modifier m))
+      ∙ words_append (pieces_steps (pieces_of s)) (pieces_steps (modifier m))
+      ∙ ap (λ x. x ++ words (pieces_steps (modifier m))) b.spelled;
+  class = b.class;
+  bound = max b.bound d.bound;
+  by = λ n le r k vs x.
+      ap (λ ws. run (levels_before s (suc n)) ws (Go b.sentence.form ∷ Modifiers ∷ k) vs) (pieces_words (pieces_of s) (modifier m) r)
+      ∙ b.by (suc n) (omega (arith, le)) (words (pieces_steps (modifier m)) ++ r) k vs (modifier_behind m d r)
+      ∙ one_modifier m d s n (omega (arith, le)) r (closes s k) vs x;
+}
+
+neither : (a b : Bool) → not (a || b) ≡ true → (a ≡ false) × (b ≡ false)
+neither true b h = absurd cc
+neither false true h = absurd cc
+neither false false h = (refl, refl)
+
+pub begun_modified : SimpleLeads → ModifierLeads → (s : StatementTree) → is_if s ≡ false → is_head s ≡ false → ArePieces (pieces_of s) → BegunModified s
+begun_modified simple mods (Modified s m) i e h =
+    let x = neither (is_if s) (is_head s) h.0 in
+    one_more s m (begun_modified simple mods s x.0 x.1 (parts_before (pieces_of s) (modifier m) h.1)) (mods m (parts_behind (pieces_of s) (modifier m) h.1))
+begun_modified simple mods s i e h = unmodified simple s i e refl (λ n. refl) (λ k. refl) h
+
+-- ---- every statement
+
+-- a statement, up to where it ends
+pub record Starts (s : StatementTree) : Type 0 where
+  pub word : Word
+  pub rest : List Word
+  pub sentence : Sentence
+  pub known : sentence_of word ≡ Some sentence
+  pub spelled : words (pieces_steps (pieces_of s)) ≡ word ∷ rest
+  pub class : is_head_class sentence.class ≡ is_head s
+  pub bound : ℕ
+  pub by : (n : ℕ) → bound ≤ n → (r : List Word) (k : List Symbol) (vs : List Value) → Finished (not (wants_else s)) r → run n (words (pieces_steps (pieces_of s)) ++ r) (Go sentence.form ∷ (behind_clause_class sentence.class ++ k)) vs ≡ run n r k (Stated s ∷ vs)
+
+starts_modified : (s : StatementTree) → is_head s ≡ false → BegunModified s → Starts s
+starts_modified s i b = record {
+  word = b.word;
+  rest = b.rest;
+  sentence = b.sentence;
+  known = b.known;
+  spelled = b.spelled;
+  class = ap (λ c. is_head_class c) b.class ∙ sym i;
+  bound = b.bound + modifier_count s;
+  by = λ n le r k vs x.
+      let m : ℕ = n - modifier_count s in
+      let same : levels_before s m ≡ n = levels_count s m ∙ omega (arith, le) in
+      ap (λ c. run n (words (pieces_steps (pieces_of s)) ++ r) (Go b.sentence.form ∷ (behind_clause_class c ++ k)) vs) b.class
+      ∙ subst (λ (y : ℕ). run y (words (pieces_steps (pieces_of s)) ++ r) (Go b.sentence.form ∷ Modifiers ∷ k) vs ≡ run y r k (Stated s ∷ vs)) same
+        (b.by m (omega (arith, le)) r k vs (finished_ends (not (wants_else s)) r x)
+        ∙ run_no_modifier m r (closes s k) s vs (finished_no_modifier (not (wants_else s)) r x)
+        ∙ run_closes s m r k (Stated s ∷ vs));
+}
+
+class_head : (c : Class) (s : StatementTree) → OfClass c s → is_if s ≡ false → is_head s ≡ true → c ≡ Head
+class_head Choice s h i e = absurd cc
+class_head Head s h i e = refl
+class_head Simple s h i e = absurd (cc (h.1))
+
+starts_head : SimpleLeads → (s : StatementTree) → is_if s ≡ false → is_head s ≡ true → closings s ≡ [] → ArePieces (pieces_of s) → Starts s
+starts_head simple s i e c h =
+    let b = simple s i c h in
+    let x = class_head b.sentence.class s b.class i e in
+    record {
+      word = b.word;
+      rest = b.rest;
+      sentence = b.sentence;
+      known = b.known;
+      spelled = b.spelled;
+      class = ap (λ y. is_head_class y) x ∙ sym e;
+      bound = b.leads.bound;
+      by = λ n le r k vs f.
+          ap (λ y. run n (words (pieces_steps (pieces_of s)) ++ r) (Go b.sentence.form ∷ (behind_clause_class y ++ k)) vs) x
+          ∙ b.leads.by n le r k vs (finished_ends (not (wants_else s)) r f);
+    }
+
+head_closings : (s : StatementTree) → is_head s ≡ true → closings s ≡ []
+head_closings (Modified s m) e = absurd cc
+head_closings s e = refl
+
+-- every statement but IF
+pub starts_other : SimpleLeads → ModifierLeads → (s : StatementTree) → is_if s ≡ false → ArePieces (pieces_of s) → Starts s
+starts_other simple mods s i h = go (is_head s) refl where
+  go : (b : Bool) → is_head s ≡ b → Starts s
+  go true e = starts_head simple s i e (head_closings s e) h
+  go false e = starts_modified s e (begun_modified simple mods s i e h)
