@@ -10,17 +10,18 @@ use Rattle.basic_tree.specs.Trees.{Tree, ClauseTree, LineClause, StatementClause
 use Rattle.basic_tree.specs.SpellingExpressions.{steps_of, Fits, IsTree}
 use Rattle.basic_tree.specs.SpellingPieces.{Piece, Holds, pieces_steps, ArePieces, closing}
 use Rattle.basic_tree.specs.SpellingStatements.{is_head, wants_else, else_wants_else, clause_wants_else, has_else, closings, pieces_of, clause_pieces, else_pieces}
-use Rattle.basic_tree.specs.GrammarStack.{Term, Value, Values, Stated, Symbol, Level, Go, Await, AwaitClause, Close, Form, Made, ExprOf, IfKey, ClauseIn, LiteralIn, LineNumber, within, loosest}
+use Rattle.basic_tree.specs.GrammarStack.{Term, Value, Values, Stated, Symbol, Level, Go, Await, AwaitClause, Close, Form, Made, ExprOf, IfKey, ClauseIn, LiteralIn, TakeKey, LineNumber, within, loosest}
+use Rattle.basic_tree.specs.GrammarWords.{is_same_keyword}
 use Rattle.basic_tree.specs.GrammarStarts.{Start, start}
 use Rattle.basic_tree.specs.GrammarForms.{else_form, says}
 use Rattle.basic_tree.specs.GrammarSentences.{Choice, if_form}
 use Rattle.basic_tree.specs.GrammarMachine.{begun, then_also}
 use Rattle.basic_tree.specs.GrammarRun.{Turn, moved, turn, turned, run}
-use Rattle.basic_tree.proofs.MachineSteps.{run_close}
+use Rattle.basic_tree.proofs.MachineSteps.{is_opening, run_close}
 use Rattle.basic_tree.proofs.MachineLeads.{Follows, words_parts}
 use Rattle.basic_tree.proofs.MachineComplete.{depth_of, whole}
 use Rattle.basic_tree.proofs.MachineForms.{complete}
-use Rattle.basic_tree.proofs.LineSteps.{run_clause, run_line_clause, run_await_clause, run_made}
+use Rattle.basic_tree.proofs.LineSteps.{behind_clause_class, run_clause, run_line_clause, run_await_clause, run_made}
 use Rattle.basic_tree.proofs.LineLeads.{SimpleLeads, ModifierLeads, Finished, finished_widened, closings_words, pieces_words, parts_before, parts_behind, Starts, starts_other}
 
 -- ---- an expression of a form
@@ -40,5 +41,185 @@ unfolding run
 run_await n [] g t k vs = refl
 run_await n (x ∷ ws) g t k vs = refl
 
-condition_leads : (n : ℕ) (t : Tree) → IsTree t → depth_of t ≤ n → Fits want.Number t → (x : Word) (r : List Word) → Follows 12 (x ∷ r) → (c : (ends : Bool) → ends ≡ ends) → (g : Tree → Form) (k : List Symbol) (vs : Values) → run n (words (steps_of t) ++ (x ∷ r)) (Go (ExprOf want.Number g) ∷ k) vs ≡ run n (x ∷ r) (Go (g t) ∷ k) vs
-condition_leads n t i d f x r s c g k vs = ?
+condition_leads : (n : ℕ) (t : Tree) → IsTree t → depth_of t ≤ n → Fits want.Number t → (x : Word) (r : List Word) → Follows 12 (x ∷ r) → is_opening x ≡ false → (g : Tree → Form) (k : List Symbol) (vs : Values) → run n (words (steps_of t) ++ (x ∷ r)) (Go (ExprOf want.Number g) ∷ k) vs ≡ run n (x ∷ r) (Go (g t) ∷ k) vs
+condition_leads n t i d f x r s o g k vs =
+    run_expression n (words (steps_of t) ++ (x ∷ r)) want.Number g k vs
+    ∙ whole n t i (complete t n i d).leads want.Number (x ∷ r) (Await g ∷ k) vs f s (λ e. o)
+    ∙ run_await n (x ∷ r) g t k vs
+
+then_follows : (r : List Word) → Follows 12 (Key keyword.Then ∷ r)
+then_follows r = ((((((((((((tt, refl), refl), refl), refl), refl), refl), refl), refl), refl), refl), refl), refl)
+
+goto_follows : (r : List Word) → Follows 12 (Key keyword.Goto ∷ r)
+goto_follows r = ((((((((((((tt, refl), refl), refl), refl), refl), refl), refl), refl), refl), refl), refl), refl)
+
+-- ---- clauses
+
+pub record ClauseLeads (c : ClauseTree) : Type 0 where
+  pub bound : ℕ
+  pub by : (n : ℕ) → bound ≤ n → (r : List Word) (g : ClauseTree → Form) (k : List Symbol) (vs : Values) → Finished (not (clause_wants_else c)) r → run n (words (pieces_steps (clause_pieces c)) ++ r) (Go (ClauseIn g) ∷ k) vs ≡ run (suc n) r (Go (g c) ∷ k) vs
+
+line_clause : (c : ℕ) → within LineNumber c ≡ true → ClauseLeads (LineClause c)
+line_clause c h = record { bound = 0; by = λ n le r g k vs x. run_line_clause n c r g k vs h ∙ run_close n r (Go (g (LineClause c)) ∷ k) vs }
+
+no_head : (b : Bool) → not b ≡ true → b ≡ false
+no_head true e = absurd cc
+no_head false e = refl
+
+statement_clause : (s : StatementTree) → is_head s ≡ false → Starts s → ClauseLeads (StatementClause s)
+statement_clause s i b = record {
+  bound = b.bound;
+  by = λ n le r g k vs x.
+      let e : words (pieces_steps (clause_pieces (StatementClause s))) ++ r ≡ words (pieces_steps (pieces_of s)) ++ r =
+          pieces_words (pieces_of s) (closings s) r ∙ ap (λ y. words (pieces_steps (pieces_of s)) ++ (y ++ r)) (closings_words s) in
+      ap (λ ws. run n ws (Go (ClauseIn g) ∷ k) vs) e
+      ∙ ap (λ ws. run n (ws ++ r) (Go (ClauseIn g) ∷ k) vs) b.spelled
+      ∙ run_clause n b.word (b.rest ++ r) b.sentence g k vs b.known (b.class ∙ i)
+      ∙ ap (λ ws. run n (ws ++ r) (Go b.sentence.form ∷ (behind_clause_class b.sentence.class ++ Close ∷ AwaitClause g ∷ k)) vs) (sym b.spelled)
+      ∙ b.by n le r (Close ∷ AwaitClause g ∷ k) vs x
+      ∙ run_close n r (AwaitClause g ∷ k) (Stated s ∷ vs)
+      ∙ run_await_clause (suc n) r g s k vs;
+}
+
+-- ---- an ELSE, or none
+
+-- true: the clause before it takes any ELSE itself
+pub record ElseLeads (o : ElseTree) : Type 0 where
+  pub bound : ℕ
+  pub by : (b : Bool) → (has_else o ≡ true → b ≡ false) → (n : ℕ) → bound ≤ n → (r : List Word) (g : ElseTree → Form) (k : List Symbol) (vs : Values) → Finished (not (else_wants_else o)) r → run n (words (pieces_steps (else_pieces o)) ++ r) (Go (else_form b g) ∷ k) vs ≡ run n r (Go (g o) ∷ k) vs
+
+no_else : (n : ℕ) (r : List Word) (f h : Form) (k : List Symbol) (vs : Values) → Finished false r → run n r (Go (IfKey true keyword.Else f h) ∷ k) vs ≡ run n r (Go h ∷ k) vs
+unfolding run
+no_else n [] f h k vs e = refl
+no_else n (Punctuation sign.Colon ∷ r) f h k vs e = refl
+no_else n (Key keyword.Else ∷ r) f h k vs e = absurd cc
+no_else n (Key x ∷ r) f h k vs e = absurd cc
+no_else n (t ∷ r) f h k vs e = absurd cc
+
+nothing_else : ElseLeads NoElse
+nothing_else = record { bound = 0; by = go } where
+  go : (b : Bool) → (false ≡ true → b ≡ false) → (n : ℕ) → 0 ≤ n → (r : List Word) (g : ElseTree → Form) (k : List Symbol) (vs : Values) → Finished false r → run n r (Go (else_form b g) ∷ k) vs ≡ run n r (Go (g NoElse) ∷ k) vs
+  go true h n le r g k vs x = refl
+  go false h n le r g k vs x = no_else n r (ClauseIn (λ clause. g (Else clause))) (g NoElse) k vs x
+
+-- a word that opens a level
+opened_key : (n : ℕ) (x : Keyword) (r : List Word) (f h : Form) (k : List Symbol) (vs : Values) → is_same_keyword x x ≡ true → run (suc n) (Key x ∷ r) (Go (IfKey true x f h) ∷ k) vs ≡ run n r (Go f ∷ k) vs
+unfolding run
+opened_key n x r f h k vs e = rw e refl
+
+some_else : (c : ClauseTree) → ClauseLeads c → ElseLeads (Else c)
+some_else c d = record { bound = suc d.bound; by = go } where
+  go : (b : Bool) → (true ≡ true → b ≡ false) → (n : ℕ) → suc d.bound ≤ n → (r : List Word) (g : ElseTree → Form) (k : List Symbol) (vs : Values) → Finished (not (clause_wants_else c)) r → run n (words (pieces_steps (else_pieces (Else c))) ++ r) (Go (else_form b g) ∷ k) vs ≡ run n r (Go (g (Else c)) ∷ k) vs
+  go true h n le r g k vs x = absurd (cc (h refl))
+  go false h zero le r g k vs x = absurd (omega (arith, le))
+  go false h (suc n) le r g k vs x =
+      opened_key n keyword.Else (words (pieces_steps (clause_pieces c ++ closing ∷ [])) ++ r) (ClauseIn (λ clause. g (Else clause))) (g NoElse) k vs refl
+      ∙ ap (λ ws. run n ws (Go (ClauseIn (λ clause. g (Else clause))) ∷ k) vs) (pieces_words (clause_pieces c) (closing ∷ []) r)
+      ∙ d.by n (omega (arith, le)) r (λ clause. g (Else clause)) k vs x
+
+-- what stands behind the clause before an ELSE
+clause_end : (o : ElseTree) (w : Bool) (r : List Word) → not (has_else o && w) ≡ true → Finished (not (else_wants_else o)) r → Finished (not w) (words (pieces_steps (else_pieces o)) ++ r)
+clause_end NoElse w r h x = finished_widened (not w) r x
+clause_end (Else c) true r h x = absurd cc
+clause_end (Else c) false r h x = refl
+
+else_free : (a b : Bool) → not (a && b) ≡ true → a ≡ true → b ≡ false
+else_free true true h e = absurd cc
+else_free true false h e = refl
+else_free false b h e = absurd cc
+
+-- ---- IF
+
+then_words : (t : Tree) (c : ClauseTree) (o : ElseTree) (r : List Word) → words (pieces_steps (pieces_of (IfThen t c o))) ++ r ≡ Key keyword.If ∷ (words (steps_of t) ++ Key keyword.Then ∷ (words (pieces_steps (clause_pieces c)) ++ (words (pieces_steps (else_pieces o)) ++ r)))
+then_words t c o r =
+    let after = closing ∷ Holds (not (has_else o && clause_wants_else c)) ∷ else_pieces o in
+    ap (λ x. Key keyword.If ∷ x)
+    (words_parts (steps_of t) (Opens (Key keyword.Then) ∷ pieces_steps (clause_pieces c ++ after)) r
+    ∙ ap (λ x. words (steps_of t) ++ Key keyword.Then ∷ x) (pieces_words (clause_pieces c) after r))
+
+taken_key : (n : ℕ) (x : Keyword) (r : List Word) (f : Form) (k : List Symbol) (vs : Values) → is_same_keyword x x ≡ true → run n (Key x ∷ r) (Go (TakeKey false x f) ∷ k) vs ≡ run n r (Go f ∷ k) vs
+unfolding run
+taken_key n x r f k vs e = rw e refl
+
+-- what is expected behind the condition
+abbrev behind_condition : Tree → Form
+behind_condition condition =
+    IfKey true keyword.Then (ClauseIn (λ clause. else_form (clause_wants_else clause) (λ otherwise. says (IfThen condition clause otherwise))))
+    (TakeKey false keyword.Goto (LiteralIn LineNumber (λ n. else_form false (λ otherwise. says (IfGoto condition n otherwise)))))
+
+if_then : (t : Tree) (c : ClauseTree) (o : ElseTree) → ArePieces (pieces_of (IfThen t c o)) → not (has_else o && clause_wants_else c) ≡ true → ClauseLeads c → ElseLeads o → Starts (IfThen t c o)
+if_then t c o h y d q = record {
+  word = Key keyword.If;
+  rest = _;
+  sentence = record { class = Choice; form = if_form };
+  known = refl;
+  spelled = refl;
+  class = refl;
+  bound = suc (max (depth_of t) (max d.bound q.bound));
+  by = go;
+} where
+  go : (n : ℕ) → suc (max (depth_of t) (max d.bound q.bound)) ≤ n → (r : List Word) (k : List Symbol) (vs : Values) → Finished (not (else_wants_else o)) r → run n (words (pieces_steps (pieces_of (IfThen t c o))) ++ r) (Go if_form ∷ k) vs ≡ run n r k (Stated (IfThen t c o) ∷ vs)
+  go zero le r k vs x = absurd (omega (arith, le))
+  go (suc n) le r k vs x =
+      let behind = words (pieces_steps (else_pieces o)) ++ r in
+      let clause = words (pieces_steps (clause_pieces c)) ++ behind in
+      ap (λ ws. run (suc n) ws (Go if_form ∷ k) vs) (then_words t c o r)
+      ∙ taken_key (suc n) keyword.If (words (steps_of t) ++ Key keyword.Then ∷ clause) (ExprOf want.Number behind_condition) k vs refl
+      ∙ condition_leads (suc n) t h.1.0.0 (omega (arith, le)) h.1.0.1 (Key keyword.Then) clause (then_follows clause) refl behind_condition k vs
+      ∙ opened_key n keyword.Then clause _ _ k vs refl
+      ∙ d.by n (omega (arith, le)) behind _ k vs (clause_end o (clause_wants_else c) r y x)
+      ∙ q.by (clause_wants_else c) (else_free (has_else o) (clause_wants_else c) y) (suc n) (omega (arith, le)) r (λ otherwise. says (IfThen t c otherwise)) k vs x
+      ∙ run_made (suc n) r (Stated (IfThen t c o)) k vs
+
+goto_words : (t : Tree) (l : ℕ) (o : ElseTree) (r : List Word) → words (pieces_steps (pieces_of (IfGoto t l o))) ++ r ≡ Key keyword.If ∷ (words (steps_of t) ++ Key keyword.Goto ∷ Number l ∷ (words (pieces_steps (else_pieces o)) ++ r))
+goto_words t l o r = ap (λ x. Key keyword.If ∷ x) (words_parts (steps_of t) (Plain (Key keyword.Goto) ∷ Plain (Number l) ∷ pieces_steps (else_pieces o)) r)
+
+passed_key : (n : ℕ) (x y : Keyword) (r : List Word) (f h : Form) (k : List Symbol) (vs : Values) → is_same_keyword x y ≡ false → run n (Key y ∷ r) (Go (IfKey true x f h) ∷ k) vs ≡ run n (Key y ∷ r) (Go h ∷ k) vs
+unfolding run
+passed_key n x y r f h k vs e = rw e refl
+
+literal_taken : (n l : ℕ) (r : List Word) (g : ℕ → Form) (k : List Symbol) (vs : Values) → within LineNumber l ≡ true → run n (Number l ∷ r) (Go (LiteralIn LineNumber g) ∷ k) vs ≡ run n r (Go (g l) ∷ k) vs
+unfolding run
+literal_taken n l r g k vs e = rw e refl
+
+if_goto : (t : Tree) (l : ℕ) (o : ElseTree) → ArePieces (pieces_of (IfGoto t l o)) → ElseLeads o → Starts (IfGoto t l o)
+if_goto t l o h q = record {
+  word = Key keyword.If;
+  rest = _;
+  sentence = record { class = Choice; form = if_form };
+  known = refl;
+  spelled = refl;
+  class = refl;
+  bound = max (depth_of t) q.bound;
+  by = go;
+} where
+  go : (n : ℕ) → max (depth_of t) q.bound ≤ n → (r : List Word) (k : List Symbol) (vs : Values) → Finished (not (else_wants_else o)) r → run n (words (pieces_steps (pieces_of (IfGoto t l o))) ++ r) (Go if_form ∷ k) vs ≡ run n r k (Stated (IfGoto t l o) ∷ vs)
+  go n le r k vs x =
+      let behind = words (pieces_steps (else_pieces o)) ++ r in
+      ap (λ ws. run n ws (Go if_form ∷ k) vs) (goto_words t l o r)
+      ∙ taken_key n keyword.If (words (steps_of t) ++ Key keyword.Goto ∷ Number l ∷ behind) (ExprOf want.Number behind_condition) k vs refl
+      ∙ condition_leads n t h.1.0.0 (omega (arith, le)) h.1.0.1 (Key keyword.Goto) (Number l ∷ behind) (goto_follows (Number l ∷ behind)) refl behind_condition k vs
+      ∙ passed_key n keyword.Then keyword.Goto (Number l ∷ behind) _ _ k vs refl
+      ∙ taken_key n keyword.Goto (Number l ∷ behind) _ k vs refl
+      ∙ literal_taken n l behind _ k vs h.1.1.1.0
+      ∙ q.by false (λ e. refl) n (omega (arith, le)) r (λ otherwise. says (IfGoto t l otherwise)) k vs x
+      ∙ run_made n r (Stated (IfGoto t l o)) k vs
+
+-- ---- every statement and clause
+
+mutual
+  pub starts : SimpleLeads → ModifierLeads → (s : StatementTree) → ArePieces (pieces_of s) → Starts s
+  starts simple mods (IfThen t c o) h =
+      let behind = closing ∷ Holds (not (has_else o && clause_wants_else c)) ∷ else_pieces o in
+      let b = parts_behind (clause_pieces c) behind h.1.1.1 in
+      if_then t c o h b.1.0 (clause_leads simple mods c (parts_before (clause_pieces c) behind h.1.1.1)) (else_leads simple mods o b.1.1)
+  starts simple mods (IfGoto t l o) h = if_goto t l o h (else_leads simple mods o h.1.1.1.1)
+  starts simple mods s h = starts_other simple mods s refl h
+
+  pub clause_leads : SimpleLeads → ModifierLeads → (c : ClauseTree) → ArePieces (clause_pieces c) → ClauseLeads c
+  clause_leads simple mods (LineClause c) h = line_clause c h.0
+  clause_leads simple mods (StatementClause s) h = statement_clause s (no_head (is_head s) h.0) (starts simple mods s (parts_before (pieces_of s) (closings s) h.1))
+
+  pub else_leads : SimpleLeads → ModifierLeads → (o : ElseTree) → ArePieces (else_pieces o) → ElseLeads o
+  else_leads simple mods NoElse h = nothing_else
+  else_leads simple mods (Else c) h = some_else c (clause_leads simple mods c (parts_before (clause_pieces c) (closing ∷ []) h.1))
