@@ -23,6 +23,7 @@ pub mod MachineSteps
 pub mod MachineTrees
 pub mod MachineTurns
 pub mod MoveLemmas
+pub mod OneLine
 pub mod OneTree
 pub mod SeamLemmas
 pub mod SliceLemmas
