@@ -8,6 +8,7 @@ pub mod GapLemmas
 pub mod GapNumberLemmas
 pub mod IfLeads
 pub mod LineLeads
+pub mod LineLevels
 pub mod LineSteps
 pub mod MachineBack
 pub mod MachineComplete
