@@ -17,8 +17,8 @@ use Rattle.basic_tree.specs.GrammarForms.{else_form, says}
 use Rattle.basic_tree.specs.GrammarSentences.{Choice, if_form}
 use Rattle.basic_tree.specs.GrammarMachine.{begun, then_also}
 use Rattle.basic_tree.specs.GrammarRun.{Turn, moved, turn, turned, run}
-use Rattle.basic_tree.proofs.MachineSteps.{is_opening, run_close}
-use Rattle.basic_tree.proofs.MachineLeads.{Follows, words_parts}
+use Rattle.basic_tree.proofs.MachineSteps.{run_close}
+use Rattle.basic_tree.proofs.MachineLeads.{Follows, Parted, words_parts}
 use Rattle.basic_tree.proofs.MachineComplete.{depth_of, whole}
 use Rattle.basic_tree.proofs.MachineForms.{complete}
 use Rattle.basic_tree.proofs.LineSteps.{behind_clause_class, run_clause, run_line_clause, run_await_clause, run_made}
@@ -41,11 +41,11 @@ unfolding run
 run_await n [] g t k vs = refl
 run_await n (x ∷ ws) g t k vs = refl
 
-condition_leads : (n : ℕ) (t : Tree) → IsTree t → depth_of t ≤ n → Fits want.Number t → (x : Word) (r : List Word) → Follows 12 (x ∷ r) → is_opening x ≡ false → (g : Tree → Form) (k : List Symbol) (vs : Values) → run n (words (steps_of t) ++ (x ∷ r)) (Go (ExprOf want.Number g) ∷ k) vs ≡ run n (x ∷ r) (Go (g t) ∷ k) vs
-condition_leads n t i d f x r s o g k vs =
-    run_expression n (words (steps_of t) ++ (x ∷ r)) want.Number g k vs
-    ∙ whole n t i (complete t n i d).leads want.Number (x ∷ r) (Await g ∷ k) vs f s (λ e. o)
-    ∙ run_await n (x ∷ r) g t k vs
+pub expression_leads : (n : ℕ) (w : Want) (t : Tree) → IsTree t → depth_of t ≤ n → Fits w t → (r : List Word) → Follows 12 r → Parted t r → (g : Tree → Form) (k : List Symbol) (vs : Values) → run n (words (steps_of t) ++ r) (Go (ExprOf w g) ∷ k) vs ≡ run n r (Go (g t) ∷ k) vs
+expression_leads n w t i d f r s p g k vs =
+    run_expression n (words (steps_of t) ++ r) w g k vs
+    ∙ whole n t i (complete t n i d).leads w r (Await g ∷ k) vs f s p
+    ∙ run_await n r g t k vs
 
 then_follows : (r : List Word) → Follows 12 (Key keyword.Then ∷ r)
 then_follows r = ((((((((((((tt, refl), refl), refl), refl), refl), refl), refl), refl), refl), refl), refl), refl)
@@ -88,7 +88,7 @@ pub record ElseLeads (o : ElseTree) : Type 0 where
   pub bound : ℕ
   pub by : (b : Bool) → (has_else o ≡ true → b ≡ false) → (n : ℕ) → bound ≤ n → (r : List Word) (g : ElseTree → Form) (k : List Symbol) (vs : Values) → Finished (not (else_wants_else o)) r → run n (words (pieces_steps (else_pieces o)) ++ r) (Go (else_form b g) ∷ k) vs ≡ run n r (Go (g o) ∷ k) vs
 
-no_else : (n : ℕ) (r : List Word) (f h : Form) (k : List Symbol) (vs : Values) → Finished false r → run n r (Go (IfKey true keyword.Else f h) ∷ k) vs ≡ run n r (Go h ∷ k) vs
+pub no_else : (n : ℕ) (r : List Word) (f h : Form) (k : List Symbol) (vs : Values) → Finished false r → run n r (Go (IfKey true keyword.Else f h) ∷ k) vs ≡ run n r (Go h ∷ k) vs
 unfolding run
 no_else n [] f h k vs e = refl
 no_else n (Punctuation sign.Colon ∷ r) f h k vs e = refl
@@ -103,7 +103,7 @@ nothing_else = record { bound = 0; by = go } where
   go false h n le r g k vs x = no_else n r (ClauseIn (λ clause. g (Else clause))) (g NoElse) k vs x
 
 -- a word that opens a level
-opened_key : (n : ℕ) (x : Keyword) (r : List Word) (f h : Form) (k : List Symbol) (vs : Values) → is_same_keyword x x ≡ true → run (suc n) (Key x ∷ r) (Go (IfKey true x f h) ∷ k) vs ≡ run n r (Go f ∷ k) vs
+pub opened_key : (n : ℕ) (x : Keyword) (r : List Word) (f h : Form) (k : List Symbol) (vs : Values) → is_same_keyword x x ≡ true → run (suc n) (Key x ∷ r) (Go (IfKey true x f h) ∷ k) vs ≡ run n r (Go f ∷ k) vs
 unfolding run
 opened_key n x r f h k vs e = rw e refl
 
@@ -137,7 +137,7 @@ then_words t c o r =
     (words_parts (steps_of t) (Opens (Key keyword.Then) ∷ pieces_steps (clause_pieces c ++ after)) r
     ∙ ap (λ x. words (steps_of t) ++ Key keyword.Then ∷ x) (pieces_words (clause_pieces c) after r))
 
-taken_key : (n : ℕ) (x : Keyword) (r : List Word) (f : Form) (k : List Symbol) (vs : Values) → is_same_keyword x x ≡ true → run n (Key x ∷ r) (Go (TakeKey false x f) ∷ k) vs ≡ run n r (Go f ∷ k) vs
+pub taken_key : (n : ℕ) (x : Keyword) (r : List Word) (f : Form) (k : List Symbol) (vs : Values) → is_same_keyword x x ≡ true → run n (Key x ∷ r) (Go (TakeKey false x f) ∷ k) vs ≡ run n r (Go f ∷ k) vs
 unfolding run
 taken_key n x r f k vs e = rw e refl
 
@@ -165,7 +165,7 @@ if_then t c o h y d q = record {
       let clause = words (pieces_steps (clause_pieces c)) ++ behind in
       ap (λ ws. run (suc n) ws (Go if_form ∷ k) vs) (then_words t c o r)
       ∙ taken_key (suc n) keyword.If (words (steps_of t) ++ Key keyword.Then ∷ clause) (ExprOf want.Number behind_condition) k vs refl
-      ∙ condition_leads (suc n) t h.1.0.0 (omega (arith, le)) h.1.0.1 (Key keyword.Then) clause (then_follows clause) refl behind_condition k vs
+      ∙ expression_leads (suc n) want.Number t h.1.0.0 (omega (arith, le)) h.1.0.1 (Key keyword.Then ∷ clause) (then_follows clause) (λ e. refl) behind_condition k vs
       ∙ opened_key n keyword.Then clause _ _ k vs refl
       ∙ d.by n (omega (arith, le)) behind _ k vs (clause_end o (clause_wants_else c) r y x)
       ∙ q.by (clause_wants_else c) (else_free (has_else o) (clause_wants_else c) y) (suc n) (omega (arith, le)) r (λ otherwise. says (IfThen t c otherwise)) k vs x
@@ -174,11 +174,11 @@ if_then t c o h y d q = record {
 goto_words : (t : Tree) (l : ℕ) (o : ElseTree) (r : List Word) → words (pieces_steps (pieces_of (IfGoto t l o))) ++ r ≡ Key keyword.If ∷ (words (steps_of t) ++ Key keyword.Goto ∷ Number l ∷ (words (pieces_steps (else_pieces o)) ++ r))
 goto_words t l o r = ap (λ x. Key keyword.If ∷ x) (words_parts (steps_of t) (Plain (Key keyword.Goto) ∷ Plain (Number l) ∷ pieces_steps (else_pieces o)) r)
 
-passed_key : (n : ℕ) (x y : Keyword) (r : List Word) (f h : Form) (k : List Symbol) (vs : Values) → is_same_keyword x y ≡ false → run n (Key y ∷ r) (Go (IfKey true x f h) ∷ k) vs ≡ run n (Key y ∷ r) (Go h ∷ k) vs
+pub passed_key : (n : ℕ) (x y : Keyword) (r : List Word) (f h : Form) (k : List Symbol) (vs : Values) → is_same_keyword x y ≡ false → run n (Key y ∷ r) (Go (IfKey true x f h) ∷ k) vs ≡ run n (Key y ∷ r) (Go h ∷ k) vs
 unfolding run
 passed_key n x y r f h k vs e = rw e refl
 
-literal_taken : (n l : ℕ) (r : List Word) (g : ℕ → Form) (k : List Symbol) (vs : Values) → within LineNumber l ≡ true → run n (Number l ∷ r) (Go (LiteralIn LineNumber g) ∷ k) vs ≡ run n r (Go (g l) ∷ k) vs
+pub literal_taken : (n l : ℕ) (r : List Word) (g : ℕ → Form) (k : List Symbol) (vs : Values) → within LineNumber l ≡ true → run n (Number l ∷ r) (Go (LiteralIn LineNumber g) ∷ k) vs ≡ run n r (Go (g l) ∷ k) vs
 unfolding run
 literal_taken n l r g k vs e = rw e refl
 
@@ -198,7 +198,7 @@ if_goto t l o h q = record {
       let behind = words (pieces_steps (else_pieces o)) ++ r in
       ap (λ ws. run n ws (Go if_form ∷ k) vs) (goto_words t l o r)
       ∙ taken_key n keyword.If (words (steps_of t) ++ Key keyword.Goto ∷ Number l ∷ behind) (ExprOf want.Number behind_condition) k vs refl
-      ∙ condition_leads n t h.1.0.0 (omega (arith, le)) h.1.0.1 (Key keyword.Goto) (Number l ∷ behind) (goto_follows (Number l ∷ behind)) refl behind_condition k vs
+      ∙ expression_leads n want.Number t h.1.0.0 (omega (arith, le)) h.1.0.1 (Key keyword.Goto ∷ Number l ∷ behind) (goto_follows (Number l ∷ behind)) (λ e. refl) behind_condition k vs
       ∙ passed_key n keyword.Then keyword.Goto (Number l ∷ behind) _ _ k vs refl
       ∙ taken_key n keyword.Goto (Number l ∷ behind) _ k vs refl
       ∙ literal_taken n l behind _ k vs h.1.1.1.0

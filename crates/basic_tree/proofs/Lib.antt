@@ -9,6 +9,7 @@ pub mod GapNumberLemmas
 pub mod IfLeads
 pub mod LineLeads
 pub mod LineLevels
+pub mod LineModified
 pub mod LineSteps
 pub mod MachineBack
 pub mod MachineComplete
@@ -23,6 +24,7 @@ pub mod MachineSpelled
 pub mod MachineSteps
 pub mod MachineTrees
 pub mod MachineTurns
+pub mod ModifierForms
 pub mod MoveLemmas
 pub mod OneLine
 pub mod OneTree

@@ -217,7 +217,7 @@ one_more s m b d = record {
       ∙ one_modifier m d s n (omega (arith, le)) r (closes s k) vs x;
 }
 
-neither : (a b : Bool) → not (a || b) ≡ true → (a ≡ false) × (b ≡ false)
+pub neither : (a b : Bool) → not (a || b) ≡ true → (a ≡ false) × (b ≡ false)
 neither true b h = absurd cc
 neither false true h = absurd cc
 neither false false h = (refl, refl)

@@ -19,6 +19,7 @@ use Rattle.basic_tree.proofs.MachineLeads.{words_append}
 use Rattle.basic_tree.proofs.LineSteps.{NoSentence, behind_clause_class, run_statement, run_no_statement, run_separator}
 use Rattle.basic_tree.proofs.LineLeads.{SimpleLeads, ModifierLeads, Finished, finished_widened, closings_words, pieces_append, pieces_words, parts_before, parts_behind, Starts}
 use Rattle.basic_tree.proofs.IfLeads.{starts}
+use Rattle.basic_tree.proofs.ModifierForms.{modifier_leads}
 
 -- ---- a statement of a line, or none
 
@@ -119,3 +120,7 @@ one_line_lem simple mods ws l m a b =
     let n = x.0 + y.0 in
     let same = sym (x.1 n (omega arith)) ∙ ap (λ s. run n s (OneStatement ∷ MoreStatements ∷ []) (Parsed [] ∷ [])) (sym a.spelling ∙ b.spelling) ∙ y.1 n (omega arith) in
     ap (λ o. line_made o) same
+
+-- all that is left to know is what simple statements lead to
+pub one_line_from : SimpleLeads → OneLine
+one_line_from simple = one_line_lem simple modifier_leads
