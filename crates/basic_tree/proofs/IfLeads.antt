@@ -5,12 +5,12 @@ use Rattle.basic_tree.specs.declared.tokens.Keyword.TheVariants as keyword
 use Rattle.basic_tree.specs.declared.tokens.Sign.TheVariants as sign
 use Rattle.basic_tree.specs.declared.kinds.Want.{Want}
 use Rattle.basic_tree.specs.declared.kinds.Want.TheVariants as want
-use Rattle.basic_tree.specs.SpellingWords.{Word, Key, Punctuation, Number, Step, Plain, Opens, Closes, words}
+use Rattle.basic_tree.specs.SpellingWords.{Word, Key, Punctuation, Number, Plain, Opens, words}
 use Rattle.basic_tree.specs.Trees.{Tree, ClauseTree, LineClause, StatementClause, ElseTree, NoElse, Else, StatementTree, IfThen, IfGoto}
 use Rattle.basic_tree.specs.SpellingExpressions.{steps_of, Fits, IsTree}
-use Rattle.basic_tree.specs.SpellingPieces.{Piece, Holds, pieces_steps, ArePieces, closing}
-use Rattle.basic_tree.specs.SpellingStatements.{is_head, wants_else, else_wants_else, clause_wants_else, has_else, closings, pieces_of, clause_pieces, else_pieces}
-use Rattle.basic_tree.specs.GrammarStack.{Term, Value, Values, Stated, Symbol, Level, Go, Await, AwaitClause, Close, Form, Made, ExprOf, IfKey, ClauseIn, LiteralIn, TakeKey, LineNumber, within, loosest}
+use Rattle.basic_tree.specs.SpellingPieces.{Holds, pieces_steps, ArePieces, closing}
+use Rattle.basic_tree.specs.SpellingStatements.{is_head, else_wants_else, clause_wants_else, has_else, closings, pieces_of, clause_pieces, else_pieces}
+use Rattle.basic_tree.specs.GrammarStack.{Term, Values, Stated, Symbol, Level, Go, Await, AwaitClause, Close, Form, ExprOf, IfKey, ClauseIn, LiteralIn, TakeKey, LineNumber, within, loosest}
 use Rattle.basic_tree.specs.GrammarWords.{is_same_keyword}
 use Rattle.basic_tree.specs.GrammarStarts.{Start, start}
 use Rattle.basic_tree.specs.GrammarForms.{else_form, says}
@@ -60,7 +60,7 @@ pub record ClauseLeads (c : ClauseTree) : Type 0 where
   pub by : (n : ℕ) → bound ≤ n → (r : List Word) (g : ClauseTree → Form) (k : List Symbol) (vs : Values) → Finished (not (clause_wants_else c)) r → run n (words (pieces_steps (clause_pieces c)) ++ r) (Go (ClauseIn g) ∷ k) vs ≡ run (suc n) r (Go (g c) ∷ k) vs
 
 line_clause : (c : ℕ) → within LineNumber c ≡ true → ClauseLeads (LineClause c)
-line_clause c h = record { bound = 0; by = λ n le r g k vs x. run_line_clause n c r g k vs h ∙ run_close n r (Go (g (LineClause c)) ∷ k) vs }
+line_clause c h = record { bound = 0; by = λ n le r g k vs x. run_line_clause n c r g k vs h }
 
 no_head : (b : Bool) → not b ≡ true → b ≡ false
 no_head true e = absurd cc

@@ -3,8 +3,8 @@ use Rattle.std.proofs.Common.{subst, ◌≡◌, ◌+◌, ◌-◌, max, ℕ, suc,
 use Rattle.basic_tree.specs.declared.tokens.Keyword.{Keyword}
 use Rattle.basic_tree.specs.declared.tokens.Keyword.TheVariants as keyword
 use Rattle.basic_tree.specs.declared.tokens.Sign.TheVariants as sign
-use Rattle.basic_tree.specs.SpellingWords.{Word, Key, Punctuation, Step, words}
-use Rattle.basic_tree.specs.Trees.{ModifierTree, StatementTree, IfThen, IfGoto, Modified}
+use Rattle.basic_tree.specs.SpellingWords.{Word, Key, Punctuation, words}
+use Rattle.basic_tree.specs.Trees.{ModifierTree, StatementTree, Modified}
 use Rattle.basic_tree.specs.SpellingPieces.{Piece, pieces_steps, ArePieces}
 use Rattle.basic_tree.specs.SpellingParts.{modifier}
 use Rattle.basic_tree.specs.SpellingStatements.{is_if, is_head, wants_else, closings, pieces_of}
@@ -14,7 +14,7 @@ use Rattle.basic_tree.specs.GrammarRun.{run}
 use Rattle.basic_tree.proofs.FormLeads.{key_ends, word_ends, Ending, Leads, OfClass}
 use Rattle.basic_tree.proofs.MachineSteps.{run_do, run_close}
 use Rattle.basic_tree.proofs.MachineLeads.{words_append, words_parts}
-use Rattle.basic_tree.proofs.LineSteps.{behind_clause_class, is_head_class, NoModifier, NoSentence, NoSeparator, run_modifier, run_no_modifier}
+use Rattle.basic_tree.proofs.LineSteps.{behind_clause_class, is_head_class, NoModifier, run_modifier, run_no_modifier}
 
 -- ---- what the forms give
 

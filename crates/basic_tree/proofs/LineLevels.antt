@@ -1,5 +1,5 @@
 -- Every line ends the levels that it opens, and no others: by its pieces.
-use Rattle.std.proofs.Common.{subst, ◌≡◌, ℕ, suc, Bool, true, false, not, ◌&&◌, List, [], ◌∷◌, ◌++◌, Option, Some, None, refl, sym, append_assoc}
+use Rattle.std.proofs.Common.{subst, ◌≡◌, ℕ, suc, Bool, true, false, List, [], ◌∷◌, ◌++◌, Option, Some, None, refl, sym, append_assoc}
 use Rattle.std.proofs.lemmas.List.{append-nil}
 use Rattle.basic_tree.specs.declared.names.Name.{Name}
 use Rattle.basic_tree.specs.declared.tokens.Sign.TheVariants as sign
@@ -16,8 +16,8 @@ use Rattle.basic_tree.specs.declared.tokens.Keyword.TheVariants as keyword
 use Rattle.basic_tree.specs.declared.kinds.Want.TheVariants as want
 use Rattle.basic_tree.specs.SpellingExpressions.{steps_of, want_of}
 use Rattle.basic_tree.specs.SpellingPieces.{Piece, Fixed, Expression, NameOf, LiteralOf, Holds, pieces_steps, closing, sign_of, key, number, line, line_or_zero, target, perhaps, optional, each, after_commas, many}
-use Rattle.basic_tree.specs.SpellingParts.{shape, element_size, file_shape, separator_piece, printed, print_item, channel, print_channel, channel_and_comma, prompt, range, modifier, name, parameters, value, kind_of_first, chain_line, open_for, option_of, close_channel, field_part}
-use Rattle.basic_tree.specs.SpellingStatements.{closings, go, items, has_else, clause_wants_else, pieces_of, clause_pieces, else_pieces, statement_pieces, line_pieces, line_steps}
+use Rattle.basic_tree.specs.SpellingParts.{shape, element_size, file_shape, separator_piece, printed, print_item, channel, print_channel, channel_and_comma, prompt, modifier, name, parameters, value, kind_of_first, chain_line, open_for, option_of, close_channel, field_part}
+use Rattle.basic_tree.specs.SpellingStatements.{closings, go, items, pieces_of, clause_pieces, else_pieces, statement_pieces, line_pieces, line_steps}
 use Rattle.basic_tree.proofs.MachineLevels.{Above, tree_above}
 use Rattle.basic_tree.proofs.MachineReads.{place_pieces, separated}
 

@@ -1,5 +1,5 @@
 -- Every statement is one without modifiers and the modifiers behind it, in their order.
-use Rattle.std.proofs.Common.{◌≡◌, false, not, List, [], ◌∷◌, ◌++◌, refl, sym, ap, ◌∙◌, append_assoc}
+use Rattle.std.proofs.Common.{◌≡◌, false, List, [], ◌∷◌, ◌++◌, refl, ap, ◌∙◌, append_assoc}
 use Rattle.std.proofs.lemmas.List.{append-nil}
 use Rattle.basic_tree.specs.SpellingWords.{Step, Closes}
 use Rattle.basic_tree.specs.Trees.{ModifierTree, StatementTree, Modified}

@@ -1,10 +1,8 @@
 -- Single steps of the machine in the structure around forms: statements of a line, clauses, modifiers and separators.
 use Rattle.std.proofs.Common.{◌≡◌, ℕ, suc, Bool, true, false, cond, List, [], ◌∷◌, ◌++◌, Option, Some, None, Err, refl, ap, ◌∙◌, append_assoc}
-use Rattle.basic_tree.specs.declared.names.Name.{Name}
 use Rattle.basic_tree.specs.declared.tokens.Keyword.{Keyword}
 use Rattle.basic_tree.specs.declared.tokens.Keyword.TheVariants as keyword
 use Rattle.basic_tree.specs.declared.tokens.Sign.TheVariants as sign
-use Rattle.basic_tree.specs.declared.kinds.Want.{Want}
 use Rattle.basic_tree.specs.SpellingWords.{Word, Key, Punctuation, Named, FnNamed, Number}
 use Rattle.basic_tree.specs.Trees.{ClauseTree, LineClause, StatementClause, StatementTree}
 use Rattle.basic_tree.specs.GrammarStack.{Value, Values, Stated, Parsed, Modify, Symbol, Go, AwaitClause, Modifiers, OneStatement, MoreStatements, Close, Do, Form, Made, TakeKey, TargetOf, FnNameIn, ClauseIn, LineNumber, within, with_statement}
@@ -12,6 +10,7 @@ use Rattle.basic_tree.specs.GrammarStarts.{takes}
 use Rattle.basic_tree.specs.GrammarSentences.{Class, Choice, Head, Simple, Sentence, key_sentence, sentence_of, key_modifier, modifier_of}
 use Rattle.basic_tree.specs.GrammarMachine.{Move, Takes, Skips, Closes, Refuses, then_also, form_move_with, form_move, no_clause, behind_clause, clause_sentence, clause_move, behind_class, modified}
 use Rattle.basic_tree.specs.GrammarRun.{Turn, moved, turn, turned, run, Wrong}
+use Rattle.basic_tree.proofs.MachineSteps.{run_close}
 
 -- ---- what a sentence's form does at its word: it takes the word or refuses it
 
@@ -107,9 +106,9 @@ unfolding run
 run_no_statement n [] k vs h = refl
 run_no_statement n (t ∷ ws) k vs h = rw h refl
 
-pub run_separator : (n : ℕ) (ws : List Word) (k : List Symbol) (vs : Values) → run n (Punctuation sign.Colon ∷ ws) (MoreStatements ∷ k) vs ≡ run n ws (OneStatement ∷ MoreStatements ∷ k) vs
+pub run_more_statements : (n : ℕ) (ws : List Word) (k : List Symbol) (vs : Values) → run n (Punctuation sign.Colon ∷ ws) (MoreStatements ∷ k) vs ≡ run n ws (OneStatement ∷ MoreStatements ∷ k) vs
 unfolding run
-run_separator n ws k vs = refl
+run_more_statements n ws k vs = refl
 
 abbrev pub is_separator : Word → Bool
 is_separator (Punctuation sign.Colon) = true
@@ -119,12 +118,12 @@ abbrev pub NoSeparator : List Word → Type 0
 NoSeparator [] = Unit {0}
 NoSeparator (t ∷ ts) = is_separator t ≡ false
 
-pub run_no_separator : (n : ℕ) (ws : List Word) (k : List Symbol) (ss : List (Option StatementTree)) (vs : Values) → NoSeparator ws → run n ws (MoreStatements ∷ k) (Parsed ss ∷ vs) ≡ run n ws k (Parsed ss ∷ vs)
+pub run_no_more_statements : (n : ℕ) (ws : List Word) (k : List Symbol) (ss : List (Option StatementTree)) (vs : Values) → NoSeparator ws → run n ws (MoreStatements ∷ k) (Parsed ss ∷ vs) ≡ run n ws k (Parsed ss ∷ vs)
 unfolding run
-run_no_separator n [] k ss vs h = refl
-run_no_separator n (Punctuation sign.Colon ∷ ws) k ss vs h = absurd cc
-run_no_separator n (Punctuation s ∷ ws) k ss vs h = refl
-run_no_separator n (t ∷ ws) k ss vs h = refl
+run_no_more_statements n [] k ss vs h = refl
+run_no_more_statements n (Punctuation sign.Colon ∷ ws) k ss vs h = absurd cc
+run_no_more_statements n (Punctuation s ∷ ws) k ss vs h = refl
+run_no_more_statements n (t ∷ ws) k ss vs h = refl
 
 -- ---- clauses
 
@@ -137,14 +136,19 @@ abbrev pub is_head_class : Class → Bool
 is_head_class Head = true
 is_head_class other = false
 
-clause_at : (g : ClauseTree → Form) (vs : Values) (t : Word) (b : Option Sentence) → sentence_of t ≡ b → ((n : ℕ) → t ≡ Number n → within LineNumber n ≡ false) → clause_move g vs (Some t) ≡ clause_sentence g vs t b
-clause_at g vs (Number n) None e h = rw (h n refl) refl
+-- the number of a line
+abbrev pub is_line_number : Word → Bool
+is_line_number (Number n) = within LineNumber n
+is_line_number other = false
+
+clause_at : (g : ClauseTree → Form) (vs : Values) (t : Word) (b : Option Sentence) → sentence_of t ≡ b → is_line_number t ≡ false → clause_move g vs (Some t) ≡ clause_sentence g vs t b
+clause_at g vs (Number n) None e h = rw h refl
 clause_at g vs (Number n) (Some b) e h = absurd cc
 clause_at g vs t b e h = ap (λ x. clause_sentence g vs t x) e
 
-no_number : (t : Word) (b : Sentence) → sentence_of t ≡ Some b → (n : ℕ) → t ≡ Number n → within LineNumber n ≡ false
-no_number (Number m) b e n h = absurd cc
-no_number t b e n h = absurd cc
+no_line_number : (t : Word) (b : Sentence) → sentence_of t ≡ Some b → is_line_number t ≡ false
+no_line_number (Number m) b e = absurd cc
+no_line_number t b e = refl
 
 clause_class : (c : Class) (g : ClauseTree → Form) (m : Move) (k : List Symbol) (n : ℕ) (f h : ℕ → Values → Turn) → is_head_class c ≡ false → decides m ≡ true → moved (behind_clause g c m) n k f ≡ moved m n (behind_clause_class c ++ Close ∷ AwaitClause g ∷ k) h
 clause_class Choice g m k n f h e d = then_moved m (Close ∷ AwaitClause g ∷ []) k n f h d
@@ -155,23 +159,28 @@ pub run_clause : (n : ℕ) (t : Word) (ws : List Word) (b : Sentence) (g : Claus
 unfolding run
 run_clause n t ws b g k vs e h =
     run_turned t ws _ _
-    (ap (λ x. moved x n k (λ m vs'. turn k m vs' (Some t))) (clause_at g vs t (Some b) e (no_number t b e))
+    (ap (λ x. moved x n k (λ m vs'. turn k m vs' (Some t))) (clause_at g vs t (Some b) e (no_line_number t b e))
     ∙ ap (λ x. moved (behind_clause g b.class x) n k (λ m vs'. turn k m vs' (Some t))) (firm_same no_clause clause_move b.form vs (Some t) (known_firm t b e))
     ∙ clause_class b.class g (form_move b.form vs (Some t)) k n (λ m vs'. turn k m vs' (Some t)) (λ m vs'. turn (behind_clause_class b.class ++ Close ∷ AwaitClause g ∷ k) m vs' (Some t)) h (firm_decides clause_move b.form vs t (known_firm t b e)))
 
 pub run_head_clause : (n : ℕ) (t : Word) (ws : List Word) (f : Form) (g : ClauseTree → Form) (k : List Symbol) (vs : Values) → sentence_of t ≡ Some (record { class = Head; form = f }) → run n (t ∷ ws) (Go (ClauseIn g) ∷ k) vs ≡ Err (Wrong (t ∷ ws))
 unfolding run
 run_head_clause n t ws f g k vs e =
-    run_turned t ws _ _ (ap (λ x. moved x n k (λ m vs'. turn k m vs' (Some t))) (clause_at g vs t (Some (record { class = Head; form = f })) e (no_number t (record { class = Head; form = f }) e)))
+    run_turned t ws _ _ (ap (λ x. moved x n k (λ m vs'. turn k m vs' (Some t))) (clause_at g vs t (Some (record { class = Head; form = f })) e (no_line_number t (record { class = Head; form = f }) e)))
 
-pub run_no_clause : (n : ℕ) (t : Word) (ws : List Word) (g : ClauseTree → Form) (k : List Symbol) (vs : Values) → sentence_of t ≡ None → ((n : ℕ) → t ≡ Number n → within LineNumber n ≡ false) → run n (t ∷ ws) (Go (ClauseIn g) ∷ k) vs ≡ Err (Wrong (t ∷ ws))
+pub run_no_clause : (n : ℕ) (t : Word) (ws : List Word) (g : ClauseTree → Form) (k : List Symbol) (vs : Values) → sentence_of t ≡ None → is_line_number t ≡ false → run n (t ∷ ws) (Go (ClauseIn g) ∷ k) vs ≡ Err (Wrong (t ∷ ws))
 unfolding run
 run_no_clause n t ws g k vs e h =
     run_turned t ws _ _ (ap (λ x. moved x n k (λ m vs'. turn k m vs' (Some t))) (clause_at g vs t None e h))
 
-pub run_line_clause : (n c : ℕ) (ws : List Word) (g : ClauseTree → Form) (k : List Symbol) (vs : Values) → within LineNumber c ≡ true → run n (Number c ∷ ws) (Go (ClauseIn g) ∷ k) vs ≡ run n ws (Close ∷ Go (g (LineClause c)) ∷ k) vs
+pub run_clause_missing : (n : ℕ) (g : ClauseTree → Form) (k : List Symbol) (vs : Values) → run n [] (Go (ClauseIn g) ∷ k) vs ≡ Err (Wrong [])
 unfolding run
-run_line_clause n c ws g k vs e = rw e refl
+run_clause_missing n g k vs = refl
+
+-- the number of a line ends its clause's level
+pub run_line_clause : (n c : ℕ) (ws : List Word) (g : ClauseTree → Form) (k : List Symbol) (vs : Values) → within LineNumber c ≡ true → run n (Number c ∷ ws) (Go (ClauseIn g) ∷ k) vs ≡ run (suc n) ws (Go (g (LineClause c)) ∷ k) vs
+unfolding run
+run_line_clause n c ws g k vs e = rw e (run_close n ws (Go (g (LineClause c)) ∷ k) vs)
 
 pub run_await_clause : (n : ℕ) (ws : List Word) (g : ClauseTree → Form) (s : StatementTree) (k : List Symbol) (vs : Values) → run n ws (AwaitClause g ∷ k) (Stated s ∷ vs) ≡ run n ws (Go (g (StatementClause s)) ∷ k) vs
 unfolding run

@@ -1,5 +1,5 @@
 -- The words of every modifier lead the machine from the form of its first word to the modifier.
-use Rattle.std.proofs.Common.{◌≡◌, max, ℕ, suc, ◌≤◌, Bool, true, false, List, [], ◌∷◌, ◌++◌, Option, Some, None, refl, sym, ap, ◌∙◌, append_assoc, arith}
+use Rattle.std.proofs.Common.{◌≡◌, max, ℕ, suc, ◌≤◌, true, false, List, [], ◌∷◌, ◌++◌, Option, Some, None, refl, ap, ◌∙◌, arith}
 use Rattle.std.proofs.lemmas.List.{append-nil}
 use Rattle.basic_tree.specs.declared.names.Name.{Name}
 use Rattle.basic_tree.specs.declared.tokens.Keyword.{Keyword}
@@ -11,10 +11,9 @@ use Rattle.basic_tree.specs.Trees.{Tree, Variable, ModifierTree, If, Unless, Whi
 use Rattle.basic_tree.specs.SpellingExpressions.{steps_of, Fits, IsTree}
 use Rattle.basic_tree.specs.SpellingPieces.{Piece, pieces_steps, ArePieces, key, number, optional}
 use Rattle.basic_tree.specs.SpellingParts.{modifier}
-use Rattle.basic_tree.specs.GrammarStack.{Value, Values, Modifying, Symbol, Go, Form, Made, TakeKey, TakeSign, IfKey, ExprOf, NameIn}
+use Rattle.basic_tree.specs.GrammarStack.{Values, Modifying, Symbol, Go, Form, Made, TakeKey, TakeSign, IfKey, ExprOf, NameIn}
 use Rattle.basic_tree.specs.GrammarWords.{is_same_keyword}
 use Rattle.basic_tree.specs.GrammarForms.{range_form}
-use Rattle.basic_tree.specs.GrammarSentences.{modifier_of}
 use Rattle.basic_tree.specs.GrammarRun.{run}
 use Rattle.basic_tree.proofs.FormLeads.{key_ends, Ending}
 use Rattle.basic_tree.proofs.MachineSteps.{First, is_opening}

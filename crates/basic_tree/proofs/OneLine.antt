@@ -1,22 +1,21 @@
 -- The words of a line lead the machine to its statements, and no words are two lines.
-use Rattle.std.proofs.Common.{◌≡◌, ◌+◌, max, ℕ, ◌≤◌, true, false, not, List, [], ◌∷◌, ◌++◌, Option, Some, None, Ok, Err, refl, sym, ap, ◌∙◌, append_assoc, arith}
+use Rattle.std.proofs.Common.{◌≡◌, ◌+◌, max, ℕ, ◌≤◌, false, not, List, [], ◌∷◌, ◌++◌, Option, Some, None, Ok, Err, refl, sym, ap, ◌∙◌, append_assoc, arith}
 use Rattle.std.proofs.lemmas.List.{append-nil}
-use Rattle.basic_tree.specs.declared.tokens.Keyword.{Keyword}
 use Rattle.basic_tree.specs.declared.tokens.Keyword.TheVariants as keyword
 use Rattle.basic_tree.specs.declared.tokens.Sign.TheVariants as sign
 use Rattle.basic_tree.specs.SpellingWords.{Word, Key, Punctuation, words}
 use Rattle.basic_tree.specs.Trees.{StatementTree, LineTree}
 use Rattle.basic_tree.specs.SpellingPieces.{Piece, pieces_steps, ArePieces, each}
-use Rattle.basic_tree.specs.SpellingStatements.{wants_else, closings, pieces_of, statement_pieces, line_pieces, line_steps, IsLine}
-use Rattle.basic_tree.specs.GrammarStack.{Value, Values, Stated, Parsed, parsed, AddStatement, Symbol, Go, Do, OneStatement, MoreStatements}
-use Rattle.basic_tree.specs.GrammarSentences.{Class, Choice, Head, Simple, sentence_of}
+use Rattle.basic_tree.specs.SpellingStatements.{wants_else, closings, pieces_of, statement_pieces, line_pieces, line_steps}
+use Rattle.basic_tree.specs.GrammarStack.{Values, Stated, Parsed, parsed, AddStatement, Symbol, Go, Do, OneStatement, MoreStatements}
+use Rattle.basic_tree.specs.GrammarSentences.{Class, Choice, Head, Simple}
 use Rattle.basic_tree.specs.GrammarMachine.{behind_class}
 use Rattle.basic_tree.specs.GrammarRun.{Outcome, run}
 use Rattle.basic_tree.specs.GrammarPlaces.{OneLine}
 use Rattle.basic_tree.proofs.MachineReads.{place_pieces, separated}
 use Rattle.basic_tree.proofs.MachineSteps.{run_do}
 use Rattle.basic_tree.proofs.MachineLeads.{words_append}
-use Rattle.basic_tree.proofs.LineSteps.{NoSentence, behind_clause_class, run_statement, run_no_statement, run_separator}
+use Rattle.basic_tree.proofs.LineSteps.{NoSentence, behind_clause_class, run_statement, run_no_statement, run_more_statements}
 use Rattle.basic_tree.proofs.LineLeads.{SimpleLeads, ModifierLeads, Finished, finished_widened, closings_words, pieces_append, pieces_words, parts_before, parts_behind, Starts}
 use Rattle.basic_tree.proofs.IfLeads.{starts}
 use Rattle.basic_tree.proofs.ModifierForms.{modifier_leads}
@@ -83,7 +82,7 @@ one_other s others b d = record {
   bound = max b.bound d.bound;
   by = λ n le ss.
       let r = words (pieces_steps (each separated others)) in
-      run_separator n (words (pieces_steps (place_pieces s ++ each separated others))) [] (Parsed ss ∷ [])
+      run_more_statements n (words (pieces_steps (place_pieces s ++ each separated others))) [] (Parsed ss ∷ [])
       ∙ ap (λ ws. run n ws (OneStatement ∷ MoreStatements ∷ []) (Parsed ss ∷ [])) (two_words (place_pieces s) (each separated others))
       ∙ b.by n (omega (arith, le)) r ss (MoreStatements ∷ []) [] (others_finish others)
       ∙ d.by n (omega (arith, le)) (ss ++ s ∷ [])
