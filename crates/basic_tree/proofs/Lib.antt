@@ -3,6 +3,11 @@ mod PlaceExamples
 mod SpellingExamples
 mod TokenExamples
 pub mod FormLeads
+pub mod FormParts
+pub mod FormReads
+pub mod FormSimple
+pub mod FormSteps
+pub mod FormWords
 pub mod FrontLemmas
 pub mod GapLemmas
 pub mod GapNumberLemmas
