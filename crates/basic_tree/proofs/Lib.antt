@@ -3,6 +3,7 @@ mod PlaceExamples
 mod SpellingExamples
 mod TokenExamples
 pub mod FormLeads
+pub mod FormLists
 pub mod FormParts
 pub mod FormReads
 pub mod FormSimple
