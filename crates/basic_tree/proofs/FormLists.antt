@@ -47,7 +47,7 @@ fits_behind : {A : Type 0} (pieces : A → List Piece) (fit : List Piece → Boo
 fits_behind pieces fit c [] ps h = h
 fits_behind pieces fit c (a ∷ more) ps h = c _
 
-read_more : {A : Type 0} {e d : Bool} {v : Value} (s : Sequence) (pieces : A → List Piece) (item : A → Item) (fit : List Piece → Bool) (limit : ℕ) → ReadsOne e d v s pieces item fit → CommaFits fit → HasRoom s limit → (more : List A) (items : List Item) (g : List Item → Form) (ps : List Piece) → length items + length more ≤ limit → ArePieces (after_commas pieces more) → ArePieces ps → fit ps ≡ true → absent (Punctuation sign.Comma) ps ≡ true → Reads e d (g (items ++ each_item item more)) ps v → Reads e d (MoreOf s items g) (after_commas pieces more ++ ps) v
+pub read_more : {A : Type 0} {e d : Bool} {v : Value} (s : Sequence) (pieces : A → List Piece) (item : A → Item) (fit : List Piece → Bool) (limit : ℕ) → ReadsOne e d v s pieces item fit → CommaFits fit → HasRoom s limit → (more : List A) (items : List Item) (g : List Item → Form) (ps : List Piece) → length items + length more ≤ limit → ArePieces (after_commas pieces more) → ArePieces ps → fit ps ≡ true → absent (Punctuation sign.Comma) ps ≡ true → Reads e d (g (items ++ each_item item more)) ps v → Reads e d (MoreOf s items g) (after_commas pieces more ++ ps) v
 read_more {e = e} {d = d} {v = v} s pieces item fit limit one c room [] items g ps b a q f n h = read_no_more n q (subst (λ x. Reads e d (g x) ps v) (append-nil items) h)
 read_more {e = e} {d = d} {v = v} s pieces item fit limit one c room (x ∷ more) items g ps b a q f n h =
     let parts : ArePieces (pieces x) × ArePieces (after_commas pieces more) = are_split (pieces x) (after_commas pieces more) a.1 in

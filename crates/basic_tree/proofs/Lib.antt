@@ -7,6 +7,7 @@ pub mod FormLists
 pub mod FormParts
 pub mod FormReads
 pub mod FormSimple
+pub mod FormStatements
 pub mod FormSteps
 pub mod FormWords
 pub mod FrontLemmas
