@@ -43,7 +43,7 @@ HasRoom s limit = (items : List Item) → length items < limit → has_room s it
 abbrev pub CommaFits : (List Piece → Bool) → Type 0
 CommaFits fit = (ps : List Piece) → fit (sign_of sign.Comma ∷ ps) ≡ true
 
-fits_behind : {A : Type 0} (pieces : A → List Piece) (fit : List Piece → Bool) → CommaFits fit → (more : List A) (ps : List Piece) → fit ps ≡ true → fit (after_commas pieces more ++ ps) ≡ true
+pub fits_behind : {A : Type 0} (pieces : A → List Piece) (fit : List Piece → Bool) → CommaFits fit → (more : List A) (ps : List Piece) → fit ps ≡ true → fit (after_commas pieces more ++ ps) ≡ true
 fits_behind pieces fit c [] ps h = h
 fits_behind pieces fit c (a ∷ more) ps h = c _
 

@@ -29,7 +29,7 @@ use Rattle.basic_tree.proofs.FormLists.{are_both, are_split, each_item, read_mor
 use Rattle.basic_tree.proofs.FormSimple.{Begun, begun_as}
 
 -- what is made of the elements of a list, is made of the list
-made_of : {A : Type 0} {e : Bool} (s : A → StatementTree) (a b : A) → a ≡ b → Reads e false (says (s a)) [] (Stated (s b))
+pub made_of : {A : Type 0} {e : Bool} (s : A → StatementTree) (a b : A) → a ≡ b → Reads e false (says (s a)) [] (Stated (s b))
 made_of {e = e} s a b h = subst (λ x. Reads e false (says (s a)) [] (Stated (s x))) h read_made
 
 -- ---- lists at the end

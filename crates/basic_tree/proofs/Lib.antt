@@ -2,6 +2,8 @@ mod MachineExamples
 mod PlaceExamples
 mod SpellingExamples
 mod TokenExamples
+pub mod FormAssignments
+pub mod FormChain
 pub mod FormLeads
 pub mod FormLists
 pub mod FormParts
