@@ -3,6 +3,7 @@ mod PlaceExamples
 mod SpellingExamples
 mod TokenExamples
 pub mod FormAssignments
+pub mod FormBegins
 pub mod FormChain
 pub mod FormLeads
 pub mod FormLists
