@@ -1,5 +1,5 @@
 -- LET, DEF and OPEN: their words lead the machine from their form.
-use Rattle.std.proofs.Common.{subst, ◌≡◌, ◌+◌, ℕ, suc, ◌≤◌, ◌<◌, Bool, true, false, List, [], ◌∷◌, ◌++◌, length, Option, Some, None, refl, sym, ap, ◌∙◌, append_assoc, arith}
+use Rattle.std.proofs.Common.{subst, ◌≡◌, ◌+◌, ℕ, suc, ◌≤◌, Bool, true, false, List, [], ◌∷◌, ◌++◌, length, Option, Some, None, refl, sym, ap, append_assoc, arith}
 use Rattle.std.specs.Prelude.{nat_lt}
 use Rattle.basic_tree.specs.declared.names.Name.{Name}
 use Rattle.basic_tree.specs.declared.tokens.Keyword.TheVariants as keyword
@@ -8,17 +8,17 @@ use Rattle.basic_tree.specs.declared.kinds.Want.{Want}
 use Rattle.basic_tree.specs.declared.kinds.Want.TheVariants as want
 use Rattle.basic_tree.specs.declared.parts.OpenFor.{OpenFor}
 use Rattle.basic_tree.specs.declared.parts.OpenFor.TheVariants as purpose
-use Rattle.basic_tree.specs.SpellingWords.{Word, Key, Punctuation, Named}
+use Rattle.basic_tree.specs.SpellingWords.{Key, Punctuation, Named}
 use Rattle.basic_tree.specs.Trees.{Tree, Variable, Element, Def, Let, Open}
 use Rattle.basic_tree.specs.SpellingExpressions.{is_text, want_of}
-use Rattle.basic_tree.specs.SpellingPieces.{Piece, Expression, Holds, ArePieces, key, sign_of, number, closing, target, optional, after_commas, many, is_target, perhaps}
-use Rattle.basic_tree.specs.SpellingParts.{name, value, option_of, open_for}
+use Rattle.basic_tree.specs.SpellingPieces.{Piece, Expression, Holds, ArePieces, key, sign_of, number, closing, target, optional, after_commas, many, perhaps}
+use Rattle.basic_tree.specs.SpellingParts.{name, value, option_of}
 use Rattle.basic_tree.specs.SpellingStatements.{pieces_of}
-use Rattle.basic_tree.specs.GrammarStack.{Value, Stated, Item, TargetItem, NameItem, Targets, Parameters, Form, TakeSign, TakeClosing, ExprOf}
-use Rattle.basic_tree.specs.GrammarForms.{says, list_form, has_room, targets_in, names_in, targets_form, value_form, opens, options_form, channel_form, file_form}
+use Rattle.basic_tree.specs.GrammarStack.{Value, Stated, TargetItem, NameItem, Targets, Parameters, Form, TakeSign, TakeClosing, ExprOf}
+use Rattle.basic_tree.specs.GrammarForms.{says, list_form, targets_in, names_in, targets_form, value_form, opens, options_form, file_form}
 use Rattle.basic_tree.proofs.FormReads.{Reads, stopping, absent}
 use Rattle.basic_tree.proofs.FormParts.{read_made, read_holds, read_key, read_sign, read_if_key, read_if_sign, read_not_key, read_not_sign, read_if_opening, read_closing, read_expr, read_target, read_fn_name}
-use Rattle.basic_tree.proofs.FormLists.{HasRoom, are_both, are_split, each_item, fits_behind, read_more, read_list, targets_back, names_back, one_target, one_name}
+use Rattle.basic_tree.proofs.FormLists.{HasRoom, are_split, fits_behind, read_more, read_list, targets_back, names_back, one_target, one_name}
 use Rattle.basic_tree.proofs.FormSimple.{Begun, begun_as}
 use Rattle.basic_tree.proofs.FormStatements.{made_of}
 

@@ -1,5 +1,5 @@
 -- Every statement but IF, without modifiers: its words lead the machine from the form of its first word.
-use Rattle.std.proofs.Common.{◌≡◌, Bool, true, false, List, [], ◌∷◌}
+use Rattle.std.proofs.Common.{◌≡◌, false, []}
 use Rattle.basic_tree.specs.Trees.{StatementTree, IfThen, IfGoto, Modified, For, Next, FnEnd, Data, Dim, DimFile, Def, Let, Result, Print, Input, InputLine, Read, Restore, Goto, Gosub, Return, OnGoto, OnGosub, OnErrorGoto, Resume, Stop, End, Chain, Sleep, Open, Close, Get, Put, Unlock, Field, Lset, Rset, Kill, Rename}
 use Rattle.basic_tree.specs.SpellingPieces.{ArePieces}
 use Rattle.basic_tree.specs.SpellingStatements.{is_if, closings, pieces_of}

@@ -1,25 +1,22 @@
 -- CHAIN: a number right behind a text, where the text takes none of the number's words.
-use Rattle.std.proofs.Common.{subst, ◌≡◌, ◌+◌, ◌&&◌, ◌||◌, not, ℕ, suc, ◌≤◌, Bool, true, false, List, [], ◌∷◌, ◌++◌, Option, Some, None, refl, sym, ap, ◌∙◌, arith}
-use Rattle.basic_tree.specs.declared.tokens.Keyword.{Keyword}
+use Rattle.std.proofs.Common.{subst, ◌≡◌, ◌+◌, ◌&&◌, not, ℕ, Bool, true, false, List, [], ◌∷◌, ◌++◌, Option, Some, None, refl, sym, ap, ◌∙◌, arith}
 use Rattle.basic_tree.specs.declared.tokens.Keyword.TheVariants as keyword
 use Rattle.basic_tree.specs.declared.tokens.Sign.TheVariants as sign
-use Rattle.basic_tree.specs.declared.kinds.Want.{Want}
 use Rattle.basic_tree.specs.declared.kinds.Want.TheVariants as want
-use Rattle.basic_tree.specs.SpellingWords.{Word, Key, Punctuation, Named, FnNamed, Number, Quotation, Item, Step, Plain, Opens, Closes, words}
+use Rattle.basic_tree.specs.SpellingWords.{Word, Key, Punctuation, Number, Step, Plain, Opens, Closes, words}
 use Rattle.basic_tree.specs.Trees.{Tree, Literal, Quoted, Variable, Element, FunctionOf, Call, Parenthesized, Negative, Positive, Not, Operation, Comparison, NoTrees, AndTrees, ChainLineTree, Chain}
 use Rattle.basic_tree.specs.SpellingExpressions.{steps_of}
 use Rattle.basic_tree.specs.SpellingPieces.{Piece, Expression, Holds, IsPiece, ArePieces, pieces_steps, number}
 use Rattle.basic_tree.specs.SpellingParts.{first_word, last_word, is_name, may_follow}
 use Rattle.basic_tree.specs.SpellingStatements.{pieces_of}
 use Rattle.basic_tree.specs.GrammarWords.{operator_of, relation_of}
-use Rattle.basic_tree.specs.GrammarStack.{Value, Values, Symbol, Go, Await, Form, ExprOf, ExprIf}
-use Rattle.basic_tree.specs.GrammarForms.{begins_value, key_begins, chains}
+use Rattle.basic_tree.specs.GrammarStack.{Value, Go, Await, Form, ExprOf, ExprIf}
+use Rattle.basic_tree.specs.GrammarForms.{begins_value, chains}
 use Rattle.basic_tree.specs.GrammarRun.{run}
 use Rattle.basic_tree.proofs.MachineSteps.{First, is_operator_at, is_relation, is_opening}
-use Rattle.basic_tree.proofs.MachineLeads.{Follows, Parted, ends_bare, words_append, words_parts}
+use Rattle.basic_tree.proofs.MachineLeads.{Follows, ends_bare, words_append, words_parts}
 use Rattle.basic_tree.proofs.MachineComplete.{depth_of, whole}
 use Rattle.basic_tree.proofs.MachineForms.{complete}
-use Rattle.basic_tree.proofs.FormLeads.{Ending}
 use Rattle.basic_tree.proofs.FormSteps.{run_expr, run_await, expr_if, expr_if_not}
 use Rattle.basic_tree.proofs.FormReads.{Reads, Begins, begins_tree}
 use Rattle.basic_tree.proofs.FormParts.{read_made, read_holds, read_key, read_if_key, read_not_key, read_expr, ending_value}

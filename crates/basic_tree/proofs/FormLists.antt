@@ -1,10 +1,9 @@
 -- Lists with commas between: how their forms read them, and what they are made of.
-use Rattle.std.proofs.Common.{subst, ◌≡◌, ◌+◌, ℕ, zero, suc, ◌≤◌, ◌<◌, Bool, true, false, List, [], ◌∷◌, ◌++◌, length, Option, Some, None, refl, sym, ap, ◌∙◌, append_assoc, arith, length-append}
+use Rattle.std.proofs.Common.{subst, ◌≡◌, ◌+◌, ℕ, ◌≤◌, ◌<◌, Bool, true, false, List, [], ◌∷◌, ◌++◌, length, Option, Some, None, refl, sym, ap, append_assoc, arith, length-append}
 use Rattle.std.proofs.lemmas.List.{append-nil}
 use Rattle.basic_tree.specs.declared.names.Name.{Name}
 use Rattle.basic_tree.specs.declared.tokens.Sign.TheVariants as sign
 use Rattle.basic_tree.specs.declared.kinds.Want.{Want}
-use Rattle.basic_tree.specs.declared.kinds.Want.TheVariants as want
 use Rattle.basic_tree.specs.declared.parts.Shape.{Shape}
 use Rattle.basic_tree.specs.declared.parts.FileShape.{FileShape}
 use Rattle.basic_tree.specs.SpellingWords.{Punctuation}
@@ -14,7 +13,7 @@ use Rattle.basic_tree.specs.SpellingParts.{shape, file_shape, element_size, name
 use Rattle.basic_tree.specs.GrammarStack.{Value, Item, TargetItem, ShapeItem, FileItem, NameItem, LineItem, ChannelItem, FieldItem, Sequence, Targets, Shapes, FileShapes, Parameters, Lines, Channels, FieldParts, Form, MoreOf}
 use Rattle.basic_tree.specs.GrammarForms.{item_form, shape_form, size_form, has_room, list_form, targets_in, shapes_in, files_in, names_in, lines_in, channels_in, parts_in}
 use Rattle.basic_tree.proofs.FormReads.{Reads, stopping, absent}
-use Rattle.basic_tree.proofs.FormParts.{read_holds, read_key, read_sign, read_if_sign, read_not_sign, read_opening, read_closing, read_expr, read_target, read_name, read_literal, read_one_more, read_no_more}
+use Rattle.basic_tree.proofs.FormParts.{read_holds, read_key, read_if_sign, read_not_sign, read_opening, read_closing, read_expr, read_target, read_name, read_literal, read_one_more, read_no_more}
 
 -- ---- pieces of two parts
 

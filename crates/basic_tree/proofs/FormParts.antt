@@ -1,5 +1,5 @@
 -- How each form reads the pieces before it, and what stands behind them.
-use Rattle.std.proofs.Common.{◌≡◌, ◌+◌, ℕ, zero, suc, ◌≤◌, not, Bool, true, false, List, [], ◌∷◌, ◌++◌, Option, Some, None, refl, sym, subst, ap, ◌∙◌, arith}
+use Rattle.std.proofs.Common.{◌≡◌, ◌+◌, ℕ, zero, suc, ◌≤◌, Bool, true, false, List, [], ◌∷◌, ◌++◌, Option, None, refl, sym, subst, ap, ◌∙◌, arith}
 use Rattle.basic_tree.specs.declared.names.Name.{Name}
 use Rattle.basic_tree.specs.declared.tokens.Keyword.{Keyword}
 use Rattle.basic_tree.specs.declared.tokens.Keyword.TheVariants as keyword
@@ -7,24 +7,23 @@ use Rattle.basic_tree.specs.declared.tokens.Sign.{Sign}
 use Rattle.basic_tree.specs.declared.tokens.Sign.TheVariants as sign
 use Rattle.basic_tree.specs.declared.kinds.Want.{Want}
 use Rattle.basic_tree.specs.declared.kinds.Want.TheVariants as want
-use Rattle.basic_tree.specs.SpellingWords.{Word, Key, Punctuation, Named, FnNamed, Number, Quotation, Plain, Opens, Closes, words}
+use Rattle.basic_tree.specs.SpellingWords.{Word, Key, Punctuation, FnNamed, Number, Quotation, Plain, Opens, words}
 use Rattle.basic_tree.specs.SpellingWords.{Item as ItemOf}
-use Rattle.basic_tree.specs.Trees.{Tree, Variable, Element, NoTrees, AndTrees, PrintItemTree, PrintChannelTree, Print}
+use Rattle.basic_tree.specs.Trees.{Tree, Variable, Element, PrintItemTree, PrintChannelTree, Print}
 use Rattle.basic_tree.specs.Trees.{Value as ValueOf}
-use Rattle.basic_tree.specs.SpellingExpressions.{steps_of, Fits}
-use Rattle.basic_tree.specs.SpellingPieces.{Piece, Fixed, Expression, NameOf, LiteralOf, Holds, pieces_steps, IsPiece, ArePieces, key, sign_of, closing, opening_parenthesis, is_target}
-use Rattle.basic_tree.specs.GrammarStack.{Value, Values, Term, Stated, Symbol, Level, Go, Await, Item, Sequence, Limit, within, Form, Made, TakeKey, TakeSign, TakeClosing, IfKey, IfSign, ExprOf, ExprIf, TargetOf, NameIn, FnNameIn, LiteralIn, LiteralIf, QuotedIf, ItemIn, MoreItems, MoreOf, MorePrinted, loosest}
+use Rattle.basic_tree.specs.SpellingExpressions.{steps_of}
+use Rattle.basic_tree.specs.SpellingPieces.{Piece, Fixed, Expression, NameOf, LiteralOf, Holds, pieces_steps, IsPiece, ArePieces, key, sign_of, closing, is_target}
+use Rattle.basic_tree.specs.GrammarStack.{Value, Values, Term, Stated, Symbol, Go, Await, Item, Sequence, Limit, within, Form, Made, TakeKey, TakeSign, TakeClosing, IfKey, IfSign, ExprOf, TargetOf, NameIn, FnNameIn, LiteralIn, LiteralIf, QuotedIf, ItemIn, MoreItems, MoreOf, MorePrinted}
 use Rattle.basic_tree.specs.GrammarForms.{begins_value, key_begins, item_form, has_room, printed_form}
 use Rattle.basic_tree.specs.GrammarMachine.{tab_form}
-use Rattle.basic_tree.specs.GrammarStarts.{takes}
 use Rattle.basic_tree.specs.GrammarRun.{run}
 use Rattle.basic_tree.proofs.MachineSteps.{First, is_opening}
-use Rattle.basic_tree.proofs.MachineLeads.{Follows, Parted, words_parts}
+use Rattle.basic_tree.proofs.MachineLeads.{Parted, words_parts}
 use Rattle.basic_tree.proofs.MachineComplete.{depth_of, whole, takes_kind}
 use Rattle.basic_tree.proofs.MachineForms.{complete}
 use Rattle.basic_tree.proofs.FormLeads.{word_ends, Ending}
 use Rattle.basic_tree.proofs.FormWords.{is_word, is_other_word, is_number, is_quotation, is_item}
-use Rattle.basic_tree.proofs.FormSteps.{run_made, run_await, run_expr, key_taken, sign_taken, sign_opened, closing_sign_taken, if_key, if_key_not, if_sign, if_sign_opens, if_sign_not, expr_if, expr_if_not, target_tightest, name_taken, fn_name_taken, literal_taken, literal_if, literal_if_not, quoted_if, quoted_if_not, item_taken, item_added, no_more_items, one_more, no_more, tab_printed, value_printed, nothing_printed}
+use Rattle.basic_tree.proofs.FormSteps.{run_made, run_await, run_expr, key_taken, sign_taken, sign_opened, closing_sign_taken, if_key, if_key_not, if_sign, if_sign_opens, if_sign_not, target_tightest, name_taken, fn_name_taken, literal_taken, literal_if, literal_if_not, quoted_if, quoted_if_not, item_taken, item_added, no_more_items, one_more, no_more, tab_printed, value_printed, nothing_printed}
 use Rattle.basic_tree.proofs.FormReads.{Reads, Begins, begins_tree, stopped_follows, stopped_parted, stopping, stopping_stopped, absent, absent_first}
 
 pub read_made : {e : Bool} {v : Value} → Reads e false (Made v) [] v

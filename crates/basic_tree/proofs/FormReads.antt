@@ -1,12 +1,12 @@
 -- Pieces that a form reads, and what may stand behind them.
-use Rattle.std.proofs.Common.{subst, ◌≡◌, ◌&&◌, ◌||◌, ◌+◌, ℕ, zero, suc, max, ◌≤◌, not, Bool, true, false, List, [], ◌∷◌, ◌++◌, Option, Some, None, refl, sym, ap, ◌∙◌, append_assoc, arith}
+use Rattle.std.proofs.Common.{subst, ◌≡◌, ◌+◌, ℕ, suc, ◌≤◌, not, Bool, true, false, List, [], ◌∷◌, ◌++◌, None, refl, sym, ap}
 use Rattle.basic_tree.specs.declared.tokens.Keyword.{Keyword}
 use Rattle.basic_tree.specs.declared.tokens.Keyword.TheVariants as keyword
 use Rattle.basic_tree.specs.declared.tokens.Sign.{Sign}
 use Rattle.basic_tree.specs.declared.tokens.Sign.TheVariants as sign
 use Rattle.basic_tree.specs.declared.expressions.Function.{Function}
 use Rattle.basic_tree.specs.declared.expressions.Function.TheVariants as function
-use Rattle.basic_tree.specs.SpellingWords.{Word, Key, Punctuation, Named, FnNamed, Number, Quotation, Item, Step, Plain, Opens, Closes, words}
+use Rattle.basic_tree.specs.SpellingWords.{Word, Key, Punctuation, Named, FnNamed, Number, Quotation, Plain, Opens, Closes, words}
 use Rattle.basic_tree.specs.Trees.{Tree, Literal, Quoted, Variable, Element, FunctionOf, Call, Parenthesized, Negative, Positive, Not, Operation, Comparison}
 use Rattle.basic_tree.specs.SpellingExpressions.{steps_of, IsTree}
 use Rattle.basic_tree.specs.SpellingPieces.{Piece, Fixed, Expression, NameOf, LiteralOf, Holds, pieces_steps, ArePieces}
@@ -17,7 +17,7 @@ use Rattle.basic_tree.specs.GrammarForms.{begins_value, key_begins}
 use Rattle.basic_tree.specs.GrammarRun.{run}
 use Rattle.basic_tree.proofs.MachineSteps.{First, is_operator_at, is_relation, is_opening}
 use Rattle.basic_tree.proofs.MachineLeads.{Follows, Parted, words_parts}
-use Rattle.basic_tree.proofs.MachineComplete.{small, known_function}
+use Rattle.basic_tree.proofs.MachineComplete.{small}
 use Rattle.basic_tree.proofs.FormLeads.{word_ends, Ending, Leads}
 use Rattle.basic_tree.proofs.FormWords.{is_word, is_other_word}
 

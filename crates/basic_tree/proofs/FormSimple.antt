@@ -3,20 +3,19 @@ use Rattle.std.proofs.Common.{◌≡◌, ℕ, suc, ◌≤◌, Bool, true, false,
 use Rattle.basic_tree.specs.declared.names.Name.{Name}
 use Rattle.basic_tree.specs.declared.tokens.Keyword.{Keyword}
 use Rattle.basic_tree.specs.declared.tokens.Keyword.TheVariants as keyword
-use Rattle.basic_tree.specs.declared.kinds.Want.TheVariants as want
-use Rattle.basic_tree.specs.SpellingWords.{Word, Key, Named, FnNamed, words}
+use Rattle.basic_tree.specs.SpellingWords.{Word, Key, FnNamed, words}
 use Rattle.basic_tree.specs.Trees.{Tree, ModifierTree, If, Unless, While, Until, ForModifier, StatementTree, For, Next, FnEnd, Result, Restore, Goto, Gosub, Return, OnErrorGoto, Resume, Stop, End, Sleep, Get, Put, Unlock, Lset, Rset, Kill, Rename}
 use Rattle.basic_tree.specs.SpellingPieces.{Piece, pieces_steps, ArePieces, opening}
-use Rattle.basic_tree.specs.SpellingParts.{modifier, range, option_of}
+use Rattle.basic_tree.specs.SpellingParts.{modifier, range}
 use Rattle.basic_tree.specs.SpellingStatements.{pieces_of}
 use Rattle.basic_tree.specs.GrammarStack.{Value, Values, Stated, Modifying, Symbol, Go, Form, Made, TakeKey}
-use Rattle.basic_tree.specs.GrammarForms.{says, range_form, number_option}
+use Rattle.basic_tree.specs.GrammarForms.{says, range_form}
 use Rattle.basic_tree.specs.GrammarSentences.{Sentence, sentence_of, modifier_of}
 use Rattle.basic_tree.specs.GrammarRun.{run}
 use Rattle.basic_tree.proofs.FormLeads.{Ending, OfClass, Leads}
 use Rattle.basic_tree.proofs.FormSteps.{key_opened}
 use Rattle.basic_tree.proofs.FormReads.{Reads, reads_leads}
-use Rattle.basic_tree.proofs.FormParts.{read_made, read_holds, read_key, read_sign, read_if_key, read_if_sign, read_not_key, read_not_sign, read_expr, read_name, read_fn_name, read_literal, read_if_literal, read_no_literal}
+use Rattle.basic_tree.proofs.FormParts.{read_made, read_key, read_sign, read_if_key, read_if_sign, read_not_key, read_not_sign, read_expr, read_name, read_fn_name, read_literal, read_if_literal, read_no_literal}
 
 -- a statement begins with a word that is known, and its words lead from that word's form
 pub record Begun (s : StatementTree) : Type 0 where

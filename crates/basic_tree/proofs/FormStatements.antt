@@ -1,6 +1,5 @@
 -- The statements with lists: their words lead the machine from their form.
-use Rattle.std.proofs.Common.{subst, ◌≡◌, ◌+◌, ℕ, suc, ◌≤◌, ◌<◌, Bool, true, false, List, [], ◌∷◌, ◌++◌, length, Option, Some, None, refl, sym, ap, ◌∙◌, append_assoc, arith}
-use Rattle.std.specs.Prelude.{nat_lt}
+use Rattle.std.proofs.Common.{subst, ◌≡◌, ◌+◌, ℕ, Bool, true, false, List, [], ◌∷◌, ◌++◌, Option, Some, None, refl, sym, append_assoc}
 use Rattle.std.proofs.lemmas.List.{append-nil}
 use Rattle.basic_tree.specs.declared.names.Name.{Name}
 use Rattle.basic_tree.specs.declared.tokens.Keyword.TheVariants as keyword
@@ -10,22 +9,19 @@ use Rattle.basic_tree.specs.declared.parts.Shape.{Shape}
 use Rattle.basic_tree.specs.declared.parts.FileShape.{FileShape}
 use Rattle.basic_tree.specs.declared.parts.Separator.{Separator}
 use Rattle.basic_tree.specs.declared.parts.Separator.TheVariants as separator
-use Rattle.basic_tree.specs.declared.parts.OpenFor.{OpenFor}
-use Rattle.basic_tree.specs.declared.parts.OpenFor.TheVariants as purpose
-use Rattle.basic_tree.specs.SpellingWords.{Word, Key, Punctuation, Named, Plain}
+use Rattle.basic_tree.specs.SpellingWords.{Key, Punctuation, Plain}
 use Rattle.basic_tree.specs.SpellingWords.{Item as ItemOf}
-use Rattle.basic_tree.specs.Trees.{Tree, Variable, Element, PrintedTree, Tab, PrintItemTree, PrintChannelTree, PromptTree, CloseChannelTree, FieldPartTree, StatementTree, Data, Dim, DimFile, Def, Let, Print, Input, InputLine, Read, OnGoto, OnGosub, Open, Close, Field}
+use Rattle.basic_tree.specs.Trees.{Tree, PrintedTree, Tab, PrintItemTree, PrintChannelTree, PromptTree, CloseChannelTree, FieldPartTree, StatementTree, Data, Dim, DimFile, Print, Input, InputLine, Read, OnGoto, OnGosub, Close, Field}
 use Rattle.basic_tree.specs.Trees.{Value as ValueOf}
-use Rattle.basic_tree.specs.SpellingExpressions.{is_text, want_of}
-use Rattle.basic_tree.specs.SpellingPieces.{Piece, Fixed, Expression, NameOf, ArePieces, sign_of, key, number, line, closing, target, optional, each, after_commas, many, is_target}
-use Rattle.basic_tree.specs.SpellingParts.{shape, file_shape, name, value, kind_of_first, printed, print_item, separator_piece, close_channel, field_part, option_of}
+use Rattle.basic_tree.specs.SpellingPieces.{Piece, Fixed, ArePieces, number, line, target, optional, each, many}
+use Rattle.basic_tree.specs.SpellingParts.{shape, file_shape, printed, print_item, close_channel, field_part}
 use Rattle.basic_tree.specs.SpellingStatements.{pieces_of}
-use Rattle.basic_tree.specs.GrammarStack.{Value, Stated, Item, TargetItem, ShapeItem, FileItem, NameItem, LineItem, ChannelItem, FieldItem, Targets, Shapes, FileShapes, Parameters, Lines, Channels, FieldParts, Form, Made, TakeSign, ExprOf, MoreItems, MoreOf, MorePrinted}
-use Rattle.basic_tree.specs.GrammarForms.{says, list_form, targets_in, shapes_in, files_in, names_in, lines_in, channels_in, parts_in, targets_form, value_form, number_option, options_form, file_form}
+use Rattle.basic_tree.specs.GrammarStack.{Value, Stated, TargetItem, ShapeItem, FileItem, LineItem, ChannelItem, FieldItem, Targets, Shapes, FileShapes, Lines, Channels, FieldParts, MoreItems, MorePrinted}
+use Rattle.basic_tree.specs.GrammarForms.{says, targets_in, shapes_in, files_in, lines_in, channels_in, parts_in}
 use Rattle.basic_tree.specs.GrammarSentences.{input_targets}
 use Rattle.basic_tree.proofs.FormReads.{Reads, stopping, absent}
-use Rattle.basic_tree.proofs.FormParts.{read_made, read_holds, read_key, read_sign, read_if_key, read_if_sign, read_not_key, read_not_sign, read_opening, read_if_opening, read_closing, read_expr, read_target, read_name, read_fn_name, read_literal, read_quoted, read_unquoted, read_item, read_item_added, read_no_items, read_tab, read_value, read_nothing}
-use Rattle.basic_tree.proofs.FormLists.{are_both, are_split, each_item, read_more, read_list, read_last_list, targets_back, shapes_back, files_back, names_back, lines_back, channels_back, parts_back, one_target, one_shape, one_name, one_line, one_channel, one_field, one_file}
+use Rattle.basic_tree.proofs.FormParts.{read_made, read_holds, read_key, read_sign, read_if_key, read_if_sign, read_not_key, read_not_sign, read_opening, read_closing, read_expr, read_name, read_literal, read_quoted, read_unquoted, read_item, read_item_added, read_no_items, read_tab, read_value, read_nothing}
+use Rattle.basic_tree.proofs.FormLists.{are_split, read_last_list, targets_back, shapes_back, files_back, lines_back, channels_back, parts_back, one_target, one_shape, one_line, one_channel, one_field, one_file}
 use Rattle.basic_tree.proofs.FormSimple.{Begun, begun_as}
 
 -- what is made of the elements of a list, is made of the list

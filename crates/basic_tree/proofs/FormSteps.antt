@@ -1,5 +1,5 @@
 -- Single steps of the machine at the forms of statements, as equations.
-use Rattle.std.proofs.Common.{◌≡◌, ℕ, suc, Bool, true, false, List, [], ◌∷◌, ◌++◌, Option, Some, None, refl, append_assoc}
+use Rattle.std.proofs.Common.{◌≡◌, ℕ, suc, Bool, true, false, List, [], ◌∷◌, ◌++◌, Option, Some, None, refl, ap, append_assoc}
 use Rattle.basic_tree.specs.declared.names.Name.{Name}
 use Rattle.basic_tree.specs.declared.tokens.Keyword.{Keyword}
 use Rattle.basic_tree.specs.declared.tokens.Keyword.TheVariants as keyword
@@ -14,8 +14,8 @@ use Rattle.basic_tree.specs.GrammarStack.{Value, Values, Term, Stated, Symbol, L
 use Rattle.basic_tree.specs.GrammarForms.{begins_value, item_form, has_room, printed_form}
 use Rattle.basic_tree.specs.GrammarStarts.{Start, takes, start}
 use Rattle.basic_tree.specs.GrammarMachine.{tab_form, begun, then_also}
-use Rattle.basic_tree.specs.GrammarRun.{Turn, moved, turn, run}
-use Rattle.basic_tree.proofs.MachineSteps.{First, run_turned}
+use Rattle.basic_tree.specs.GrammarRun.{Turn, moved, turn, turned, run}
+use Rattle.basic_tree.proofs.MachineSteps.{First}
 use Rattle.basic_tree.proofs.FormWords.{key_is_same, sign_is_same, is_word, is_number, is_quotation, is_item}
 
 -- ---- what needs no word
@@ -37,7 +37,7 @@ moved_also (Some s) n more k f g = rw append_assoc refl
 pub run_expr : (n : ℕ) (w : Want) (g : Tree → Form) (ws : List Word) (k : List Symbol) (vs : Values) → run n ws (Go (ExprOf w g) ∷ k) vs ≡ run n ws (Level loosest w ∷ Await g ∷ k) vs
 unfolding run
 run_expr n w g [] k vs = refl
-run_expr n w g (t ∷ ts) k vs = run_turned t ts _ _ (moved_also (start loosest w vs t) n (Await g ∷ []) k (λ m vs'. turn k m vs' (Some t)) (λ m vs'. turn (Await g ∷ k) m vs' (Some t)))
+run_expr n w g (t ∷ ts) k vs = ap (λ (z : Turn). turned z (t ∷ ts) (λ m vs' k'. run m ts k' vs')) (moved_also (start loosest w vs t) n (Await g ∷ []) k (λ m vs'. turn k m vs' (Some t)) (λ m vs'. turn (Await g ∷ k) m vs' (Some t)))
 
 -- ---- keys and signs
 

@@ -1,11 +1,11 @@
 -- When a word is a given key or sign, and which words a value may begin with.
-use Rattle.std.proofs.Common.{◌≡◌, ℕ, zero, suc, Bool, true, false, not, List, [], ◌∷◌, refl, sym, ap, ◌∙◌}
+use Rattle.std.proofs.Common.{◌≡◌, ℕ, zero, suc, Bool, true, false, List, [], ◌∷◌, refl, sym, ap, ◌∙◌}
 use Rattle.std.proofs.lemmas.Bool.{eq-eqb, eqb-true}
 use Rattle.basic_tree.specs.declared.tokens.Keyword.{Keyword}
 use Rattle.basic_tree.specs.declared.tokens.Keyword.TheVariants as keyword
 use Rattle.basic_tree.specs.declared.tokens.Sign.{Sign}
 use Rattle.basic_tree.specs.declared.tokens.Sign.TheVariants as sign
-use Rattle.basic_tree.specs.SpellingWords.{Word, Key, Punctuation, Named, FnNamed, Number, Quotation, Item}
+use Rattle.basic_tree.specs.SpellingWords.{Word, Key, Punctuation, Number, Quotation, Item}
 use Rattle.basic_tree.specs.GrammarWords.{sign_number, is_same_sign, keyword_number, is_same_keyword}
 
 pub key_is_same : (k : Keyword) → is_same_keyword k k ≡ true

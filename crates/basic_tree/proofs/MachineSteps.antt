@@ -23,7 +23,7 @@ moved_behind : (s : Option Start) (n : ℕ) (more k : List Symbol) (f g : ℕ �
 moved_behind None n more k f g = refl
 moved_behind (Some s) n more k f g = rw append_assoc refl
 
-pub run_turned : (t : Word) (ts : List Word) (x y : Turn) → x ≡ y → turned x (t ∷ ts) (λ m vs' k'. run m ts k' vs') ≡ turned y (t ∷ ts) (λ m vs' k'. run m ts k' vs')
+run_turned : (t : Word) (ts : List Word) (x y : Turn) → x ≡ y → turned x (t ∷ ts) (λ m vs' k'. run m ts k' vs') ≡ turned y (t ∷ ts) (λ m vs' k'. run m ts k' vs')
 run_turned t ts x y e = ap (λ (z : Turn). turned z (t ∷ ts) (λ m vs' k'. run m ts k' vs')) e
 
 -- no sign stands first, or no NOT
