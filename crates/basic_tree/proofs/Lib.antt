@@ -2,7 +2,17 @@ mod MachineExamples
 mod PlaceExamples
 mod SpellingExamples
 mod TokenExamples
+pub mod FormAssignments
+pub mod FormBegins
+pub mod FormChain
 pub mod FormLeads
+pub mod FormLists
+pub mod FormParts
+pub mod FormReads
+pub mod FormSimple
+pub mod FormStatements
+pub mod FormSteps
+pub mod FormWords
 pub mod FrontLemmas
 pub mod GapLemmas
 pub mod GapNumberLemmas
