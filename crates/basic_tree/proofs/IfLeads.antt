@@ -1,6 +1,5 @@
 -- The words of an IF lead the machine to it: its condition, its clauses, and where an ELSE belongs.
-use Rattle.std.proofs.Common.{◌≡◌, max, ℕ, zero, suc, ◌≤◌, Bool, true, false, not, ◌&&◌, List, [], ◌∷◌, ◌++◌, Option, Some, None, refl, sym, ap, ◌∙◌, append_assoc, arith}
-use Rattle.basic_tree.specs.declared.tokens.Keyword.{Keyword}
+use Rattle.std.proofs.Common.{◌≡◌, max, ℕ, zero, suc, ◌≤◌, Bool, true, false, not, ◌&&◌, List, [], ◌∷◌, ◌++◌, refl, sym, ap, ◌∙◌, arith}
 use Rattle.basic_tree.specs.declared.tokens.Keyword.TheVariants as keyword
 use Rattle.basic_tree.specs.declared.tokens.Sign.TheVariants as sign
 use Rattle.basic_tree.specs.declared.kinds.Want.{Want}
@@ -10,42 +9,25 @@ use Rattle.basic_tree.specs.Trees.{Tree, ClauseTree, LineClause, StatementClause
 use Rattle.basic_tree.specs.SpellingExpressions.{steps_of, Fits, IsTree}
 use Rattle.basic_tree.specs.SpellingPieces.{Holds, pieces_steps, ArePieces, closing}
 use Rattle.basic_tree.specs.SpellingStatements.{is_head, else_wants_else, clause_wants_else, has_else, closings, pieces_of, clause_pieces, else_pieces}
-use Rattle.basic_tree.specs.GrammarStack.{Term, Values, Stated, Symbol, Level, Go, Await, AwaitClause, Close, Form, ExprOf, IfKey, ClauseIn, LiteralIn, TakeKey, LineNumber, within, loosest}
-use Rattle.basic_tree.specs.GrammarWords.{is_same_keyword}
-use Rattle.basic_tree.specs.GrammarStarts.{Start, start}
+use Rattle.basic_tree.specs.GrammarStack.{Values, Stated, Symbol, Go, Await, AwaitClause, Close, Form, ExprOf, IfKey, ClauseIn, LiteralIn, TakeKey, LineNumber, within}
 use Rattle.basic_tree.specs.GrammarForms.{else_form, says}
 use Rattle.basic_tree.specs.GrammarSentences.{Choice, if_form}
-use Rattle.basic_tree.specs.GrammarMachine.{begun, then_also}
-use Rattle.basic_tree.specs.GrammarRun.{Turn, moved, turn, turned, run}
+use Rattle.basic_tree.specs.GrammarRun.{run}
 use Rattle.basic_tree.proofs.MachineSteps.{run_close}
 use Rattle.basic_tree.proofs.MachineLeads.{Follows, Parted, words_parts}
 use Rattle.basic_tree.proofs.MachineComplete.{depth_of, whole}
 use Rattle.basic_tree.proofs.MachineForms.{complete}
-use Rattle.basic_tree.proofs.LineSteps.{behind_clause_class, run_clause, run_line_clause, run_await_clause, run_made}
-use Rattle.basic_tree.proofs.LineLeads.{SimpleLeads, ModifierLeads, Finished, finished_widened, closings_words, pieces_words, parts_before, parts_behind, Starts, starts_other}
+use Rattle.basic_tree.proofs.FormSteps.{run_made, run_await, run_expr, key_taken, if_key_opens, if_key_not, literal_taken}
+use Rattle.basic_tree.proofs.LineSteps.{behind_clause_class, run_clause, run_line_clause, run_await_clause}
+use Rattle.basic_tree.proofs.LineLeads.{Finished, finished_widened, closings_words, pieces_words, parts_before, parts_behind, Starts, starts_other}
 
 -- ---- an expression of a form
 
-then_begun : (s : Option Start) (more k : List Symbol) (n : ℕ) (f g : ℕ → Values → Turn) → moved (then_also more (begun s)) n k f ≡ moved (begun s) n (more ++ k) g
-then_begun None more k n f g = refl
-then_begun (Some s) more k n f g = rw append_assoc refl
-
-pub run_expression : (n : ℕ) (ws : List Word) (w : Want) (g : Tree → Form) (k : List Symbol) (vs : Values) → run n ws (Go (ExprOf w g) ∷ k) vs ≡ run n ws (Level loosest w ∷ Await g ∷ k) vs
-unfolding run
-run_expression n [] w g k vs = refl
-run_expression n (t ∷ ws) w g k vs =
-    ap (λ (z : Turn). turned z (t ∷ ws) (λ m vs' k'. run m ws k' vs')) (then_begun (start loosest w vs t) (Await g ∷ []) k n (λ m vs'. turn k m vs' (Some t)) (λ m vs'. turn (Await g ∷ k) m vs' (Some t)))
-
-pub run_await : (n : ℕ) (ws : List Word) (g : Tree → Form) (t : Tree) (k : List Symbol) (vs : Values) → run n ws (Await g ∷ k) (Term t ∷ vs) ≡ run n ws (Go (g t) ∷ k) vs
-unfolding run
-run_await n [] g t k vs = refl
-run_await n (x ∷ ws) g t k vs = refl
-
 pub expression_leads : (n : ℕ) (w : Want) (t : Tree) → IsTree t → depth_of t ≤ n → Fits w t → (r : List Word) → Follows 12 r → Parted t r → (g : Tree → Form) (k : List Symbol) (vs : Values) → run n (words (steps_of t) ++ r) (Go (ExprOf w g) ∷ k) vs ≡ run n r (Go (g t) ∷ k) vs
 expression_leads n w t i d f r s p g k vs =
-    run_expression n (words (steps_of t) ++ r) w g k vs
+    run_expr n w g (words (steps_of t) ++ r) k vs
     ∙ whole n t i (complete t n i d).leads w r (Await g ∷ k) vs f s p
-    ∙ run_await n r g t k vs
+    ∙ run_await n g r k t vs
 
 then_follows : (r : List Word) → Follows 12 (Key keyword.Then ∷ r)
 then_follows r = ((((((((((((tt, refl), refl), refl), refl), refl), refl), refl), refl), refl), refl), refl), refl)
@@ -102,18 +84,13 @@ nothing_else = record { bound = 0; by = go } where
   go true h n le r g k vs x = refl
   go false h n le r g k vs x = no_else n r (ClauseIn (λ clause. g (Else clause))) (g NoElse) k vs x
 
--- a word that opens a level
-pub opened_key : (n : ℕ) (x : Keyword) (r : List Word) (f h : Form) (k : List Symbol) (vs : Values) → is_same_keyword x x ≡ true → run (suc n) (Key x ∷ r) (Go (IfKey true x f h) ∷ k) vs ≡ run n r (Go f ∷ k) vs
-unfolding run
-opened_key n x r f h k vs e = rw e refl
-
 some_else : (c : ClauseTree) → ClauseLeads c → ElseLeads (Else c)
 some_else c d = record { bound = suc d.bound; by = go } where
   go : (b : Bool) → (true ≡ true → b ≡ false) → (n : ℕ) → suc d.bound ≤ n → (r : List Word) (g : ElseTree → Form) (k : List Symbol) (vs : Values) → Finished (not (clause_wants_else c)) r → run n (words (pieces_steps (else_pieces (Else c))) ++ r) (Go (else_form b g) ∷ k) vs ≡ run n r (Go (g (Else c)) ∷ k) vs
   go true h n le r g k vs x = absurd (cc (h refl))
   go false h zero le r g k vs x = absurd (omega (arith, le))
   go false h (suc n) le r g k vs x =
-      opened_key n keyword.Else (words (pieces_steps (clause_pieces c ++ closing ∷ [])) ++ r) (ClauseIn (λ clause. g (Else clause))) (g NoElse) k vs refl
+      if_key_opens n keyword.Else (ClauseIn (λ clause. g (Else clause))) (g NoElse) (words (pieces_steps (clause_pieces c ++ closing ∷ [])) ++ r) k vs
       ∙ ap (λ ws. run n ws (Go (ClauseIn (λ clause. g (Else clause))) ∷ k) vs) (pieces_words (clause_pieces c) (closing ∷ []) r)
       ∙ d.by n (omega (arith, le)) r (λ clause. g (Else clause)) k vs x
 
@@ -136,10 +113,6 @@ then_words t c o r =
     ap (λ x. Key keyword.If ∷ x)
     (words_parts (steps_of t) (Opens (Key keyword.Then) ∷ pieces_steps (clause_pieces c ++ after)) r
     ∙ ap (λ x. words (steps_of t) ++ Key keyword.Then ∷ x) (pieces_words (clause_pieces c) after r))
-
-pub taken_key : (n : ℕ) (x : Keyword) (r : List Word) (f : Form) (k : List Symbol) (vs : Values) → is_same_keyword x x ≡ true → run n (Key x ∷ r) (Go (TakeKey false x f) ∷ k) vs ≡ run n r (Go f ∷ k) vs
-unfolding run
-taken_key n x r f k vs e = rw e refl
 
 -- what is expected behind the condition
 abbrev behind_condition : Tree → Form
@@ -164,23 +137,15 @@ if_then t c o h y d q = record {
       let behind = words (pieces_steps (else_pieces o)) ++ r in
       let clause = words (pieces_steps (clause_pieces c)) ++ behind in
       ap (λ ws. run (suc n) ws (Go if_form ∷ k) vs) (then_words t c o r)
-      ∙ taken_key (suc n) keyword.If (words (steps_of t) ++ Key keyword.Then ∷ clause) (ExprOf want.Number behind_condition) k vs refl
+      ∙ key_taken (suc n) keyword.If (ExprOf want.Number behind_condition) (words (steps_of t) ++ Key keyword.Then ∷ clause) k vs
       ∙ expression_leads (suc n) want.Number t h.1.0.0 (omega (arith, le)) h.1.0.1 (Key keyword.Then ∷ clause) (then_follows clause) (λ e. refl) behind_condition k vs
-      ∙ opened_key n keyword.Then clause _ _ k vs refl
+      ∙ if_key_opens n keyword.Then _ _ clause k vs
       ∙ d.by n (omega (arith, le)) behind _ k vs (clause_end o (clause_wants_else c) r y x)
       ∙ q.by (clause_wants_else c) (else_free (has_else o) (clause_wants_else c) y) (suc n) (omega (arith, le)) r (λ otherwise. says (IfThen t c otherwise)) k vs x
-      ∙ run_made (suc n) r (Stated (IfThen t c o)) k vs
+      ∙ run_made (suc n) (Stated (IfThen t c o)) r k vs
 
 goto_words : (t : Tree) (l : ℕ) (o : ElseTree) (r : List Word) → words (pieces_steps (pieces_of (IfGoto t l o))) ++ r ≡ Key keyword.If ∷ (words (steps_of t) ++ Key keyword.Goto ∷ Number l ∷ (words (pieces_steps (else_pieces o)) ++ r))
 goto_words t l o r = ap (λ x. Key keyword.If ∷ x) (words_parts (steps_of t) (Plain (Key keyword.Goto) ∷ Plain (Number l) ∷ pieces_steps (else_pieces o)) r)
-
-pub passed_key : (n : ℕ) (x y : Keyword) (r : List Word) (f h : Form) (k : List Symbol) (vs : Values) → is_same_keyword x y ≡ false → run n (Key y ∷ r) (Go (IfKey true x f h) ∷ k) vs ≡ run n (Key y ∷ r) (Go h ∷ k) vs
-unfolding run
-passed_key n x y r f h k vs e = rw e refl
-
-pub literal_taken : (n l : ℕ) (r : List Word) (g : ℕ → Form) (k : List Symbol) (vs : Values) → within LineNumber l ≡ true → run n (Number l ∷ r) (Go (LiteralIn LineNumber g) ∷ k) vs ≡ run n r (Go (g l) ∷ k) vs
-unfolding run
-literal_taken n l r g k vs e = rw e refl
 
 if_goto : (t : Tree) (l : ℕ) (o : ElseTree) → ArePieces (pieces_of (IfGoto t l o)) → ElseLeads o → Starts (IfGoto t l o)
 if_goto t l o h q = record {
@@ -197,29 +162,29 @@ if_goto t l o h q = record {
   go n le r k vs x =
       let behind = words (pieces_steps (else_pieces o)) ++ r in
       ap (λ ws. run n ws (Go if_form ∷ k) vs) (goto_words t l o r)
-      ∙ taken_key n keyword.If (words (steps_of t) ++ Key keyword.Goto ∷ Number l ∷ behind) (ExprOf want.Number behind_condition) k vs refl
+      ∙ key_taken n keyword.If (ExprOf want.Number behind_condition) (words (steps_of t) ++ Key keyword.Goto ∷ Number l ∷ behind) k vs
       ∙ expression_leads n want.Number t h.1.0.0 (omega (arith, le)) h.1.0.1 (Key keyword.Goto ∷ Number l ∷ behind) (goto_follows (Number l ∷ behind)) (λ e. refl) behind_condition k vs
-      ∙ passed_key n keyword.Then keyword.Goto (Number l ∷ behind) _ _ k vs refl
-      ∙ taken_key n keyword.Goto (Number l ∷ behind) _ k vs refl
-      ∙ literal_taken n l behind _ k vs h.1.1.1.0
+      ∙ if_key_not n true keyword.Then _ _ (Key keyword.Goto ∷ Number l ∷ behind) k vs refl
+      ∙ key_taken n keyword.Goto _ (Number l ∷ behind) k vs
+      ∙ literal_taken n LineNumber _ l behind k vs h.1.1.1.0
       ∙ q.by false (λ e. refl) n (omega (arith, le)) r (λ otherwise. says (IfGoto t l otherwise)) k vs x
-      ∙ run_made n r (Stated (IfGoto t l o)) k vs
+      ∙ run_made n (Stated (IfGoto t l o)) r k vs
 
 -- ---- every statement and clause
 
 mutual
-  pub starts : SimpleLeads → ModifierLeads → (s : StatementTree) → ArePieces (pieces_of s) → Starts s
-  starts simple mods (IfThen t c o) h =
+  pub starts : (s : StatementTree) → ArePieces (pieces_of s) → Starts s
+  starts (IfThen t c o) h =
       let behind = closing ∷ Holds (not (has_else o && clause_wants_else c)) ∷ else_pieces o in
       let b = parts_behind (clause_pieces c) behind h.1.1.1 in
-      if_then t c o h b.1.0 (clause_leads simple mods c (parts_before (clause_pieces c) behind h.1.1.1)) (else_leads simple mods o b.1.1)
-  starts simple mods (IfGoto t l o) h = if_goto t l o h (else_leads simple mods o h.1.1.1.1)
-  starts simple mods s h = starts_other simple mods s refl h
+      if_then t c o h b.1.0 (clause_leads c (parts_before (clause_pieces c) behind h.1.1.1)) (else_leads o b.1.1)
+  starts (IfGoto t l o) h = if_goto t l o h (else_leads o h.1.1.1.1)
+  starts s h = starts_other s refl h
 
-  pub clause_leads : SimpleLeads → ModifierLeads → (c : ClauseTree) → ArePieces (clause_pieces c) → ClauseLeads c
-  clause_leads simple mods (LineClause c) h = line_clause c h.0
-  clause_leads simple mods (StatementClause s) h = statement_clause s (no_head (is_head s) h.0) (starts simple mods s (parts_before (pieces_of s) (closings s) h.1))
+  pub clause_leads : (c : ClauseTree) → ArePieces (clause_pieces c) → ClauseLeads c
+  clause_leads (LineClause c) h = line_clause c h.0
+  clause_leads (StatementClause s) h = statement_clause s (no_head (is_head s) h.0) (starts s (parts_before (pieces_of s) (closings s) h.1))
 
-  pub else_leads : SimpleLeads → ModifierLeads → (o : ElseTree) → ArePieces (else_pieces o) → ElseLeads o
-  else_leads simple mods NoElse h = nothing_else
-  else_leads simple mods (Else c) h = some_else c (clause_leads simple mods c (parts_before (clause_pieces c) (closing ∷ []) h.1))
+  pub else_leads : (o : ElseTree) → ArePieces (else_pieces o) → ElseLeads o
+  else_leads NoElse h = nothing_else
+  else_leads (Else c) h = some_else c (clause_leads c (parts_before (clause_pieces c) (closing ∷ []) h.1))

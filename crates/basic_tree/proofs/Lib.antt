@@ -34,7 +34,6 @@ pub mod MachineSpelled
 pub mod MachineSteps
 pub mod MachineTrees
 pub mod MachineTurns
-pub mod ModifierForms
 pub mod MoveLemmas
 pub mod OneLine
 pub mod OneTree

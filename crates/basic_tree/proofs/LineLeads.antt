@@ -11,38 +11,12 @@ use Rattle.basic_tree.specs.SpellingStatements.{is_if, is_head, wants_else, clos
 use Rattle.basic_tree.specs.GrammarStack.{Value, Stated, Modifying, Modify, Symbol, Go, Do, Close, Modifiers, Form}
 use Rattle.basic_tree.specs.GrammarSentences.{Class, Choice, Head, Simple, Sentence, sentence_of, key_modifier, modifier_of}
 use Rattle.basic_tree.specs.GrammarRun.{run}
-use Rattle.basic_tree.proofs.FormLeads.{key_ends, word_ends, Ending, Leads, OfClass}
+use Rattle.basic_tree.proofs.FormLeads.{key_ends, word_ends, Ending, OfClass}
 use Rattle.basic_tree.proofs.MachineSteps.{run_do, run_close}
 use Rattle.basic_tree.proofs.MachineLeads.{words_append, words_parts}
+use Rattle.basic_tree.proofs.FormSimple.{ModifierBegun, modifier_leads}
+use Rattle.basic_tree.proofs.FormBegins.{simple_leads}
 use Rattle.basic_tree.proofs.LineSteps.{behind_clause_class, is_head_class, NoModifier, run_modifier, run_no_modifier}
-
--- ---- what the forms give
-
--- a statement other than IF and without modifiers
-pub record Begun (s : StatementTree) : Type 0 where
-  pub word : Word
-  pub rest : List Word
-  pub sentence : Sentence
-  pub known : sentence_of word ≡ Some sentence
-  pub spelled : words (pieces_steps (pieces_of s)) ≡ word ∷ rest
-  pub class : OfClass sentence.class s
-  pub leads : Leads true sentence.form (pieces_steps (pieces_of s)) (Stated s)
-
--- a modifier: its word opens a level, which does not end with it
-pub record BegunModifier (m : ModifierTree) : Type 0 where
-  pub word : Word
-  pub rest : List Word
-  pub form : Form
-  pub known : modifier_of word ≡ Some form
-  pub spelled : words (pieces_steps (modifier m)) ≡ word ∷ rest
-  pub bound : ℕ
-  pub by : (n : ℕ) → bound ≤ n → (r : List Word) (k : List Symbol) (vs : List Value) → Ending true r → run (suc n) (words (pieces_steps (modifier m)) ++ r) (Go form ∷ k) vs ≡ run n r k (Modifying m ∷ vs)
-
-abbrev pub SimpleLeads : Type 0
-SimpleLeads = (s : StatementTree) → is_if s ≡ false → closings s ≡ [] → ArePieces (pieces_of s) → Begun s
-
-abbrev pub ModifierLeads : Type 0
-ModifierLeads = (m : ModifierTree) → ArePieces (modifier m) → BegunModifier m
 
 -- ---- what may stand behind a whole statement: a separator, or an ELSE where one may follow
 
@@ -155,7 +129,7 @@ parts_behind (p ∷ a) b h = parts_behind a b h.1
 
 -- ---- a statement with modifiers
 
-one_modifier : (m : ModifierTree) (d : BegunModifier m) (s : StatementTree) (n : ℕ) → d.bound ≤ n → (r : List Word) (k : List Symbol) (vs : List Value) → Ending true r → run (suc n) (words (pieces_steps (modifier m)) ++ r) (Modifiers ∷ k) (Stated s ∷ vs) ≡ run n r (Modifiers ∷ Close ∷ k) (Stated (Modified s m) ∷ vs)
+one_modifier : (m : ModifierTree) (d : ModifierBegun m) (s : StatementTree) (n : ℕ) → d.bound ≤ n → (r : List Word) (k : List Symbol) (vs : List Value) → Ending true r → run (suc n) (words (pieces_steps (modifier m)) ++ r) (Modifiers ∷ k) (Stated s ∷ vs) ≡ run n r (Modifiers ∷ Close ∷ k) (Stated (Modified s m) ∷ vs)
 one_modifier m d s n le r k vs e =
     ap (λ ws. run (suc n) (ws ++ r) (Modifiers ∷ k) (Stated s ∷ vs)) d.spelled
     ∙ run_modifier (suc n) d.word (d.rest ++ r) d.form k (Stated s ∷ vs) d.known
@@ -163,7 +137,7 @@ one_modifier m d s n le r k vs e =
     ∙ d.by n le r (Do Modify ∷ Modifiers ∷ Close ∷ k) (Stated s ∷ vs) e
     ∙ run_do n Modify r (Modifiers ∷ Close ∷ k) (Modifying m ∷ Stated s ∷ vs)
 
-modifier_behind : (m : ModifierTree) (d : BegunModifier m) (r : List Word) → Ending true (words (pieces_steps (modifier m)) ++ r)
+modifier_behind : (m : ModifierTree) (d : ModifierBegun m) (r : List Word) → Ending true (words (pieces_steps (modifier m)) ++ r)
 modifier_behind m d r = subst (λ x. Ending true (x ++ r)) (sym d.spelled) (modifier_ends d.word (d.rest ++ r) d.form d.known)
 
 -- a statement that may have modifiers, up to where the levels of its modifiers end
@@ -182,9 +156,9 @@ class_simple Choice s h i e = absurd cc
 class_simple Head s h i e = absurd (cc (h.1))
 class_simple Simple s h i e = refl
 
-unmodified : SimpleLeads → (s : StatementTree) → is_if s ≡ false → is_head s ≡ false → closings s ≡ [] → ((n : ℕ) → levels_before s n ≡ n) → ((k : List Symbol) → closes s k ≡ k) → ArePieces (pieces_of s) → BegunModified s
-unmodified simple s i e c l d h =
-    let b = simple s i c h in
+unmodified : (s : StatementTree) → is_if s ≡ false → is_head s ≡ false → closings s ≡ [] → ((n : ℕ) → levels_before s n ≡ n) → ((k : List Symbol) → closes s k ≡ k) → ArePieces (pieces_of s) → BegunModified s
+unmodified s i e c l d h =
+    let b = simple_leads s i c h in
     record {
       word = b.word;
       rest = b.rest;
@@ -199,7 +173,7 @@ unmodified simple s i e c l d h =
           ∙ ap (λ q. run n r (Modifiers ∷ q) (Stated s ∷ vs)) (sym (d k));
     }
 
-one_more : (s : StatementTree) (m : ModifierTree) → BegunModified s → BegunModifier m → BegunModified (Modified s m)
+one_more : (s : StatementTree) (m : ModifierTree) → BegunModified s → ModifierBegun m → BegunModified (Modified s m)
 one_more s m b d = record {
   word = b.word;
   rest = b.rest ++ words (pieces_steps (modifier m));
@@ -222,11 +196,11 @@ neither true b h = absurd cc
 neither false true h = absurd cc
 neither false false h = (refl, refl)
 
-pub begun_modified : SimpleLeads → ModifierLeads → (s : StatementTree) → is_if s ≡ false → is_head s ≡ false → ArePieces (pieces_of s) → BegunModified s
-begun_modified simple mods (Modified s m) i e h =
+pub begun_modified : (s : StatementTree) → is_if s ≡ false → is_head s ≡ false → ArePieces (pieces_of s) → BegunModified s
+begun_modified (Modified s m) i e h =
     let x = neither (is_if s) (is_head s) h.0 in
-    one_more s m (begun_modified simple mods s x.0 x.1 (parts_before (pieces_of s) (modifier m) h.1)) (mods m (parts_behind (pieces_of s) (modifier m) h.1))
-begun_modified simple mods s i e h = unmodified simple s i e refl (λ n. refl) (λ k. refl) h
+    one_more s m (begun_modified s x.0 x.1 (parts_before (pieces_of s) (modifier m) h.1)) (modifier_leads m (parts_behind (pieces_of s) (modifier m) h.1))
+begun_modified s i e h = unmodified s i e refl (λ n. refl) (λ k. refl) h
 
 -- ---- every statement
 
@@ -265,9 +239,9 @@ class_head Choice s h i e = absurd cc
 class_head Head s h i e = refl
 class_head Simple s h i e = absurd (cc (h.1))
 
-starts_head : SimpleLeads → (s : StatementTree) → is_if s ≡ false → is_head s ≡ true → closings s ≡ [] → ArePieces (pieces_of s) → Starts s
-starts_head simple s i e c h =
-    let b = simple s i c h in
+starts_head : (s : StatementTree) → is_if s ≡ false → is_head s ≡ true → closings s ≡ [] → ArePieces (pieces_of s) → Starts s
+starts_head s i e c h =
+    let b = simple_leads s i c h in
     let x = class_head b.sentence.class s b.class i e in
     record {
       word = b.word;
@@ -287,8 +261,8 @@ head_closings (Modified s m) e = absurd cc
 head_closings s e = refl
 
 -- every statement but IF
-pub starts_other : SimpleLeads → ModifierLeads → (s : StatementTree) → is_if s ≡ false → ArePieces (pieces_of s) → Starts s
-starts_other simple mods s i h = go (is_head s) refl where
+pub starts_other : (s : StatementTree) → is_if s ≡ false → ArePieces (pieces_of s) → Starts s
+starts_other s i h = go (is_head s) refl where
   go : (b : Bool) → is_head s ≡ b → Starts s
-  go true e = starts_head simple s i e (head_closings s e) h
-  go false e = starts_modified s e (begun_modified simple mods s i e h)
+  go true e = starts_head s i e (head_closings s e) h
+  go false e = starts_modified s e (begun_modified s i e h)

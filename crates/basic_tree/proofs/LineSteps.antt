@@ -5,7 +5,7 @@ use Rattle.basic_tree.specs.declared.tokens.Keyword.TheVariants as keyword
 use Rattle.basic_tree.specs.declared.tokens.Sign.TheVariants as sign
 use Rattle.basic_tree.specs.SpellingWords.{Word, Key, Punctuation, Named, FnNamed, Number}
 use Rattle.basic_tree.specs.Trees.{ClauseTree, LineClause, StatementClause, StatementTree}
-use Rattle.basic_tree.specs.GrammarStack.{Value, Values, Stated, Parsed, Modify, Symbol, Go, AwaitClause, Modifiers, OneStatement, MoreStatements, Close, Do, Form, Made, TakeKey, TargetOf, FnNameIn, ClauseIn, LineNumber, within, with_statement}
+use Rattle.basic_tree.specs.GrammarStack.{Values, Stated, Parsed, Modify, Symbol, Go, AwaitClause, Modifiers, OneStatement, MoreStatements, Close, Do, Form, TakeKey, TargetOf, FnNameIn, ClauseIn, LineNumber, within, with_statement}
 use Rattle.basic_tree.specs.GrammarStarts.{takes}
 use Rattle.basic_tree.specs.GrammarSentences.{Class, Choice, Head, Simple, Sentence, key_sentence, sentence_of, key_modifier, modifier_of}
 use Rattle.basic_tree.specs.GrammarMachine.{Move, Takes, Skips, Closes, Refuses, then_also, form_move_with, form_move, no_clause, behind_clause, clause_sentence, clause_move, behind_class, modified}
@@ -204,10 +204,3 @@ pub run_no_modifier : (n : ℕ) (ws : List Word) (k : List Symbol) (s : Statemen
 unfolding run
 run_no_modifier n [] k s vs h = refl
 run_no_modifier n (t ∷ ws) k s vs h = rw h refl
-
--- ---- what has been read
-
-pub run_made : (n : ℕ) (ws : List Word) (v : Value) (k : List Symbol) (vs : Values) → run n ws (Go (Made v) ∷ k) vs ≡ run n ws k (v ∷ vs)
-unfolding run
-run_made n [] v k vs = refl
-run_made n (t ∷ ws) v k vs = refl

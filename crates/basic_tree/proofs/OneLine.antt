@@ -16,9 +16,8 @@ use Rattle.basic_tree.proofs.MachineReads.{place_pieces, separated}
 use Rattle.basic_tree.proofs.MachineSteps.{run_do}
 use Rattle.basic_tree.proofs.MachineLeads.{words_append}
 use Rattle.basic_tree.proofs.LineSteps.{NoSentence, behind_clause_class, run_statement, run_no_statement, run_more_statements}
-use Rattle.basic_tree.proofs.LineLeads.{SimpleLeads, ModifierLeads, Finished, finished_widened, closings_words, pieces_append, pieces_words, parts_before, parts_behind, Starts}
+use Rattle.basic_tree.proofs.LineLeads.{Finished, finished_widened, closings_words, pieces_append, pieces_words, parts_before, parts_behind, Starts}
 use Rattle.basic_tree.proofs.IfLeads.{starts}
-use Rattle.basic_tree.proofs.ModifierForms.{modifier_leads}
 
 -- ---- a statement of a line, or none
 
@@ -56,9 +55,9 @@ some_place s b = record {
       ∙ run_do n AddStatement r k (Stated s ∷ Parsed ss ∷ vs);
 }
 
-pub place_leads : SimpleLeads → ModifierLeads → (s : Option StatementTree) → ArePieces (place_pieces s) → PlaceLeads s
-place_leads simple mods None h = no_place
-place_leads simple mods (Some s) h = some_place s (starts simple mods s (parts_before (pieces_of s) (closings s) h))
+pub place_leads : (s : Option StatementTree) → ArePieces (place_pieces s) → PlaceLeads s
+place_leads None h = no_place
+place_leads (Some s) h = some_place s (starts s (parts_before (pieces_of s) (closings s) h))
 
 -- ---- the statements behind separators
 
@@ -89,16 +88,16 @@ one_other s others b d = record {
       ∙ ap (λ x. Ok (Parsed x ∷ [], [])) (append_assoc ss (s ∷ []) others);
 }
 
-pub others_lead : SimpleLeads → ModifierLeads → (others : List (Option StatementTree)) → ArePieces (each separated others) → OthersLead others
-others_lead simple mods [] h = no_others
-others_lead simple mods (s ∷ others) h = one_other s others (place_leads simple mods s (parts_before (place_pieces s) (each separated others) h.1)) (others_lead simple mods others (parts_behind (place_pieces s) (each separated others) h.1))
+pub others_lead : (others : List (Option StatementTree)) → ArePieces (each separated others) → OthersLead others
+others_lead [] h = no_others
+others_lead (s ∷ others) h = one_other s others (place_leads s (parts_before (place_pieces s) (each separated others) h.1)) (others_lead others (parts_behind (place_pieces s) (each separated others) h.1))
 
 -- ---- lines
 
-pub line_leads : SimpleLeads → ModifierLeads → (l : LineTree) → ArePieces (line_pieces l) → (b : ℕ) × ((n : ℕ) → b ≤ n → run n (words (line_steps l)) (OneStatement ∷ MoreStatements ∷ []) (Parsed [] ∷ []) ≡ Ok (Parsed (l.first ∷ l.others) ∷ [], []))
-line_leads simple mods l h =
-    let b = place_leads simple mods l.first (parts_before (place_pieces l.first) (each separated l.others) h) in
-    let d = others_lead simple mods l.others (parts_behind (place_pieces l.first) (each separated l.others) h) in
+pub line_leads : (l : LineTree) → ArePieces (line_pieces l) → (b : ℕ) × ((n : ℕ) → b ≤ n → run n (words (line_steps l)) (OneStatement ∷ MoreStatements ∷ []) (Parsed [] ∷ []) ≡ Ok (Parsed (l.first ∷ l.others) ∷ [], []))
+line_leads l h =
+    let b = place_leads l.first (parts_before (place_pieces l.first) (each separated l.others) h) in
+    let d = others_lead l.others (parts_behind (place_pieces l.first) (each separated l.others) h) in
     (max b.bound d.bound, λ n le.
     ap (λ ws. run n ws (OneStatement ∷ MoreStatements ∷ []) (Parsed [] ∷ [])) (two_words (place_pieces l.first) (each separated l.others))
     ∙ b.by n (omega (arith, le)) (words (pieces_steps (each separated l.others))) [] (MoreStatements ∷ []) [] (others_finish l.others)
@@ -112,14 +111,10 @@ abbrev line_made : Outcome → LineTree
 line_made (Ok x) = line_of (parsed x.0)
 line_made (Err e) = line_of []
 
-pub one_line_lem : SimpleLeads → ModifierLeads → OneLine
-one_line_lem simple mods ws l m a b =
-    let x = line_leads simple mods l a.pieces in
-    let y = line_leads simple mods m b.pieces in
+pub one_line_lem : OneLine
+one_line_lem ws l m a b =
+    let x = line_leads l a.pieces in
+    let y = line_leads m b.pieces in
     let n = x.0 + y.0 in
     let same = sym (x.1 n (omega arith)) ∙ ap (λ s. run n s (OneStatement ∷ MoreStatements ∷ []) (Parsed [] ∷ [])) (sym a.spelling ∙ b.spelling) ∙ y.1 n (omega arith) in
     ap (λ o. line_made o) same
-
--- all that is left to know is what simple statements lead to
-pub one_line_from : SimpleLeads → OneLine
-one_line_from simple = one_line_lem simple modifier_leads
