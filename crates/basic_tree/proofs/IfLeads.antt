@@ -53,7 +53,7 @@ statement_clause s i b = record {
   bound = b.bound;
   by = λ n le r g k vs x.
       let e : words (pieces_steps (clause_pieces (StatementClause s))) ++ r ≡ words (pieces_steps (pieces_of s)) ++ r =
-          pieces_words (pieces_of s) (closings s) r ∙ ap (λ y. words (pieces_steps (pieces_of s)) ++ (y ++ r)) (closings_words s) in
+      pieces_words (pieces_of s) (closings s) r ∙ ap (λ y. words (pieces_steps (pieces_of s)) ++ (y ++ r)) (closings_words s) in
       ap (λ ws. run n ws (Go (ClauseIn g) ∷ k) vs) e
       ∙ ap (λ ws. run n (ws ++ r) (Go (ClauseIn g) ∷ k) vs) b.spelled
       ∙ run_clause n b.word (b.rest ++ r) b.sentence g k vs b.known (b.class ∙ i)

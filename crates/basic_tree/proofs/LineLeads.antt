@@ -229,9 +229,9 @@ starts_modified s i b = record {
       let same : levels_before s m ≡ n = levels_count s m ∙ omega (arith, le) in
       ap (λ c. run n (words (pieces_steps (pieces_of s)) ++ r) (Go b.sentence.form ∷ (behind_clause_class c ++ k)) vs) b.class
       ∙ subst (λ (y : ℕ). run y (words (pieces_steps (pieces_of s)) ++ r) (Go b.sentence.form ∷ Modifiers ∷ k) vs ≡ run y r k (Stated s ∷ vs)) same
-        (b.by m (omega (arith, le)) r k vs (finished_ends (not (wants_else s)) r x)
-        ∙ run_no_modifier m r (closes s k) s vs (finished_no_modifier (not (wants_else s)) r x)
-        ∙ run_closes s m r k (Stated s ∷ vs));
+      (b.by m (omega (arith, le)) r k vs (finished_ends (not (wants_else s)) r x)
+      ∙ run_no_modifier m r (closes s k) s vs (finished_no_modifier (not (wants_else s)) r x)
+      ∙ run_closes s m r k (Stated s ∷ vs));
 }
 
 class_head : (c : Class) (s : StatementTree) → OfClass c s → is_if s ≡ false → is_head s ≡ true → c ≡ Head

@@ -45,7 +45,7 @@ some_place s b = record {
   bound = b.bound;
   by = λ n le r ss k vs x.
       let e : words (pieces_steps (statement_pieces s)) ++ r ≡ words (pieces_steps (pieces_of s)) ++ r =
-          pieces_words (pieces_of s) (closings s) r ∙ ap (λ y. words (pieces_steps (pieces_of s)) ++ (y ++ r)) (closings_words s) in
+      pieces_words (pieces_of s) (closings s) r ∙ ap (λ y. words (pieces_steps (pieces_of s)) ++ (y ++ r)) (closings_words s) in
       ap (λ ws. run n ws (OneStatement ∷ k) (Parsed ss ∷ vs)) e
       ∙ ap (λ ws. run n (ws ++ r) (OneStatement ∷ k) (Parsed ss ∷ vs)) b.spelled
       ∙ run_statement n b.word (b.rest ++ r) b.sentence k (Parsed ss ∷ vs) b.known
@@ -97,11 +97,13 @@ others_lead (s ∷ others) h = one_other s others (place_leads s (parts_before (
 pub line_leads : (l : LineTree) → ArePieces (line_pieces l) → (b : ℕ) × ((n : ℕ) → b ≤ n → run n (words (line_steps l)) (OneStatement ∷ MoreStatements ∷ []) (Parsed [] ∷ []) ≡ Ok (Parsed (l.first ∷ l.others) ∷ [], []))
 line_leads l h =
     let b = place_leads l.first (parts_before (place_pieces l.first) (each separated l.others) h) in
-    let d = others_lead l.others (parts_behind (place_pieces l.first) (each separated l.others) h) in
-    (max b.bound d.bound, λ n le.
-    ap (λ ws. run n ws (OneStatement ∷ MoreStatements ∷ []) (Parsed [] ∷ [])) (two_words (place_pieces l.first) (each separated l.others))
-    ∙ b.by n (omega (arith, le)) (words (pieces_steps (each separated l.others))) [] (MoreStatements ∷ []) [] (others_finish l.others)
-    ∙ d.by n (omega (arith, le)) (l.first ∷ []))
+    let d = others_lead l.others (parts_behind (place_pieces l.first) (each separated l.others) h) in (
+      max b.bound d.bound,
+      λ n le.
+          ap (λ ws. run n ws (OneStatement ∷ MoreStatements ∷ []) (Parsed [] ∷ [])) (two_words (place_pieces l.first) (each separated l.others))
+          ∙ b.by n (omega (arith, le)) (words (pieces_steps (each separated l.others))) [] (MoreStatements ∷ []) [] (others_finish l.others)
+          ∙ d.by n (omega (arith, le)) (l.first ∷ []),
+    )
 
 abbrev line_of : List (Option StatementTree) → LineTree
 line_of [] = record { first = None; others = [] }
