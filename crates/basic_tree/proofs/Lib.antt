@@ -21,10 +21,12 @@ pub mod FrontLemmas
 pub mod GapLemmas
 pub mod GapNumberLemmas
 pub mod IfLeads
+pub mod Judged
 pub mod LineLeads
 pub mod LineLevels
 pub mod LineModified
 pub mod LinePlaces
+pub mod LineReads
 pub mod LineSteps
 pub mod ListBack
 pub mod MachineBack

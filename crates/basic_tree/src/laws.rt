@@ -1,6 +1,7 @@
 //! What a user relies on, as laws over the definitions: each is the contract of a function that does nothing.
 
-ghost use Rattle.basic_tree.specs.GrammarPlaces.{OneTree};
+ghost use Rattle.basic_tree.specs.GrammarPlaces.{OneTree, OneLine};
+ghost use Rattle.basic_tree.specs.LineVerdicts.{LinesAreJudged};
 ghost use Rattle.basic_tree.specs.TokenLaws.{TokensAreSlices, BlanksMoveTokens, BlanksSeparateTokens, LongestIsTaken};
 
 /// The tokens of a line are slices of it, whose starts rise and of which no two overlap.
@@ -26,4 +27,14 @@ pub fn blanks_separate_tokens()
 /// No words are two expressions, whatever kinds are wanted.
 pub fn one_tree()
     ensures { OneTree }
+{}
+
+/// No words are two lines.
+pub fn one_line()
+    ensures { OneLine }
+{}
+
+/// Every line of bytes has a tree, or is refused for a cause: there is a judge of all lines.
+pub fn lines_are_judged()
+    ensures { LinesAreJudged }
 {}

@@ -1,0 +1,130 @@
+-- Each line is judged by where the machine stops; no word is too deep where there is none.
+use Rattle.std.proofs.Common.{subst, ◌≡◌, ℕ, zero, suc, ◌+◌, ◌<◌, ◌≤◌, Bool, true, false, List, [], ◌∷◌, ◌++◌, length, drop, Option, Some, None, Ok, Err, refl, sym, ap, ◌∙◌, arith}
+use Rattle.std.proofs.lemmas.List.{append-nil, drop_all}
+use Rattle.basic_tree.specs.declared.tokens.Cause.TheVariants as cause
+use Rattle.basic_tree.specs.SpellingWords.{Word, words_of, most_levels}
+use Rattle.basic_tree.specs.Trees.{Tree, LineTree, ClauseTree, StatementClause}
+use Rattle.basic_tree.specs.SpellingExpressions.{is_text}
+use Rattle.basic_tree.specs.Tokens.{Reading, tokens_of}
+use Rattle.basic_tree.specs.GrammarPlaces.{IsReadLine, IsWrongLine, IsDeepLine}
+use Rattle.basic_tree.specs.GrammarStack.{Values, top, stated, below, Form, Made, TakeKey, TakeSign, TakeClosing, IfKey, IfSign, ExprOf, ExprIf, TargetOf, NameIn, FnNameIn, LiteralIn, LiteralIf, QuotedIf, ItemIn, MoreItems, MoreOf, MorePrinted, ClauseIn, Symbol, Level, More, MoreRelations, Exponent, Expect, Opening, Close, Do, Subscripts, SecondSubscript, Arguments, MoreArguments, Go, Await, AwaitClause, Modifiers, OneStatement, MoreStatements}
+use Rattle.basic_tree.specs.GrammarMachine.{Move, Takes, Skips, Refuses, no_relation, clause_move, form_move_with, move}
+use Rattle.basic_tree.specs.GrammarMachine.{Closes as Ends}
+use Rattle.basic_tree.specs.GrammarRun.{Turn, Next, Ended, Stuck, Deep, moved, turn, Wrong, TooDeep, Outcome, turned, run}
+use Rattle.basic_tree.specs.LineVerdicts.{Verdict, HasTree, RefusedFor, WordsJudged, ReadingJudged, Judges, LinesAreJudged}
+use Rattle.basic_tree.specs.GrammarJudge.{line_symbols, line_values, outcome_verdict, verdict_of, reading_verdict, judge_of}
+use Rattle.basic_tree.proofs.MachinePasses.{left}
+use Rattle.basic_tree.proofs.MachineStops.{finished}
+use Rattle.basic_tree.proofs.LinePlaces.{line_read, line_wrong, line_stops, line_deep}
+use Rattle.basic_tree.proofs.LineReads.{made_line, reads_lines, left_end}
+
+-- ---- at the end nothing is taken
+
+abbrev NoWord : Move → Type 0
+NoWord (Takes opens vs more) = ⊥
+NoWord other = Unit {0}
+
+form_ends : (clause : (ClauseTree → Form) → Values → Option Word → Move) → ((g : ClauseTree → Form) (vs : Values) → NoWord (clause g vs None)) → (f : Form) (vs : Values) → NoWord (form_move_with clause f vs None)
+form_ends c h (IfKey opens k f other) vs = form_ends c h other vs
+form_ends c h (IfSign opens s f other) vs = form_ends c h other vs
+form_ends c h (ExprIf test w g other) vs = form_ends c h other vs
+form_ends c h (LiteralIf limit g other) vs = form_ends c h other vs
+form_ends c h (QuotedIf g other) vs = form_ends c h other vs
+form_ends c h (MoreItems items g) vs = form_ends c h (g items) vs
+form_ends c h (MoreOf s items g) vs = form_ends c h (g items) vs
+form_ends c h (ClauseIn g) vs = h g vs
+form_ends c h f vs = tt
+
+go_ends : (f : Form) (vs : Values) → NoWord (form_move_with clause_move f vs None)
+go_ends f vs = form_ends clause_move (λ g ws. tt) f vs
+
+relation_ends : (a b : Bool) (vs : Values) → NoWord (no_relation a b vs)
+relation_ends true true vs = tt
+relation_ends true false vs = tt
+relation_ends false b vs = tt
+
+move_ends : (s : Symbol) (vs : Values) → NoWord (move s vs None)
+move_ends (MoreRelations b) vs = relation_ends b (is_text (top vs)) vs
+move_ends (Go f) vs = go_ends f vs
+move_ends (Await g) vs = go_ends (g (top vs)) (below vs)
+move_ends (AwaitClause g) vs = go_ends (g (StatementClause (stated vs))) (below vs)
+move_ends s vs = tt
+
+abbrev NotDeep : Turn → Type 0
+NotDeep Deep = ⊥
+NotDeep other = Unit {0}
+
+moved_ends : (m : Move) (n : ℕ) (k : List Symbol) (f : ℕ → Values → Turn) → NoWord m → ((i : ℕ) (vs : Values) → NotDeep (f i vs)) → NotDeep (moved m n k f)
+moved_ends (Takes opens vs more) n k f e h = absurd e
+moved_ends (Skips vs) n k f e h = h n vs
+moved_ends (Ends vs) n k f e h = h (suc n) vs
+moved_ends Refuses n k f e h = tt
+
+turn_ends : (k : List Symbol) (n : ℕ) (vs : Values) → NotDeep (turn k n vs None)
+turn_ends [] n vs = tt
+turn_ends (s ∷ k) n vs = moved_ends (move s vs None) n k (λ m vs'. turn k m vs' None) (move_ends s vs) (λ i vs'. turn_ends k i vs')
+
+-- no word is too deep behind all words
+pub never_deep_at_end : (ws : List Word) (n : ℕ) (k : List Symbol) (vs : Values) → run n ws k vs ≡ Err (TooDeep []) → ⊥
+unfolding run
+never_deep_at_end [] n k vs e = go (turn k n vs None) (turn_ends k n vs) e where
+  go : (x : Turn) → NotDeep x → turned x [] (λ m vs' k'. Err (Wrong [])) ≡ Err (TooDeep []) → ⊥
+  go (Next m a b) d e = absurd cc
+  go (Ended u) d e = absurd cc
+  go Stuck d e = absurd cc
+  go Deep d e = d
+never_deep_at_end (t ∷ ws) n k vs e = go (turn k n vs (Some t)) (λ m vs' k'. never_deep_at_end ws m k' vs') e where
+  go : (x : Turn) → ((m : ℕ) (vs' : Values) (k' : List Symbol) → run m ws k' vs' ≡ Err (TooDeep []) → ⊥) → turned x (t ∷ ws) (λ m vs' k'. run m ws k' vs') ≡ Err (TooDeep []) → ⊥
+  go (Next m a b) h e = h m a b e
+  go (Ended u) h e = absurd cc
+  go Stuck h e = absurd cc
+  go Deep h e = absurd cc
+
+-- ---- verdicts
+
+deep_within : (ws : List Word) (k n : ℕ) (s : List Symbol) (vs : Values) → k ≤ length ws → run n ws s vs ≡ Err (TooDeep (drop k ws)) → k < length ws
+deep_within ws k n s vs le h = go (drop k ws) refl where
+  nothing : length ws ≤ k → ⊥
+  nothing over = never_deep_at_end ws n s vs (h ∙ ap (λ (x : List Word). Err (TooDeep x)) (drop_all k ws over))
+  go : (x : List Word) → drop k ws ≡ x → k < length ws
+  go x e = below_or k (length ws) le nothing where
+    below_or : (a b : ℕ) → a ≤ b → (b ≤ a → ⊥) → a < b
+    below_or a b x y = omega (arith, y)
+
+pub judged_by : (ws : List Word) (o : Outcome) → run most_levels ws line_symbols line_values ≡ o → WordsJudged ws (outcome_verdict o)
+judged_by ws (Ok (u, [])) h =
+    let f = finished ws [] most_levels line_symbols line_values u (ap (λ (x : List Word). run most_levels x line_symbols line_values) (append-nil ws) ∙ h) in
+    let l = reads_lines.spells f.steps u f.spells in
+    (l.0, line_read line_symbols line_values made_line reads_lines ws l.0 (h ∙ ap (λ (x : Values). Ok (x, [])) (sym l.3)))
+judged_by ws (Ok (u, t ∷ ts)) h =
+    let e = left_end ws most_levels line_symbols line_values in
+    let same : drop e.0 ws ≡ t ∷ ts = sym e.2 ∙ ap left h in
+    (e.0, line_stops line_symbols line_values made_line reads_lines ws e.0 u (inside ws e.0 t ts e.1 same) (h ∙ ap (λ (x : List Word). Ok (u, x)) (sym same))) where
+      inside : (ws : List Word) (k : ℕ) (t : Word) (ts : List Word) → k ≤ length ws → drop k ws ≡ t ∷ ts → k < length ws
+      inside ws k t ts le same = below_or k (length ws) le (λ over. let none : t ∷ ts ≡ [] = sym same ∙ drop_all k ws over in absurd cc) where
+        below_or : (a b : ℕ) → a ≤ b → (b ≤ a → ⊥) → a < b
+        below_or a b x y = omega (arith, y)
+judged_by ws (Err (Wrong r)) h =
+    let e = left_end ws most_levels line_symbols line_values in
+    let same : drop e.0 ws ≡ r = sym e.2 ∙ ap left h in
+    (e.0, line_wrong line_symbols line_values made_line reads_lines ws e.0 e.1 (h ∙ ap (λ (x : List Word). Err (Wrong x)) (sym same)))
+judged_by ws (Err (TooDeep r)) h =
+    let e = left_end ws most_levels line_symbols line_values in
+    let same : drop e.0 ws ≡ r = sym e.2 ∙ ap left h in
+    let there = h ∙ ap (λ (x : List Word). Err (TooDeep x)) (sym same) in
+    (e.0, line_deep line_symbols line_values made_line reads_lines ws e.0 (deep_within ws e.0 most_levels line_symbols line_values e.1 there) there)
+
+pub verdict_judged : (ws : List Word) → WordsJudged ws (verdict_of ws)
+unfolding verdict_of
+verdict_judged ws = judged_by ws (run most_levels ws line_symbols line_values) refl
+
+reading_judged : (r : Reading) → ReadingJudged r (reading_verdict r)
+reading_judged (Ok tokens) = verdict_judged (words_of tokens)
+reading_judged (Err refusal) = refl
+
+-- the machine judges every line by the grammar
+pub judge_of_judges : Judges judge_of
+judge_of_judges line = reading_judged (tokens_of line)
+
+pub lines_judged : LinesAreJudged
+lines_judged = (judge_of, judge_of_judges)
