@@ -1,0 +1,14 @@
+//! Expressions, read from the words of a line by recursive descent.
+#![tactic(auto)]
+
+mod expressions;
+mod failures;
+mod keys;
+mod signs;
+mod tables;
+mod words;
+
+pub use expressions::{expression_at, subscripts_at, target_at};
+pub use failures::{Failure, Found};
+pub use signs::{next_is_key, next_is_sign};
+pub use words::{Word, Words};
