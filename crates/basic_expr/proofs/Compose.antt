@@ -1,5 +1,5 @@
 -- How the contracts of the parser's functions compose.
-use Rattle.std.proofs.Common.{◌==◌, ◌≡◌, ◌≢◌, ◌≤◌, ◌<◌, ◌+◌, ◌-◌, ℕ, zero, suc, Bool, true, false, not, nat_lt, cond, ◌&&◌, ◌||◌, List, [], ◌∷◌, ◌++◌, drop, length, Option, Some, None, Result, Ok, Err, refl, sym, ap, ◌∙◌, subst, arith, append_assoc}
+use Rattle.std.proofs.Common.{◌==◌, ◌≡◌, ◌≢◌, ◌≤◌, ◌<◌, ◌+◌, ◌-◌, ℕ, zero, suc, Bool, true, false, not, nat_lt, cond, ◌&&◌, ◌||◌, List, [], ◌∷◌, ◌++◌, drop, length, Option, Some, None, Result, Ok, Err, refl, sym, ap, ◌∙◌, subst, arith, append_assoc, get_or, length-append}
 use Rattle.std.proofs.lemmas.Bool.{eqb-true}
 use Rattle.std.proofs.Common.{inl, inr, ◌⊎◌}
 use Rattle.basic_tree.specs.declared.names.Name.{Name}
@@ -322,10 +322,9 @@ next_argument m ws place end e es items at next is k vs =
 abbrev pub left_of : Function → ℕ → List Symbol
 left_of f i = more_expected (drop i (arguments_of f)) ++ Do (MakeFunction f) ∷ []
 
+-- the kind of an argument
 abbrev pub wanted : List Want → ℕ → Want
-wanted [] i = want.Either
-wanted (w ∷ ws) zero = w
-wanted (w ∷ ws) (suc i) = wanted ws i
+wanted wants i = get_or wants i want.Number
 
 -- a function without arguments
 pub no_arguments : (n : ℕ) (ts : List Word) (f : Function) (k : List Symbol) (vs : Values) → arguments_of f ≡ [] → run n ts (function_expected f ++ k) (Several NoTrees ∷ vs) ≡ run n ts k (Term (FunctionOf f NoTrees) ∷ vs)
@@ -339,9 +338,12 @@ pub no_opening : (n : ℕ) (ts : List Word) (f : Function) (k : List Symbol) (vs
 no_opening n ts f k vs some h = opened n ts (arguments_of f) (Do (MakeFunction f)) k vs some ∙ not_opened n ts _ vs h
 
 pub deep_function : (n : ℕ) (ws : List Word) (f : Function) (v : Values) (from : ℕ) → n ≡ 0 → from < length ws → 0 < length (arguments_of f) → drop from ws ≡ Punctuation sign.Opening ∷ drop (from + 1) ws → RefusesAll n ws (function_expected f) v from (failure.TooDeep from)
-deep_function n ws f v from e within some at = (within, λ k vs.
-  opened n (drop from ws) (arguments_of f) (Do (MakeFunction f)) k (v ++ vs) some
-  ∙ subst (λ m. run m (drop from ws) (Opening ∷ Level loosest (wanted (arguments_of f) 0) ∷ Do Collect ∷ (left_of f 1 ++ k)) (v ++ vs) ≡ Err (TooDeep (drop from ws))) (sym e) (deep_arguments (drop from ws) (drop (from + 1) ws) _ (v ++ vs) at))
+deep_function n ws f v from e within some at = (
+  within,
+  λ k vs.
+      opened n (drop from ws) (arguments_of f) (Do (MakeFunction f)) k (v ++ vs) some
+      ∙ subst (λ m. run m (drop from ws) (Opening ∷ Level loosest (wanted (arguments_of f) 0) ∷ Do Collect ∷ (left_of f 1 ++ k)) (v ++ vs) ≡ Err (TooDeep (drop from ws))) (sym e) (deep_arguments (drop from ws) (drop (from + 1) ws) _ (v ++ vs) at),
+)
 
 pub function_opens : (n : ℕ) (ts rest : List Word) (f : Function) (k : List Symbol) (vs : Values) → 0 < n → 0 < length (arguments_of f) → ts ≡ Punctuation sign.Opening ∷ rest → run n ts (function_expected f ++ k) vs ≡ run (n - 1) rest (Level loosest (wanted (arguments_of f) 0) ∷ Do Collect ∷ (left_of f 1 ++ k)) vs
 function_opens n ts rest f k vs pos some at = opened n ts (arguments_of f) (Do (MakeFunction f)) k vs some ∙ opens_arguments n ts rest _ vs at pos
@@ -363,3 +365,40 @@ end_expected (w ∷ ws) (suc i) b k h = end_expected ws i b k (omega arith)
 
 pub left_end : (f : Function) (i : ℕ) (k : List Symbol) → length (arguments_of f) ≤ i → left_of f i ++ k ≡ Expect sign.Closing ∷ Close ∷ Do (MakeFunction f) ∷ k
 left_end f i k h = end_expected (arguments_of f) i (Do (MakeFunction f)) k h
+
+pub not_empty : (xs ys : List Want) (b : Bool) → xs ≡ ys → b ≡ (length xs == 0) → b ≡ false → 0 < length ys
+not_empty [] ys b e is h = absurd cc
+not_empty (x ∷ xs) ys b e is h = omega (arith, ap length e)
+
+pub all_empty : (xs ys : List Want) → xs ≡ ys → true ≡ (length xs == 0) → ys ≡ []
+all_empty [] ys e h = sym e
+all_empty (x ∷ xs) ys e h = let z : length (x ∷ xs) ≡ 0 = eqb-true (length (x ∷ xs)) 0 (sym h) in absurd (omega arith)
+
+-- the first argument is wanted
+pub opens_function : (n : ℕ) (ws : List Word) (from : ℕ) (f : Function) (wants : List Want) (k : List Symbol) (vs : Values) → 0 < n → 0 < length (arguments_of f) → wants ≡ arguments_of f → drop from ws ≡ Punctuation sign.Opening ∷ drop (from + 1) ws → run n (drop from ws) (function_expected f ++ k) vs ≡ run (n - 1) (drop (from + 1) ws) (Level loosest (wanted wants 0) ∷ Do Collect ∷ (left_of f 1 ++ k)) vs
+opens_function n ws from f wants k vs pos some same at =
+    function_opens n (drop from ws) (drop (from + 1) ws) f k vs pos some at
+    ∙ ap (λ xs. run (n - 1) (drop (from + 1) ws) (Level loosest (wanted xs 0) ∷ Do Collect ∷ (left_of f 1 ++ k)) vs) (sym same)
+
+pub first_of_function : (n : ℕ) (ws : List Word) (from end : ℕ) (f : Function) (wants : List Want) (e : Expr) (items : List Expr) → 0 < n → 0 < length (arguments_of f) → wants ≡ arguments_of f → drop from ws ≡ Punctuation sign.Opening ∷ drop (from + 1) ws → ((k : List Symbol) (vs : Values) → run (n - 1) (drop (from + 1) ws) (Level loosest (wanted wants 0) ∷ k) vs ≡ run (n - 1) (drop end ws) k (Term (tree_of e) ∷ vs)) → items ≡ e ∷ [] → (k : List Symbol) (vs : Values) → run n (drop from ws) (function_expected f ++ k) (Several NoTrees ∷ vs) ≡ run (n - 1) (drop end ws) (left_of f (length items) ++ k) (Several (trees_in items) ∷ vs)
+first_of_function n ws from end f wants e items pos some same at first is k vs =
+    opens_function n ws from f wants k (Several NoTrees ∷ vs) pos some same at
+    ∙ first (Do Collect ∷ (left_of f 1 ++ k)) (Several NoTrees ∷ vs)
+    ∙ collected (n - 1) (drop end ws) (left_of f 1 ++ k) [] items e vs is
+    ∙ ap (λ i. run (n - 1) (drop end ws) (left_of f i ++ k) (Several (trees_in items) ∷ vs)) (sym (ap length is))
+
+-- one argument more is wanted, behind a comma
+pub comma_wanted : (m : ℕ) (ws : List Word) (place behind i : ℕ) (f : Function) (wants : List Want) (es : List Expr) (k : List Symbol) (vs : Values) → wants ≡ arguments_of f → i ≡ length es → length es < length (arguments_of f) → drop place ws ≡ Punctuation sign.Comma ∷ drop behind ws → run m (drop place ws) (left_of f (length es) ++ k) vs ≡ run m (drop behind ws) (Level loosest (wanted wants i) ∷ Do Collect ∷ (left_of f (suc (length es)) ++ k)) vs
+comma_wanted m ws place behind i f wants es k vs same count more at =
+    ap (λ ss. run m (drop place ws) ss vs) (left_comma f (length es) k more)
+    ∙ sign_taken m (drop place ws) (drop behind ws) sign.Comma (Level loosest (wanted (arguments_of f) (length es)) ∷ Do Collect ∷ (left_of f (suc (length es)) ++ k)) vs at
+    ∙ ap (λ xs. run m (drop behind ws) (Level loosest (wanted xs (length es)) ∷ Do Collect ∷ (left_of f (suc (length es)) ++ k)) vs) (sym same)
+    ∙ ap (λ j. run m (drop behind ws) (Level loosest (wanted wants j) ∷ Do Collect ∷ (left_of f (suc (length es)) ++ k)) vs) (sym count)
+
+pub next_of_function : (m : ℕ) (ws : List Word) (place behind end i : ℕ) (f : Function) (wants : List Want) (e : Expr) (es items : List Expr) → wants ≡ arguments_of f → i ≡ length es → length es < length (arguments_of f) → drop place ws ≡ Punctuation sign.Comma ∷ drop behind ws → ((k : List Symbol) (vs : Values) → run m (drop behind ws) (Level loosest (wanted wants i) ∷ k) vs ≡ run m (drop end ws) k (Term (tree_of e) ∷ vs)) → items ≡ es ++ e ∷ [] → (k : List Symbol) (vs : Values) → run m (drop place ws) (left_of f (length es) ++ k) (Several (trees_in es) ∷ vs) ≡ run m (drop end ws) (left_of f (length items) ++ k) (Several (trees_in items) ∷ vs)
+next_of_function m ws place behind end i f wants e es items same count more at next is k vs =
+    let one_more : suc (length es) ≡ length items = omega (arith, ap length is, length-append es (e ∷ [])) in
+    comma_wanted m ws place behind i f wants es k (Several (trees_in es) ∷ vs) same count more at
+    ∙ next (Do Collect ∷ (left_of f (suc (length es)) ++ k)) (Several (trees_in es) ∷ vs)
+    ∙ collected m (drop end ws) (left_of f (suc (length es)) ++ k) es items e vs is
+    ∙ ap (λ j. run m (drop end ws) (left_of f j ++ k) (Several (trees_in items) ∷ vs)) one_more

@@ -14,7 +14,8 @@ ghost use Rattle.basic_tree.specs.declared.tokens.Sign.TheVariants.{Opening};
 
 use crate::failures::{Failure, Found};
 use crate::signs::{
-    Prefix, expect, is_same_sign, next_is_sign, next_operator, next_prefix, next_relation, next_sign, right_level,
+    Prefix, expect, is_same_sign, next_is_sign, next_operator, next_prefix, next_relation,
+    next_sign, right_level,
 };
 use crate::tables::{arguments_of, function_of, gives_text, side, takes, takes_relations, want_of};
 use crate::words::{Word, Words};

@@ -10,7 +10,9 @@ ghost use Rattle.basic_tree.specs.declared.kinds.Want.TheVariants.{Number};
 
 use crate::failures::Failure;
 use crate::keys::is_same_key;
-use crate::tables::{joins_texts, key_operator, level_of, sign_number, sign_operator, sign_relation};
+use crate::tables::{
+    joins_texts, key_operator, level_of, sign_number, sign_operator, sign_relation,
+};
 use crate::words::{Word, Words};
 use basic_tree::{Keyword, Operator, Relation, Sign};
 
@@ -125,7 +127,11 @@ pub(crate) fn next_operator(
         None => None,
         Some(word) => match operator_of(word) {
             None => None,
-            Some(operator) => if goes_on(operator, level, text) { Some(operator) } else { None },
+            Some(operator) => if goes_on(operator, level, text) {
+                Some(operator)
+            } else {
+                None
+            },
         },
     }
 }

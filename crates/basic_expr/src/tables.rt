@@ -166,11 +166,8 @@ pub(crate) fn arguments_of(function: Function) -> &'static [Want]
 {
     match function {
         Function::Err | Function::Erl | Function::Recount => &[],
-        Function::Len
-        | Function::Ascii
-        | Function::Val
-        | Function::CvtToNumber
-        | Function::Sys => &[Want::Text],
+        Function::Len | Function::Ascii | Function::Val | Function::CvtToNumber | Function::Sys =>
+            &[Want::Text],
         Function::Chr
         | Function::Space
         | Function::Num1
