@@ -1,3 +1,4 @@
+pub mod Failures
 pub mod Keys
 pub mod Reading
 pub mod Views

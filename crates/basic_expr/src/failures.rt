@@ -1,9 +1,10 @@
 //! What a reading call gives: a tree and the place behind it, or why there is none.
 
 ghost use Rattle.std.specs.Prelude.{◌≡◌};
+ghost use Rattle.basic_expr.specs.Failures.{IsNear, trouble_of};
 
-use basic_tree::Expr;
-use basic_values::NoMemory;
+use basic_tree::{Cause, Expr, Refusal};
+use basic_values::{NoMemory, Trouble};
 use std::alloc::{AllocError, AllocFailed};
 
 /// Why nothing was read. The place is that of a word, from 0.
@@ -14,6 +15,26 @@ pub enum Failure {
     Wrong { place: usize },
     /// This word opens a level of nesting too many.
     TooDeep { place: usize },
+}
+
+impl Failure {
+    /// The failure as a refusal with its cause.
+    pub fn trouble(self) -> Trouble<Refusal>
+        requires { IsNear self }
+        ensures { result ≡ trouble_of self }
+    {
+        match self {
+            Failure::NoMemory => Trouble::NoMemory,
+            Failure::Wrong { place } => Trouble::Refused(Refusal {
+                place: place as u16,
+                cause: Cause::Syntax,
+            }),
+            Failure::TooDeep { place } => Trouble::Refused(Refusal {
+                place: place as u16,
+                cause: Cause::TooDeep,
+            }),
+        }
+    }
 }
 
 impl From<AllocError> for Failure {

@@ -12,3 +12,6 @@ pub use expressions::{expression_at, subscripts_at, target_at};
 pub use failures::{Failure, Found};
 pub use signs::{next_is_key, next_is_sign};
 pub use words::{Word, Words};
+
+#[cfg(test)]
+mod tests;

@@ -1,7 +1,7 @@
 //! The words of a line, as the grammar sees them.
 
-ghost use Rattle.std.specs.Prelude.{◌≡◌, ◌≤◌, ◌<◌, ◌+◌, ◌∷◌, [], length, drop, MatchOption};
-ghost use Rattle.basic_expr.specs.Views.{as_word, IsShort, most_words};
+ghost use Rattle.std.specs.Prelude.{◌≡◌, ◌≤◌, ◌<◌, ◌+◌, ◌∷◌, [], length, drop, map, vec_len, MatchOption};
+ghost use Rattle.basic_expr.specs.Views.{as_word, AreShort, IsShort, most_words};
 
 use basic_tree::{Keyword, Name, Sign};
 use std::marker::Model;
@@ -41,6 +41,15 @@ impl<'a> Model for Words<'a> {
 }
 
 impl<'a> Words<'a> {
+    /// The words of this list.
+    pub fn of(words: Vec<Word<'a>>) -> Words<'a>
+        requires short { AreShort words.items }
+        requires few { vec_len words ≤ most_words }
+        ensures { result ≡ map as_word words.entry.items }
+    {
+        Words { words }
+    }
+
     /// How many there are.
     pub fn len(&self) -> usize
         ensures count { result ≡ length self.now }
