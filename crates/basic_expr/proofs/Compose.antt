@@ -29,7 +29,7 @@ use Rattle.basic_expr.specs.declared.signs.Prefix.{Prefix}
 use Rattle.basic_expr.specs.declared.signs.Prefix.TheVariants as prefix
 use Rattle.basic_expr.specs.declared.words.Word.{Word as CodeWord}
 use Rattle.basic_expr.specs.Views.{as_word}
-use Rattle.basic_expr.specs.Reading.{Ends, EndsFrom, First, IsChain, PrefixAt, ReadsAll, RefusesAll, RefusesSign, RelationAt, action_of, begins_atom, fits_function, function_expected, is_sign, prefixed, takes_relations, trees_in}
+use Rattle.basic_expr.specs.Reading.{First, IsChain, PrefixAt, ReadsAll, RefusesAll, RefusesSign, RelationAt, action_of, begins_atom, fits_function, function_expected, is_sign, prefixed, takes_relations, trees_in}
 
 -- ---- contracts
 
@@ -49,10 +49,6 @@ inside n ws ss v from m ss' v' from' (failure.TooDeep place) comes h = (h.0, λ 
 pub through : (n : ℕ) (ws : List Word) (ss : List Symbol) (v : Values) (from : ℕ) (ss' : List Symbol) (v' : Values) (from' : ℕ) (r : Result Found Failure) → Becomes n ws ss v from n ss' v' from' → ReadsAll n ws ss' v' from' r → ReadsAll n ws ss v from r
 through n ws ss v from ss' v' from' (Ok f) comes h = λ k vs. comes k vs ∙ h k vs
 through n ws ss v from ss' v' from' (Err e) comes h = inside n ws ss v from n ss' v' from' e (λ k vs. (k, vs, comes k vs)) h
-
-pub ends_from : (ws : List Word) (from : ℕ) (r : Result Found Failure) → EndsFrom ws (from + 1) r → Ends ws from r
-ends_from ws from (Ok f) h = (omega (arith, h.0), h.1, h.2)
-ends_from ws from (Err e) h = tt
 
 -- ---- levels
 

@@ -92,18 +92,7 @@ is_that_sign s (Number k) h = absurd cc
 is_that_sign s (Quotation k) h = absurd cc
 is_that_sign s (Item k) h = absurd cc
 
-pub expected : (n : ℕ) (ws : List Word) (s : Sign) (place : ℕ) (k : List Symbol) (vs : Values) → drop place ws ≡ Punctuation s ∷ drop (place + 1) ws → run n (drop place ws) (Expect s ∷ k) vs ≡ run n (drop (place + 1) ws) k vs
-unfolding run
-expected n ws sign.Plus place k vs at = rw at refl
-expected n ws s place k vs at = rw at refl
-
 -- ---- prefixes
-
--- a prefix stands first
-abbrev pub prefix_word : Prefix → Word
-prefix_word prefix.Minus = Punctuation sign.Minus
-prefix_word prefix.Plus = Punctuation sign.Plus
-prefix_word prefix.Not = Key keyword.Not
 
 pub minus_signed : (ws : List Word) (place : ℕ) → place < length ws → drop place ws ≡ Punctuation sign.Minus ∷ drop (place + 1) ws → PrefixAt takes_number (signed_level 2) (Level 2 want.Number) (signed_level 1) ws place (Some prefix.Minus)
 unfolding run

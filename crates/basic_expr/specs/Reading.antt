@@ -35,9 +35,13 @@ RefusesAll n ws ss v from failure.NoMemory = Unit {0}
 RefusesAll n ws ss v from (failure.Wrong place) = (place ≤ length ws) × ((k : List Symbol) (vs : Values) → run n (drop from ws) (ss ++ k) (v ++ vs) ≡ Err (Wrong (drop place ws)))
 RefusesAll n ws ss v from (failure.TooDeep place) = (place < length ws) × ((k : List Symbol) (vs : Values) → run n (drop from ws) (ss ++ k) (v ++ vs) ≡ Err (TooDeep (drop place ws)))
 
--- with these symbols and values on top, the words up to the end are taken, and the tree stands in the place of the values
+-- with these symbols and values on top, the words up to the end are taken, and this value stands in the place of the values
+abbrev pub TakesAll : ℕ → List Word → List Symbol → Values → ℕ → ℕ → Value → Type 0
+TakesAll n ws ss v from end made = (k : List Symbol) (vs : Values) → run n (drop from ws) (ss ++ k) (v ++ vs) ≡ run n (drop end ws) k (made ∷ vs)
+
+-- the same with the tree that was found
 abbrev pub ReadsAll : ℕ → List Word → List Symbol → Values → ℕ → Result Found Failure → Type 0
-ReadsAll n ws ss v from (Ok f) = (k : List Symbol) (vs : Values) → run n (drop from ws) (ss ++ k) (v ++ vs) ≡ run n (drop f.end ws) k (Term (tree_of f.tree) ∷ vs)
+ReadsAll n ws ss v from (Ok f) = TakesAll n ws ss v from f.end (Term (tree_of f.tree))
 ReadsAll n ws ss v from (Err e) = RefusesAll n ws ss v from e
 
 -- one symbol

@@ -75,7 +75,7 @@ pub fn next_is_key(words: &Words<'_>, place: usize, key: Keyword) -> bool
 }
 
 /// The place behind one sign.
-pub(crate) fn expect(words: &Words<'_>, place: usize, sign: Sign) -> Result<usize, Failure>
+pub fn expect(words: &Words<'_>, place: usize, sign: Sign) -> Result<usize, Failure>
     requires { place ≤ length words.now }
     ensures { ReadsSign words.now sign place result }
 {
