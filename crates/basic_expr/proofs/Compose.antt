@@ -1,5 +1,5 @@
 -- How the contracts of the parser's functions compose.
-use Rattle.std.proofs.Common.{◌==◌, ◌≡◌, ◌≢◌, ◌≤◌, ◌<◌, ◌+◌, ◌-◌, ℕ, zero, suc, Bool, true, false, not, nat_lt, cond, ◌&&◌, ◌||◌, List, [], ◌∷◌, ◌++◌, drop, length, Option, Some, None, Result, Ok, Err, refl, sym, ap, ◌∙◌, subst, arith, append_assoc, get_or, length-append}
+use Rattle.std.proofs.Common.{◌==◌, ◌≡◌, ◌≤◌, ◌<◌, ◌+◌, ◌-◌, ℕ, zero, suc, Bool, true, false, nat_lt, cond, ◌&&◌, List, [], ◌∷◌, ◌++◌, drop, length, Option, Some, None, Result, Ok, Err, refl, sym, ap, ◌∙◌, subst, arith, get_or, length-append}
 use Rattle.std.proofs.lemmas.Bool.{eqb-true}
 use Rattle.std.proofs.Common.{inl, inr, ◌⊎◌}
 use Rattle.basic_tree.specs.declared.names.Name.{Name}
@@ -17,8 +17,8 @@ use Rattle.basic_tree.specs.Trees.{Tree, Trees, FunctionOf, Literal, Quoted, Var
 use Rattle.basic_tree.specs.TreeViews.{tree_of}
 use Rattle.basic_tree.specs.GrammarTables.{arguments_of, gives_text}
 use Rattle.basic_tree.specs.GrammarWords.{function_of, is_same_sign}
-use Rattle.basic_tree.specs.GrammarStack.{Action, Arguments, Close, Collect, Do, Expect, Level, MakeCall, MakeComparison, MakeElement, MakeFunction, MakeParenthesized, More, MoreArguments, MoreRelations, Opening, SecondSubscript, Several, Subscripts, Symbol, Term, Value, Values, loosest, made, others, with_last}
-use Rattle.basic_tree.specs.GrammarStarts.{Start, Chain, Nots, Rank, Relations, Signs, arguments_expected, function_start, more_expected, rank_of, relations, side, takes}
+use Rattle.basic_tree.specs.GrammarStack.{Action, Arguments, Close, Collect, Do, Expect, Level, MakeCall, MakeComparison, MakeElement, MakeFunction, MakeParenthesized, More, MoreArguments, Opening, SecondSubscript, Several, Subscripts, Symbol, Term, Values, loosest, made, others, with_last}
+use Rattle.basic_tree.specs.GrammarStarts.{Start, Chain, arguments_expected, function_start, more_expected, rank_of, relations, side, takes}
 use Rattle.basic_tree.specs.GrammarMachine.{begun}
 use Rattle.basic_tree.specs.GrammarRun.{TooDeep, Wrong, moved, run, turn, turned}
 use Rattle.basic_tree.proofs.MachineSteps.{run_chain, run_relations, run_do, run_close}

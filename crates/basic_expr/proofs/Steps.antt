@@ -1,7 +1,6 @@
 -- Single steps of the machine, as the parser's functions take them.
-use Rattle.std.proofs.Common.{◌==◌, ◌≡◌, ◌≤◌, ◌<◌, ◌+◌, ◌-◌, ℕ, zero, suc, Bool, true, false, not, ◌&&◌, ◌||◌, List, [], ◌∷◌, ◌++◌, drop, length, Option, Some, None, Result, Ok, Err, refl, sym, ap, ◌∙◌, subst, arith, inl, inr, ◌⊎◌}
+use Rattle.std.proofs.Common.{◌≡◌, ◌<◌, ◌+◌, ℕ, zero, suc, Bool, true, false, ◌&&◌, List, [], ◌∷◌, drop, length, Option, Some, None, Err, refl, sym, ap, ◌∙◌}
 use Rattle.std.proofs.lemmas.Bool.{eqb-true}
-use Rattle.basic_tree.specs.declared.tokens.Keyword.{Keyword}
 use Rattle.basic_tree.specs.declared.tokens.Keyword.TheVariants as keyword
 use Rattle.basic_tree.specs.declared.tokens.Sign.{Sign}
 use Rattle.basic_tree.specs.declared.tokens.Sign.TheVariants as sign
@@ -10,20 +9,14 @@ use Rattle.basic_tree.specs.declared.expressions.Relation.{Relation}
 use Rattle.basic_tree.specs.declared.kinds.Want.{Want}
 use Rattle.basic_tree.specs.declared.kinds.Want.TheVariants as want
 use Rattle.basic_tree.specs.SpellingWords.{Word, Key, Punctuation, Named, FnNamed, Number, Quotation, Item}
-use Rattle.basic_tree.specs.SpellingExpressions.{is_text, want_of}
+use Rattle.basic_tree.specs.SpellingExpressions.{is_text}
 use Rattle.basic_tree.specs.Trees.{Tree}
-use Rattle.basic_tree.specs.TreeViews.{tree_of}
 use Rattle.basic_tree.specs.GrammarWords.{is_same_sign, operator_of, relation_of, sign_number}
-use Rattle.basic_tree.specs.GrammarStack.{Close, Do, Exponent, Expect, Level, MakeComparison, MakeOperation, More, MoreRelations, Symbol, Term, Values}
-use Rattle.basic_tree.specs.GrammarStarts.{takes}
-use Rattle.basic_tree.specs.GrammarMachine.{joined, more_of, related, right_of}
-use Rattle.basic_tree.specs.GrammarRun.{TooDeep, Wrong, moved, run, turn, turned}
-use Rattle.basic_expr.specs.declared.failures.Failure.{Failure}
-use Rattle.basic_expr.specs.declared.failures.Failure.TheVariants as failure
-use Rattle.basic_expr.specs.declared.failures.Found.{Found}
-use Rattle.basic_expr.specs.declared.signs.Prefix.{Prefix}
+use Rattle.basic_tree.specs.GrammarStack.{Exponent, Level, Symbol, Term, Values}
+use Rattle.basic_tree.specs.GrammarMachine.{related}
+use Rattle.basic_tree.specs.GrammarRun.{Wrong, moved, run, turn, turned}
 use Rattle.basic_expr.specs.declared.signs.Prefix.TheVariants as prefix
-use Rattle.basic_expr.specs.Reading.{First, OperatorAt, PrefixAt, ReadsAll, RefusesAll, RelationAt, action_of, always, exponents, goes_on, is_key, is_sign, number_atom, prefixed, signed_level, takes_number}
+use Rattle.basic_expr.specs.Reading.{First, OperatorAt, PrefixAt, RelationAt, always, exponents, goes_on, is_key, is_sign, number_atom, signed_level, takes_number}
 
 -- ---- operators
 

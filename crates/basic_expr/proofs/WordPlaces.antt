@@ -1,5 +1,5 @@
 -- The word at a place.
-use Rattle.std.proofs.Common.{◌≡◌, ◌≤◌, ◌<◌, ◌+◌, ◌-◌, ℕ, zero, suc, List, [], ◌∷◌, drop, map, length, get_or, refl, sym, subst, arith, add-one}
+use Rattle.std.proofs.Common.{◌≡◌, ◌<◌, ◌+◌, ℕ, zero, suc, List, [], ◌∷◌, drop, map, length, get_or, refl, sym, subst, arith, add-one}
 use Rattle.basic_expr.specs.declared.words.Word.{Word}
 use Rattle.basic_tree.specs.SpellingWords.{Word as GrammarWord}
 use Rattle.basic_expr.specs.Views.{AreShort, IsShort, as_word}

@@ -1,5 +1,5 @@
 -- What the functions of the parser give: symbols of the machine, whatever is expected behind them.
-use Rattle.std.specs.Prelude.{◌≡◌, ◌≢◌, nat_lt, ℕ, zero, suc, ◌+◌, ◌==◌, not, ◌||◌, ◌&&◌, Bool, true, false, ◌<◌, ◌≤◌, ◌⊎◌, List, [], ◌∷◌, ◌++◌, length, drop, Option, Some, None, Result, Ok, Err}
+use Rattle.std.specs.Prelude.{◌≡◌, ◌≢◌, nat_lt, ℕ, suc, ◌+◌, ◌==◌, not, ◌||◌, ◌&&◌, Bool, true, false, ◌<◌, ◌≤◌, ◌⊎◌, List, [], ◌∷◌, ◌++◌, length, drop, Option, Some, None, Result, Ok, Err}
 use Rattle.basic_expr.specs.declared.failures.Failure.{Failure}
 use Rattle.basic_expr.specs.declared.failures.Failure.TheVariants as failure
 use Rattle.basic_expr.specs.declared.failures.Found.{Found}
@@ -23,7 +23,7 @@ use Rattle.basic_tree.specs.TreeViews.{tree_of}
 use Rattle.basic_tree.specs.GrammarTables.{arguments_of, gives_text, joins_texts, operator_level}
 use Rattle.basic_tree.specs.GrammarWords.{function_of, is_same_sign}
 use Rattle.basic_tree.specs.GrammarStack.{Action, Close, Do, Exponent, Level, MakeComparison, MakeFunction, MakeNegative, MakeNot, MakeOperation, MakePositive, More, MoreRelations, SecondSubscript, Several, Subscripts, Symbol, Term, Value, Values}
-use Rattle.basic_tree.specs.GrammarStarts.{arguments_expected, more_expected, takes}
+use Rattle.basic_tree.specs.GrammarStarts.{arguments_expected, takes}
 use Rattle.basic_tree.specs.GrammarMachine.{right_of}
 use Rattle.basic_tree.specs.GrammarRun.{TooDeep, Wrong, run}
 

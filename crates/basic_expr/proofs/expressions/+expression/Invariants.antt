@@ -1,4 +1,4 @@
-use Rattle.std.proofs.Common.{◌≡◌, ◌≤◌, ◌<◌, ◌+◌, ◌*◌, ◌-◌, [], ◌∷◌, ◌++◌, length, drop}
+use Rattle.std.proofs.Common.{◌≤◌, ◌<◌, ◌+◌, ◌*◌, ◌-◌, [], ◌∷◌, ◌++◌, length, drop}
 use Rattle.basic_tree.specs.GrammarStack.{Arguments, Close, Do, Expect, Level, MakeCall, MakeFunction, More, MoreArguments, Several}
 use Rattle.basic_tree.specs.GrammarStarts.{more_expected, relations}
 use Rattle.basic_tree.specs.GrammarTables.{arguments_of}
