@@ -1,1 +1,4 @@
+pub mod Failures
+pub mod Parsing
+pub mod Reading
 pub mod Views

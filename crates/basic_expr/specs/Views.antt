@@ -1,5 +1,5 @@
 -- The words of the code as those of the grammar.
-use Rattle.std.specs.Prelude.{◌≤◌, List, length, map}
+use Rattle.std.specs.Prelude.{◌≤◌, ℕ, List, length, map}
 use Rattle.basic_tree.specs.SpellingWords as spelling
 use Rattle.basic_expr.specs.declared.words.Word.{Word}
 use Rattle.basic_expr.specs.declared.words.Word.TheVariants.{Key, Punctuation, Named, FnNamed, Number, Quotation, Item}
@@ -21,3 +21,7 @@ as_words words = map as_word words
 abbrev pub IsShort : Word → Type 0
 IsShort (Quotation bytes) = length bytes.now ≤ 255
 IsShort other = Unit {0}
+
+-- how many words a line may have
+abbrev pub most_words : ℕ
+most_words = 256

@@ -1,8 +1,18 @@
-//! The words of a line, as the grammar sees them.
+//! Expressions, read from the words of a line by recursive descent.
 #![tactic(auto)]
 
+mod expressions;
+mod failures;
+mod keys;
+mod parsing;
+mod signs;
+mod tables;
 mod words;
 
+pub use expressions::{expression_at, subscripts_at, target_at};
+pub use failures::{Failure, Found};
+pub use parsing::{MOST_LEVELS, parse_expr};
+pub use signs::{expect, next_is_key, next_is_sign};
 pub use words::{Word, Words};
 
 #[cfg(test)]

@@ -3,7 +3,7 @@
 ghost use Rattle.std.specs.Prelude.{◌≡◌, ◌+◌, ◌-◌, ◌<◌, ◌≤◌, ◌==◌, ◌∷◌, [], length, map, drop, take, slice_index, MatchOption, IfOk, OnOk};
 ghost use Rattle.basic_tree.specs.SpellingWords.{one_sign, name_of, key_or_item, sign_or_item, word_with, words_of};
 ghost use Rattle.basic_tree.specs.Tokens.{keyword_of, sign_of};
-ghost use Rattle.basic_expr.specs.Views.{as_word, IsShort};
+ghost use Rattle.basic_expr.specs.Views.{as_word, IsShort, most_words};
 
 use basic_scanner::{Token, Tokens, keyword_of, literal_value, sign_of};
 use basic_tree::{Keyword, Name, Sign, TokenKind};
@@ -39,11 +39,11 @@ impl<'a> Model for Words<'a> {
 
     ghost Value = { List spelling.Word };
 
-    ghost use Rattle.basic_expr.specs.Views.{as_words, IsShort};
+    ghost use Rattle.basic_expr.specs.Views.{as_words, IsShort, most_words};
 
     ghost view = { λ line. as_words line.words.items };
 
-    ghost invariant = { λ line. (vec_len line.words ≤ 256) × All IsShort line.words.items };
+    ghost invariant = { λ line. (vec_len line.words ≤ most_words) × All IsShort line.words.items };
 }
 
 /// The byte at a place, 0 past the end.
@@ -160,8 +160,8 @@ impl<'a> Words<'a> {
 
     /// How many there are.
     pub fn len(&self) -> usize
-        ensures value { result ≡ length self.now }
-        ensures few { result ≤ 256 }
+        ensures count { result ≡ length self.now }
+        ensures few { length self.now ≤ most_words }
     {
         self.words.len()
     }
@@ -169,7 +169,8 @@ impl<'a> Words<'a> {
     /// The one at a place, from 0; none at the end.
     pub fn peek(&self, place: usize) -> Option<Word<'a>>
         requires { place ≤ length self.now }
-        ensures { MatchOption result (drop place self.now ≡ []) (λ w. (place < length self.now) × (drop place self.now ≡ as_word w ∷ drop (place + 1) self.now) × IsShort w) }
+        ensures word { MatchOption result (drop place self.now ≡ []) (λ w. (place < length self.now) × (drop place self.now ≡ as_word w ∷ drop (place + 1) self.now) × IsShort w) }
+        ensures few { length self.now ≤ most_words }
     {
         self.words.get(place).copied()
     }

@@ -1,0 +1,15 @@
+-- What passes the test for a word is that word.
+use Rattle.std.proofs.Common.{◌≡◌, true, sym, ap}
+use Rattle.basic_tree.specs.declared.tokens.Keyword.{Keyword}
+use Rattle.basic_tree.specs.SpellingWords.{Word, Key, Punctuation, Named, FnNamed, Number, Quotation, Item}
+use Rattle.basic_tree.proofs.FormBack.{same_key}
+use Rattle.basic_expr.specs.Reading.{is_key}
+
+pub is_that_key : (k : Keyword) (t : Word) → is_key k t ≡ true → t ≡ Key k
+is_that_key k (Key j) h = ap Key (sym (same_key k j h))
+is_that_key k (Punctuation t) h = absurd cc
+is_that_key k (Named t) h = absurd cc
+is_that_key k (FnNamed t) h = absurd cc
+is_that_key k (Number t) h = absurd cc
+is_that_key k (Quotation t) h = absurd cc
+is_that_key k (Item t) h = absurd cc

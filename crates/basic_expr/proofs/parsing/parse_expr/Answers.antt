@@ -1,0 +1,18 @@
+-- The words are those of the tokens, and where the machine stops says the rest.
+use Rattle.std.proofs.Common.{length, ◌≤◌, arith}
+use Rattle.std.proofs.lemmas.List.{length-map}
+use Rattle.basic_tree.specs.SpellingWords.{word_of}
+use Rattle.basic_tree.specs.SpellingWords.{words_of}
+use Rattle.basic_tree.specs.TreeViews.{tree_of}
+use Rattle.basic_expr.proofs.Places.{parsed, refused}
+use Rattle.basic_expr.proofs.parsing.parse_expr.Goals as goal
+
+pub returns-in-Ok-expression_at : goal.returns-in-Ok-expression_at
+returns-in-Ok-expression_at c =
+    let e = c.in-Ok-expression_at.ensures.ends in
+    record { exact = rw (← c.in-Ok.ensures) (parsed c.args.want c.in-Ok.words c.args.from c.in-Ok-expression_at.found.end (tree_of c.in-Ok-expression_at.found.tree) (omega (arith, e.0)) e.1 c.in-Ok-expression_at.ensures.reads) }
+
+pub returns : goal.returns
+returns c =
+    let inside : c.args.from ≤ length c.in-Ok.words = rw (c.in-Ok.ensures, length-map c.args.tokens.now word_of) c.requires in
+    record { exact = rw (c.trouble.ensures, ← c.in-Ok.ensures) (refused c.args.want c.in-Ok.words c.args.from c.in-Err-expression_at.failure inside c.in-Err-expression_at.ensures.reads) }

@@ -1,0 +1,540 @@
+//! Expressions by recursive descent: one function for each sort of symbol of the grammar's machine.
+
+ghost use Rattle.std.specs.Prelude.{◌≡◌, ◌≤◌, ◌<◌, ◌+◌, ◌∷◌, [], length, drop, IfOk};
+ghost use Rattle.basic_expr.specs.Reading.{Ends, EndsFrom, IsChain, IsPrefixed, ReadsAll, ReadsAt, ReadsSecond, ReadsTarget, Stands, begins_atom, function_expected, prefixed, second_tree, trees_in};
+ghost use Rattle.basic_expr.specs.Views.{as_word, most_words};
+ghost use Rattle.basic_tree.specs.GrammarMachine.{right_of};
+ghost use Rattle.basic_tree.specs.GrammarStack.{Arguments, Exponent, Level, Several, Subscripts, loosest};
+ghost use Rattle.basic_tree.specs.GrammarStarts.{Chain, rank_of, takes};
+ghost use Rattle.basic_tree.specs.SpellingExpressions.{is_text};
+ghost use Rattle.basic_tree.specs.SpellingWords.{Punctuation};
+ghost use Rattle.basic_tree.specs.TreeViews.{tree_of};
+ghost use Rattle.basic_tree.specs.Trees.{AndTrees, Call, Comparison, Element, FunctionOf, NoTrees, Operation, Parenthesized};
+ghost use Rattle.basic_tree.specs.declared.tokens.Sign.TheVariants.{Opening};
+
+use crate::failures::{Failure, Found};
+use crate::signs::{
+    Prefix, expect, is_same_sign, next_is_sign, next_operator, next_prefix, next_relation,
+    next_sign, right_level,
+};
+use crate::tables::{arguments_of, function_of, gives_text, side, takes, takes_relations, want_of};
+use crate::words::{Word, Words};
+use basic_tree::{Expr, Function, Name, Operator, Relation, Sign, Want};
+use basic_values::{NoMemory, Text, Trouble};
+use std::alloc::Global;
+
+/// The loosest level, that of a whole expression.
+const LOOSEST: usize = 11;
+
+// A tree from its parts
+
+fn quoted(alloc: Global, bytes: &[u8]) -> Result<Text, NoMemory>
+    requires { length bytes.now ≤ 255 }
+    ensures { IfOk result (λ text. text ≡ bytes.now) }
+{
+    match Text::of(alloc, bytes) {
+        Ok(text) => Ok(text),
+        Err(Trouble::Refused(_)) => unreachable!(),
+        Err(Trouble::NoMemory) => Err(NoMemory),
+    }
+}
+
+fn prefixed(alloc: Global, prefix: Prefix, operand: Expr) -> Result<Expr, NoMemory>
+    ensures { IfOk result (λ e. tree_of e ≡ prefixed prefix (tree_of operand)) }
+{
+    let operand = Box::new(alloc, operand)?;
+    Ok(match prefix {
+        Prefix::Minus => Expr::Negative(operand),
+        Prefix::Plus => Expr::Positive(operand),
+        Prefix::Not => Expr::Not(operand),
+    })
+}
+
+fn parenthesized(alloc: Global, inner: Expr) -> Result<Expr, NoMemory>
+    ensures { IfOk result (λ e. tree_of e ≡ Parenthesized (tree_of inner)) }
+{
+    Ok(Expr::Parenthesized(Box::new(alloc, inner)?))
+}
+
+fn operation(alloc: Global, left: Expr, operator: Operator, right: Expr) -> Result<Expr, NoMemory>
+    ensures { IfOk result (λ e. tree_of e ≡ Operation (tree_of left) operator (tree_of right)) }
+{
+    Ok(Expr::Operation {
+        left: Box::new(alloc, left)?,
+        operator,
+        right: Box::new(alloc, right)?,
+    })
+}
+
+fn comparison(alloc: Global, left: Expr, relation: Relation, right: Expr) -> Result<Expr, NoMemory>
+    ensures { IfOk result (λ e. tree_of e ≡ Comparison (tree_of left) relation (tree_of right)) }
+{
+    Ok(Expr::Relation {
+        left: Box::new(alloc, left)?,
+        relation,
+        right: Box::new(alloc, right)?,
+    })
+}
+
+fn element(alloc: Global, name: Name, first: Expr, second: Option<Expr>) -> Result<Expr, NoMemory>
+    ensures { IfOk result (λ e. tree_of e ≡ Element name (AndTrees (tree_of first) (second_tree second))) }
+{
+    let first = Box::new(alloc, first)?;
+    let second = match second {
+        None => None,
+        Some(second) => Some(Box::new(alloc, second)?),
+    };
+    Ok(Expr::Element {
+        name,
+        first,
+        second,
+    })
+}
+
+fn call(name: Name, arguments: Vec<Expr>) -> Expr
+    ensures { tree_of result ≡ Call name (trees_in arguments.items) }
+{
+    Expr::Call { name, arguments }
+}
+
+fn applied(function: Function, arguments: Vec<Expr>) -> Expr
+    ensures { tree_of result ≡ FunctionOf function (trees_in arguments.items) }
+{
+    Expr::Function {
+        function,
+        arguments,
+    }
+}
+
+// Levels
+
+/// An expression of a level, from 0 for an atom to 11 for a whole expression.
+#[cycle(expression)]
+fn parse_level(
+    alloc: Global,
+    words: &Words<'_>,
+    from: usize,
+    want: Want,
+    level: usize,
+    levels: usize,
+) -> Result<Found, Failure>
+    requires within { from ≤ length words.now }
+    requires level { level ≤ loosest }
+    ensures reads { ReadsAt levels words.now (Level level want) from result }
+    ensures ends { Ends words.now from result }
+{
+    match level {
+        0 => parse_atom(alloc, words, from, want, levels),
+        2 | 6 => parse_prefixed(alloc, words, from, want, level, levels),
+        5 => parse_relations(alloc, words, from, want, levels),
+        _ => parse_chain(alloc, words, from, want, level, levels),
+    }
+}
+
+/// Operands of a level with its operators between them, from left to right.
+#[cycle(expression)]
+fn parse_chain(
+    alloc: Global,
+    words: &Words<'_>,
+    from: usize,
+    want: Want,
+    level: usize,
+    levels: usize,
+) -> Result<Found, Failure>
+    requires within { from ≤ length words.now }
+    requires level { level ≤ loosest }
+    requires chain { IsChain level }
+    ensures reads { ReadsAt levels words.now (Level level want) from result }
+    ensures ends { Ends words.now from result }
+{
+    let mut left = parse_level(alloc, words, from, want, level - 1, levels)?;
+    'operands: while let Some(operator) = next_operator(words, left.end, level, left.text) {
+        let right = parse_right(alloc, words, left.end + 1, operator, left.text, levels)?;
+        left = Found {
+            tree: operation(alloc, left.tree, operator, right.tree)?,
+            text: left.text,
+            end: right.end,
+        };
+    }
+    Ok(left)
+}
+
+/// What stands behind an operator.
+#[cycle(expression)]
+fn parse_right(
+    alloc: Global,
+    words: &Words<'_>,
+    from: usize,
+    operator: Operator,
+    text: bool,
+    levels: usize,
+) -> Result<Found, Failure>
+    requires { from ≤ length words.now }
+    ensures reads { ReadsAt levels words.now (right_of operator text) from result }
+    ensures ends { Ends words.now from result }
+{
+    match right_level(operator) {
+        Some(level) => parse_level(alloc, words, from, want_of(text), level, levels),
+        None => parse_exponent(alloc, words, from, levels),
+    }
+}
+
+/// Signs and an atom, behind `^`.
+#[cycle(expression)]
+fn parse_exponent(
+    alloc: Global,
+    words: &Words<'_>,
+    from: usize,
+    levels: usize,
+) -> Result<Found, Failure>
+    requires { from ≤ length words.now }
+    ensures reads { ReadsAt levels words.now Exponent from result }
+    ensures ends { Ends words.now from result }
+{
+    match next_sign(words, from) {
+        None => parse_atom(alloc, words, from, Want::Number, levels),
+        Some(sign) => {
+            if levels == 0 {
+                return Err(Failure::TooDeep { place: from });
+            }
+            let operand = parse_exponent(alloc, words, from + 1, levels - 1)?;
+            Ok(Found {
+                tree: prefixed(alloc, sign, operand.tree)?,
+                text: false,
+                end: operand.end,
+            })
+        }
+    }
+}
+
+/// Signs before what is tighter, or NOT before what is tighter.
+#[cycle(expression)]
+fn parse_prefixed(
+    alloc: Global,
+    words: &Words<'_>,
+    from: usize,
+    want: Want,
+    level: usize,
+    levels: usize,
+) -> Result<Found, Failure>
+    requires within { from ≤ length words.now }
+    requires prefixed { IsPrefixed level }
+    ensures reads { ReadsAt levels words.now (Level level want) from result }
+    ensures ends { Ends words.now from result }
+{
+    match next_prefix(words, from, level) {
+        None => parse_level(alloc, words, from, want, level - 1, levels),
+        Some(prefix) => {
+            if !takes(want, false) {
+                return Err(Failure::Wrong { place: from });
+            }
+            if levels == 0 {
+                return Err(Failure::TooDeep { place: from });
+            }
+            let operand = parse_prefixed(alloc, words, from + 1, Want::Number, level, levels - 1)?;
+            Ok(Found {
+                tree: prefixed(alloc, prefix, operand.tree)?,
+                text: false,
+                end: operand.end,
+            })
+        }
+    }
+}
+
+/// Relations from left to right. The first side of one may be a text where the whole has to be a number.
+#[cycle(expression)]
+fn parse_relations(
+    alloc: Global,
+    words: &Words<'_>,
+    from: usize,
+    want: Want,
+    levels: usize,
+) -> Result<Found, Failure>
+    requires { from ≤ length words.now }
+    ensures reads { ReadsAt levels words.now (Level 5 want) from result }
+    ensures ends { Ends words.now from result }
+{
+    let mut left = parse_level(alloc, words, from, side(want), 4, levels)?;
+    if !takes_relations(want) {
+        return Ok(left);
+    }
+    'relations: while let Some(relation) = next_relation(words, left.end) {
+        let right = parse_level(alloc, words, left.end + 1, want_of(left.text), 4, levels)?;
+        left = Found {
+            tree: comparison(alloc, left.tree, relation, right.tree)?,
+            text: false,
+            end: right.end,
+        };
+    }
+    if left.text && matches!(want, Want::Number) {
+        return Err(Failure::Wrong { place: left.end });
+    }
+    Ok(left)
+}
+
+// Atoms
+
+/// Whether an atom of the wanted kind begins with a word.
+fn begins_atom(want: Want, word: Word<'_>) -> bool
+    ensures { result ≡ begins_atom want (as_word word.entry) }
+{
+    match word {
+        Word::Number(n) => takes(want, false) && n < 32768,
+        Word::Quotation(_) => takes(want, true),
+        Word::Named(name) | Word::FnNamed(name) => takes(want, name.text),
+        Word::Punctuation(sign) => is_same_sign(Sign::Opening, sign),
+        Word::Key(key) => match function_of(key) {
+            None => false,
+            Some(function) => takes(want, gives_text(function)),
+        },
+        Word::Item(_) => false,
+    }
+}
+
+/// A number, a text, a name and what belongs to it, or an expression in parentheses.
+#[cycle(expression)]
+fn parse_atom(
+    alloc: Global,
+    words: &Words<'_>,
+    from: usize,
+    want: Want,
+    levels: usize,
+) -> Result<Found, Failure>
+    requires { from ≤ length words.now }
+    ensures reads { ReadsAt levels words.now (Level 0 want) from result }
+    ensures ends { Ends words.now from result }
+{
+    let word = match words.peek(from) {
+        None => return Err(Failure::Wrong { place: from }),
+        Some(word) => word,
+    };
+    if !begins_atom(want, word) {
+        return Err(Failure::Wrong { place: from });
+    }
+    match word {
+        Word::Number(n) => Ok(Found {
+            tree: Expr::Literal(n),
+            text: false,
+            end: from + 1,
+        }),
+        Word::Quotation(bytes) => Ok(Found {
+            tree: Expr::Quoted(quoted(alloc, bytes)?),
+            text: true,
+            end: from + 1,
+        }),
+        Word::Named(name) => subscripts_at(alloc, words, from + 1, name, levels),
+        Word::FnNamed(name) => parse_call(alloc, words, from + 1, name, levels),
+        Word::Key(key) => match function_of(key) {
+            None => Err(Failure::Wrong { place: from }),
+            Some(function) => parse_function(alloc, words, from + 1, function, levels),
+        },
+        Word::Punctuation(_) => parse_parenthesized(alloc, words, from, want, levels),
+        Word::Item(_) => Err(Failure::Wrong { place: from }),
+    }
+}
+
+/// An expression in parentheses.
+#[cycle(expression)]
+fn parse_parenthesized(
+    alloc: Global,
+    words: &Words<'_>,
+    from: usize,
+    want: Want,
+    levels: usize,
+) -> Result<Found, Failure>
+    requires stands { Stands words.now (Punctuation Opening) from }
+    requires few { length words.now ≤ most_words }
+    ensures reads { ReadsAt levels words.now (Level 0 want) from result }
+    ensures ends { Ends words.now from result }
+{
+    if levels == 0 {
+        return Err(Failure::TooDeep { place: from });
+    }
+    let inner = parse_level(alloc, words, from + 1, want, LOOSEST, levels - 1)?;
+    let end = expect(words, inner.end, Sign::Closing)?;
+    Ok(Found {
+        tree: parenthesized(alloc, inner.tree)?,
+        text: inner.text,
+        end,
+    })
+}
+
+/// Behind the name of a variable or an array: its subscripts, or none.
+#[cycle(expression)]
+pub fn subscripts_at(
+    alloc: Global,
+    words: &Words<'_>,
+    from: usize,
+    name: Name,
+    levels: usize,
+) -> Result<Found, Failure>
+    requires { from ≤ length words.now }
+    ensures reads { ReadsAt levels words.now (Subscripts name) from result }
+    ensures ends { EndsFrom words.now from result }
+{
+    if !next_is_sign(words, from, Sign::Opening) {
+        return Ok(Found {
+            tree: Expr::Variable(name),
+            text: name.text,
+            end: from,
+        });
+    }
+    if levels == 0 {
+        return Err(Failure::TooDeep { place: from });
+    }
+    let first = parse_level(alloc, words, from + 1, Want::Number, LOOSEST, levels - 1)?;
+    let (second, behind) = second_subscript(alloc, words, first.end, levels - 1)?;
+    let end = expect(words, behind, Sign::Closing)?;
+    Ok(Found {
+        tree: element(alloc, name, first.tree, second)?,
+        text: name.text,
+        end,
+    })
+}
+
+/// A comma and a second subscript, or none.
+#[cycle(expression)]
+fn second_subscript(
+    alloc: Global,
+    words: &Words<'_>,
+    from: usize,
+    levels: usize,
+) -> Result<(Option<Expr>, usize), Failure>
+    requires { from ≤ length words.now }
+    ensures { ReadsSecond levels words.now from result }
+{
+    if !next_is_sign(words, from, Sign::Comma) {
+        return Ok((None, from));
+    }
+    let second = parse_level(alloc, words, from + 1, Want::Number, LOOSEST, levels)?;
+    Ok((Some(second.tree), second.end))
+}
+
+/// Behind the name of a function of the program: its arguments, or none.
+#[cycle(expression)]
+fn parse_call(
+    alloc: Global,
+    words: &Words<'_>,
+    from: usize,
+    name: Name,
+    levels: usize,
+) -> Result<Found, Failure>
+    requires { from ≤ length words.now }
+    ensures reads { ReadsAt levels words.now (Arguments name) from result }
+    ensures ends { EndsFrom words.now from result }
+{
+    let mut arguments = Vec::new(alloc);
+    if !next_is_sign(words, from, Sign::Opening) {
+        return Ok(Found {
+            tree: call(name, arguments),
+            text: name.text,
+            end: from,
+        });
+    }
+    if levels == 0 {
+        return Err(Failure::TooDeep { place: from });
+    }
+    let first = parse_level(alloc, words, from + 1, Want::Either, LOOSEST, levels - 1)?;
+    arguments.push(first.tree)?;
+    let mut place = first.end;
+    'arguments: while next_is_sign(words, place, Sign::Comma) {
+        let next = parse_level(alloc, words, place + 1, Want::Either, LOOSEST, levels - 1)?;
+        arguments.push(next.tree)?;
+        place = next.end;
+    }
+    let end = expect(words, place, Sign::Closing)?;
+    Ok(Found {
+        tree: call(name, arguments),
+        text: name.text,
+        end,
+    })
+}
+
+/// Behind the word of a function of the language: its arguments, as many as it has.
+#[cycle(expression)]
+fn parse_function(
+    alloc: Global,
+    words: &Words<'_>,
+    from: usize,
+    function: Function,
+    levels: usize,
+) -> Result<Found, Failure>
+    requires { from ≤ length words.now }
+    ensures reads { ReadsAll levels words.now (function_expected function) (Several NoTrees ∷ []) from result }
+    ensures ends { EndsFrom words.now from result }
+{
+    let wants = arguments_of(function);
+    let mut arguments = Vec::new(alloc);
+    if wants.is_empty() {
+        return Ok(Found {
+            tree: applied(function, arguments),
+            text: gives_text(function),
+            end: from,
+        });
+    }
+    if !next_is_sign(words, from, Sign::Opening) {
+        return Err(Failure::Wrong { place: from });
+    }
+    if levels == 0 {
+        return Err(Failure::TooDeep { place: from });
+    }
+    let first = parse_level(alloc, words, from + 1, wants[0], LOOSEST, levels - 1)?;
+    arguments.push(first.tree)?;
+    let mut place = first.end;
+    'arguments: while arguments.len() < wants.len() {
+        let behind = expect(words, place, Sign::Comma)?;
+        let want = wants[arguments.len()];
+        let next = parse_level(alloc, words, behind, want, LOOSEST, levels - 1)?;
+        arguments.push(next.tree)?;
+        place = next.end;
+    }
+    let end = expect(words, place, Sign::Closing)?;
+    Ok(Found {
+        tree: applied(function, arguments),
+        text: gives_text(function),
+        end,
+    })
+}
+
+// For the statements
+
+/// The longest expression of the wanted kind from a place on, with so many levels of nesting left.
+pub fn expression_at(
+    alloc: Global,
+    words: &Words<'_>,
+    from: usize,
+    want: Want,
+    levels: usize,
+) -> Result<Found, Failure>
+    requires { from ≤ length words.now }
+    ensures reads { ReadsAt levels words.now (Level loosest want) from result }
+    ensures ends { Ends words.now from result }
+{
+    parse_level(alloc, words, from, want, LOOSEST, levels)
+}
+
+/// A variable or an element of an array of the wanted kind.
+pub fn target_at(
+    alloc: Global,
+    words: &Words<'_>,
+    from: usize,
+    want: Want,
+    levels: usize,
+) -> Result<Found, Failure>
+    requires { from ≤ length words.now }
+    ensures reads { ReadsTarget levels words.now want from result }
+    ensures ends { Ends words.now from result }
+{
+    match words.peek(from) {
+        None => Err(Failure::Wrong { place: from }),
+        Some(word) => match word {
+            Word::Named(name) => {
+                if !takes(want, name.text) {
+                    return Err(Failure::Wrong { place: from });
+                }
+                subscripts_at(alloc, words, from + 1, name, levels)
+            }
+            _ => Err(Failure::Wrong { place: from }),
+        },
+    }
+}

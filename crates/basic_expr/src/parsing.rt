@@ -1,0 +1,39 @@
+//! Expressions from the tokens of a line.
+
+ghost use Rattle.std.specs.Prelude.{◌≤◌, length};
+ghost use Rattle.basic_tree.specs.SpellingWords.{words_of};
+ghost use Rattle.basic_expr.specs.Parsing.{ParsesExpr};
+
+use crate::expressions::expression_at;
+use crate::words::Words;
+use basic_scanner::Tokens;
+use basic_tree::{Expr, Refusal, Want};
+use basic_values::{NoMemory, Trouble};
+use std::alloc::Global;
+
+/// How many levels of nesting may be open in a line. Parentheses of every sort, signs and NOT each open one.
+pub const MOST_LEVELS: usize = 64;
+
+/// The longest expression of the wanted kind among the tokens from a place on, and the place behind it: with k the
+/// greatest place such that the tokens up to k begin some expression of that kind, they are one themselves, and none
+/// of them opens a level too many. Else the first token that is refused: as `Syntax` at k, as `TooDeep` at the token
+/// that opens level 65. Places are numbers of tokens, from 0; the end is the number of tokens.
+#[tactic(auto, using(crate::proofs::Places::parsed, crate::proofs::Places::refused, crate::proofs::Places::near))]
+pub fn parse_expr(
+    alloc: Global,
+    tokens: &Tokens<'_>,
+    from: u16,
+    want: Want,
+) -> Result<(Expr, u16), Trouble<Refusal>>
+    requires { from ≤ length tokens.now }
+    ensures exact { ParsesExpr want (words_of tokens.now) from result }
+{
+    let words = match Words::of(alloc, tokens) {
+        Ok(words) => words,
+        Err(NoMemory) => return Err(Trouble::NoMemory),
+    };
+    match expression_at(alloc, &words, from as usize, want, MOST_LEVELS) {
+        Ok(found) => Ok((found.tree, found.end as u16)),
+        Err(failure) => Err(failure.trouble()),
+    }
+}
