@@ -1,9 +1,10 @@
 -- The words are those of the tokens, and where the machine stops says the rest.
-use Rattle.std.proofs.Common.{length, ◌≤◌, arith}
+use Rattle.std.proofs.Common.{length, ◌≤◌, List, Err, subst, arith}
 use Rattle.std.proofs.lemmas.List.{length-map}
-use Rattle.basic_tree.specs.SpellingWords.{word_of}
-use Rattle.basic_tree.specs.SpellingWords.{words_of}
+use Rattle.basic_tree.specs.SpellingWords.{Word, word_of}
 use Rattle.basic_tree.specs.TreeViews.{tree_of}
+use Rattle.basic_expr.specs.Failures.{trouble_of}
+use Rattle.basic_expr.specs.Parsing.{ParsesExpr}
 use Rattle.basic_expr.proofs.Places.{parsed, refused}
 use Rattle.basic_expr.proofs.parsing.parse_expr.Goals as goal
 
@@ -15,4 +16,5 @@ returns-in-Ok-expression_at c =
 pub returns : goal.returns
 returns c =
     let inside : c.args.from ≤ length c.in-Ok.words = rw (c.in-Ok.ensures, length-map c.args.tokens.now word_of) c.requires in
-    record { exact = rw (c.trouble.ensures, ← c.in-Ok.ensures) (refused c.args.want c.in-Ok.words c.args.from c.in-Err-expression_at.failure inside c.in-Err-expression_at.ensures.reads) }
+    let failure = c.in-Err-expression_at.failure in
+    record { exact = rw c.trouble.ensures (subst (λ (ws : List Word). ParsesExpr c.args.want ws c.args.from (Err (trouble_of failure))) c.in-Ok.ensures (refused c.args.want c.in-Ok.words c.args.from failure inside c.in-Err-expression_at.ensures.reads)) }
