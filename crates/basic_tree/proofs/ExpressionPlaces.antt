@@ -1,9 +1,9 @@
 -- Where the machine stops behind a place, the words from there are an expression, begin one, or are refused.
-use Rattle.std.proofs.Common.{subst, ◌≡◌, ℕ, suc, ◌+◌, ◌-◌, ◌<◌, ◌≤◌, List, [], ◌∷◌, ◌++◌, length, drop, get_or, ◌⊎◌, inl, inr, Some, None, Ok, Err, refl, sym, ap, ◌∙◌, arith}
+use Rattle.std.proofs.Common.{subst, ◌≡◌, ℕ, suc, ◌+◌, ◌-◌, ◌<◌, ◌≤◌, List, [], ◌∷◌, ◌++◌, length, drop, get_or, Some, None, Ok, Err, refl, sym, ap, ◌∙◌, arith}
 use Rattle.std.proofs.lemmas.List.{append-nil}
 use Rattle.basic_tree.specs.declared.kinds.Want.{Want}
-use Rattle.basic_tree.specs.SpellingWords.{Word, Number, Step, Plain, Opens, words, most_levels, too_deep}
-use Rattle.basic_tree.specs.Trees.{Tree, Literal, Quoted, Variable, Element, FunctionOf, Call, Parenthesized, Negative, Positive, Not, Operation, Comparison}
+use Rattle.basic_tree.specs.SpellingWords.{Word, Number, Step, Opens, words, most_levels, too_deep}
+use Rattle.basic_tree.specs.Trees.{Tree}
 use Rattle.basic_tree.specs.SpellingExpressions.{steps_of, IsExpr}
 use Rattle.basic_tree.specs.GrammarPlaces.{IsFlatTo, between, Begins, IsLimit, IsRead, IsWrong, IsDeep}
 use Rattle.basic_tree.specs.GrammarStack.{Term, Values, top, Symbol, Level, loosest}
@@ -113,29 +113,3 @@ expression_deep w ws from k le lt h =
       within = lt;
       opens = (words f.rest, i.0, subst (λ (x : List Word). IsExpr w x i.0) split i.2, subst (λ (x : List Step). too_deep x ≡ Some (k - from)) i.1 (f.deep ∙ ap (λ (n : ℕ). Some n) (length-between ws from k le (omega (arith, lt)))));
     }
-
--- ---- the first word of a tree
-
--- it has one, and ends no level before it
-abbrev pub BeginsWithWord : List Step → Type 0
-BeginsWithWord steps = (w : Word) × (rest : List Step) × ((steps ≡ Plain w ∷ rest) ⊎ (steps ≡ Opens w ∷ rest))
-
-goes_before : (a b : List Step) → BeginsWithWord a → BeginsWithWord (a ++ b)
-goes_before a b h = elim h.2 [
-  | inl e ↦ (h.0, h.1 ++ b, inl (ap (λ x. x ++ b) e))
-  | inr e ↦ (h.0, h.1 ++ b, inr (ap (λ x. x ++ b) e))
-]
-
-pub begins : (t : Tree) → BeginsWithWord (steps_of t)
-begins (Literal n) = (_, _, inl refl)
-begins (Quoted text) = (_, _, inl refl)
-begins (Variable name) = (_, _, inl refl)
-begins (Element name ts) = (_, _, inl refl)
-begins (FunctionOf f ts) = (_, _, inl refl)
-begins (Call name ts) = (_, _, inl refl)
-begins (Parenthesized a) = (_, _, inr refl)
-begins (Negative a) = (_, _, inr refl)
-begins (Positive a) = (_, _, inr refl)
-begins (Not a) = (_, _, inr refl)
-begins (Operation a o b) = goes_before (steps_of a) _ (begins a)
-begins (Comparison a r b) = goes_before (steps_of a) _ (begins a)

@@ -1,5 +1,5 @@
 -- LET, DEF and OPEN: their words lead the machine from their form.
-use Rattle.std.proofs.Common.{subst, ◌≡◌, ◌+◌, ℕ, suc, ◌≤◌, Bool, true, false, List, [], ◌∷◌, ◌++◌, length, Option, Some, None, refl, sym, ap, append_assoc, arith}
+use Rattle.std.proofs.Common.{subst, ◌≡◌, ℕ, suc, ◌≤◌, Bool, true, false, List, [], ◌∷◌, ◌++◌, length, Option, Some, None, refl, sym, ap, append_assoc, arith}
 use Rattle.std.specs.Prelude.{nat_lt}
 use Rattle.basic_tree.specs.declared.names.Name.{Name}
 use Rattle.basic_tree.specs.declared.tokens.Keyword.TheVariants as keyword
@@ -18,7 +18,8 @@ use Rattle.basic_tree.specs.GrammarStack.{Value, Stated, TargetItem, NameItem, T
 use Rattle.basic_tree.specs.GrammarForms.{says, list_form, targets_in, names_in, targets_form, value_form, opens, options_form, file_form}
 use Rattle.basic_tree.proofs.FormReads.{Reads, stopping, absent}
 use Rattle.basic_tree.proofs.FormParts.{read_made, read_holds, read_key, read_sign, read_if_key, read_if_sign, read_not_key, read_not_sign, read_if_opening, read_closing, read_expr, read_target, read_fn_name}
-use Rattle.basic_tree.proofs.FormLists.{HasRoom, are_split, fits_behind, read_more, read_list, targets_back, names_back, one_target, one_name}
+use Rattle.basic_tree.proofs.PieceLists.{pieces_split}
+use Rattle.basic_tree.proofs.FormLists.{HasRoom, fits_behind, read_more, read_list, targets_back, names_back, one_target, one_name}
 use Rattle.basic_tree.proofs.FormSimple.{Begun, begun_as}
 use Rattle.basic_tree.proofs.FormStatements.{made_of}
 
@@ -31,7 +32,7 @@ other_want a = record { bound = a.bound; by = a.by }
 read_targets : {e : Bool} (word : Bool) (t : Tree) (ts : List Tree) (v : Tree) → ArePieces (many (λ x. target (want_of (is_text t)) x) (t ∷ ts) ++ value (is_text t) v) → Reads e false (targets_form word) (many (λ x. target (want_of (is_text t)) x) (t ∷ ts) ++ value (is_text t) v) (Stated (Let word (t ∷ ts) v))
 read_targets word t ts v a =
     let w : Want = want_of (is_text t) in
-    let parts : ArePieces (after_commas (λ x. target w x) ts) × ArePieces (value (is_text t) v) = are_split (after_commas (λ x. target w x) ts) (value (is_text t) v) a.1.1 in
+    let parts : ArePieces (after_commas (λ x. target w x) ts) × ArePieces (value (is_text t) v) = pieces_split (after_commas (λ x. target w x) ts) (value (is_text t) v) a.1.1 in
     other_want (read_target {w = want.Either} a.0 (a.1.0.0, tt) (fits_behind (λ x. target w x) (λ ps. absent (Punctuation sign.Opening) ps) (λ ps. refl) ts (value (is_text t) v) refl) a.1.1
     (read_more (Targets w) (λ x. target w x) TargetItem (λ ps. absent (Punctuation sign.Opening) ps) (suc (length ts)) (one_target w) (λ ps. refl) (λ items b. refl) ts (TargetItem t ∷ []) (λ items. TakeSign false sign.Equal (ExprOf w (λ x. says (Let word (targets_in items) x)))) (value (is_text t) v) (omega arith) parts.0 parts.1 refl refl
     (read_sign (read_expr parts.1.1.0 refl (made_of (λ x. Let word x v) _ _ (ap (λ x. t ∷ x) (targets_back ts)))))))
@@ -66,7 +67,7 @@ begun_def f (n ∷ ns) v a =
     let rest : List Piece = optional (λ t. value f.text t) v in
     let ends : List Piece = sign_of sign.Closing ∷ closing ∷ [] in
     let same : (many name (n ∷ ns) ++ ends) ++ rest ≡ many name (n ∷ ns) ++ (ends ++ rest) = append_assoc (many name (n ∷ ns)) ends rest in
-    let parts : ArePieces (many name (n ∷ ns)) × ArePieces (ends ++ rest) = are_split (many name (n ∷ ns)) (ends ++ rest) (subst ArePieces same a.1.1.1.1) in
+    let parts : ArePieces (many name (n ∷ ns)) × ArePieces (ends ++ rest) = pieces_split (many name (n ∷ ns)) (ends ++ rest) (subst ArePieces same a.1.1.1.1) in
     begun_as (Def f (n ∷ ns) v) (Key keyword.Def) refl refl (refl, refl)
     (read_key (read_fn_name (read_holds (read_if_opening (subst (λ x. Reads true true (list_form Parameters (λ items. TakeClosing (value_form f (names_in items)))) x (Stated (Def f (n ∷ ns) v))) (sym same)
     (read_list Parameters name NameItem (λ ps. true) 5 one_name (λ ps. refl) room_of (n ∷ ns) (λ items. TakeClosing (value_form f (names_in items))) (ends ++ rest) (at_most (length (n ∷ ns)) a.1.1.0) parts.0 parts.1 refl refl

@@ -1,32 +1,28 @@
 -- What a form's move took, the form reads.
-use Rattle.std.proofs.Common.{subst, ◌&&◌, ◌==◌, ◌≡◌, ℕ, zero, suc, ◌≤◌, Bool, true, false, cond, List, [], ◌∷◌, ◌++◌, Option, Some, None, inl, inr, refl, sym, ap, ◌∙◌, append_assoc, arith}
+use Rattle.std.proofs.Common.{subst, ◌≡◌, ℕ, zero, suc, Bool, true, false, cond, List, [], ◌∷◌, ◌++◌, Option, Some, None, inl, inr, refl, sym, ap, ◌∙◌, append_assoc, arith}
 use Rattle.std.proofs.lemmas.Bool.{eqb-true}
-use Rattle.std.proofs.lemmas.List.{append-nil}
 use Rattle.basic_tree.specs.declared.names.Name.{Name}
 use Rattle.basic_tree.specs.declared.tokens.Keyword.{Keyword}
 use Rattle.basic_tree.specs.declared.tokens.Keyword.TheVariants as keyword
 use Rattle.basic_tree.specs.declared.tokens.Sign.{Sign}
-use Rattle.basic_tree.specs.declared.tokens.Sign.TheVariants as sign
 use Rattle.basic_tree.specs.declared.kinds.Want.{Want}
 use Rattle.basic_tree.specs.declared.kinds.Want.TheVariants as want
-use Rattle.basic_tree.specs.declared.parts.Separator.TheVariants as separator
-use Rattle.basic_tree.specs.SpellingWords.{Word, Key, Punctuation, Named, FnNamed, Number, Quotation, Step, Plain, Opens, Closes, words}
+use Rattle.basic_tree.specs.SpellingWords.{Word, Key, Punctuation, Named, FnNamed, Number, Quotation, Step, Plain, words}
 use Rattle.basic_tree.specs.SpellingWords.{Item as ItemOf}
-use Rattle.basic_tree.specs.Trees.{Tree, Literal, Quoted, Variable, Element, FunctionOf, Call, Parenthesized, Negative, Positive, Not, Operation, Comparison, PrintedTree, Value as ValueOf, Tab, PrintItemTree, PrintChannelTree, ClauseTree, LineClause, StatementClause, StatementTree, Print}
+use Rattle.basic_tree.specs.Trees.{Tree, Literal, Quoted, Variable, Element, FunctionOf, Call, Parenthesized, Negative, Positive, Not, Operation, Comparison}
 use Rattle.basic_tree.specs.SpellingExpressions.{mark, steps_of, is_text, Fits, level_of, IsTree}
-use Rattle.basic_tree.specs.SpellingPieces.{pieces_steps, ArePieces, is_target, each}
-use Rattle.basic_tree.specs.SpellingParts.{printed, print_item, first_word}
+use Rattle.basic_tree.specs.SpellingPieces.{is_target}
+use Rattle.basic_tree.specs.SpellingParts.{first_word}
 use Rattle.basic_tree.specs.declared.expressions.Operator.{Operator}
 use Rattle.basic_tree.specs.declared.expressions.Operator.TheVariants as operator
 use Rattle.basic_tree.specs.GrammarTables.{operator_level, operator_word, relation_sign}
 use Rattle.basic_tree.specs.GrammarWords.{is_same_sign, keyword_number, is_same_keyword}
-use Rattle.basic_tree.specs.GrammarStack.{Value, Term, Stated, Values, Item, TargetItem, ShapeItem, FileItem, NameItem, LineItem, ChannelItem, FieldItem, Sequence, Targets, Shapes, FileShapes, Parameters, Lines, Channels, FieldParts, Limit, within, Form, Made, TakeKey, TakeSign, TakeClosing, IfKey, IfSign, ExprOf, ExprIf, TargetOf, NameIn, FnNameIn, LiteralIn, LiteralIf, QuotedIf, ItemIn, MoreItems, MoreOf, MorePrinted, ClauseIn, Symbol, Level, Close, Subscripts, Go, Await, loosest}
-use Rattle.basic_tree.specs.GrammarForms.{begins_value, has_room, item_form, shape_form, size_form, printed_form}
+use Rattle.basic_tree.specs.GrammarStack.{Value, Values, Limit, within, Form, ExprOf, ExprIf, TargetOf, NameIn, FnNameIn, Symbol, Subscripts, Go, Await, loosest}
 use Rattle.basic_tree.specs.GrammarStarts.{Start, takes, start}
-use Rattle.basic_tree.specs.GrammarMachine.{Move, Takes, Skips, Refuses, begun, then_also, take_key, take_sign, expression, expression_if, target, name_in, fn_name_in, literal_in, quoted_if, item_in, more_of_list, tab_form, more_printed, form_move_with}
+use Rattle.basic_tree.specs.GrammarMachine.{Move, Takes, Skips, Refuses, begun, then_also, take_key, take_sign, expression, expression_if, target, name_in, fn_name_in, literal_in, quoted_if, item_in}
 use Rattle.basic_tree.specs.GrammarMachine.{Closes as Ends}
-use Rattle.basic_tree.proofs.MachineReads.{taken, item_pieces, Belongs, AreItems, items_steps, data_steps, passes_first, print_pieces, Reads}
-use Rattle.basic_tree.proofs.MachineSpelled.{Led, Spelled}
+use Rattle.basic_tree.proofs.MachineReads.{taken, passes_first, Reads}
+use Rattle.basic_tree.proofs.MachineSpelled.{Spelled}
 use Rattle.basic_tree.proofs.MachineBack.{TakesBack, StartBack, start_back, MoveBack, same_sign}
 
 -- ---- keywords by number
@@ -155,7 +151,7 @@ operator_is_no_atom operator.Power e = omega (arith, e)
 operator_is_no_atom o e = omega (arith, e)
 
 -- an atom that begins with a name is a target
-led_target : (name : Name) (g : List Step) (t : Tree) → steps_of t ≡ Plain (Named name) ∷ g → level_of t ≡ 0 → is_target t ≡ true
+pub led_target : (name : Name) (g : List Step) (t : Tree) → steps_of t ≡ Plain (Named name) ∷ g → level_of t ≡ 0 → is_target t ≡ true
 led_target name g (Variable n) e l = refl
 led_target name g (Element n ts) e l = refl
 led_target name g (Literal n) e l = absurd cc
@@ -173,9 +169,14 @@ pub target_back : (w : Want) (g : Tree → Form) (vs : Values) (o : Option Word)
 target_back w g vs (Some (Named name)) = go (takes w name.text) refl where
   go : (b : Bool) → takes w name.text ≡ b → MoveBack (Go (TargetOf w g)) vs (Some (Named name)) (cond b (Takes false vs (Subscripts name ∷ Await g ∷ [])) Refuses)
   go true e = λ k q u h.
-      let y = h.5 in
-      (steps_of h.0 ++ y.0, y.1, y.2, ap (λ x. Plain (Named name) ∷ x) (h.3 ∙ ap (λ x. h.1 ++ x) y.3 ∙ sym (append_assoc h.1 y.0 y.2)) ∙ ap (λ x. (x ++ y.0) ++ y.2) (sym h.4.spelled),
-       (h.0, y.0, refl, h.4.tree, takes_fits w name.text h.0 h.4.kind e, led_target name h.1 h.0 h.4.spelled h.4.level, y.4), y.5)
+      let y = h.5 in (
+        steps_of h.0 ++ y.0,
+        y.1,
+        y.2,
+        ap (λ x. Plain (Named name) ∷ x) (h.3 ∙ ap (λ x. h.1 ++ x) y.3 ∙ sym (append_assoc h.1 y.0 y.2)) ∙ ap (λ x. (x ++ y.0) ++ y.2) (sym h.4.spelled),
+        (h.0, y.0, refl, h.4.tree, takes_fits w name.text h.0 h.4.kind e, led_target name h.1 h.0 h.4.spelled h.4.level, y.4),
+        y.5,
+      )
   go false e = tt
 target_back w g vs (Some t) = tt
 target_back w g vs None = tt

@@ -3,7 +3,7 @@ use Rattle.std.proofs.Common.{subst, ◌≡◌, ◌+◌, ◌&&◌, not, ℕ, Boo
 use Rattle.basic_tree.specs.declared.tokens.Keyword.TheVariants as keyword
 use Rattle.basic_tree.specs.declared.tokens.Sign.TheVariants as sign
 use Rattle.basic_tree.specs.declared.kinds.Want.TheVariants as want
-use Rattle.basic_tree.specs.SpellingWords.{Word, Key, Punctuation, Number, Step, Plain, Opens, Closes, words}
+use Rattle.basic_tree.specs.SpellingWords.{Word, Key, Punctuation, Step, Plain, Opens, Closes, words}
 use Rattle.basic_tree.specs.Trees.{Tree, Literal, Quoted, Variable, Element, FunctionOf, Call, Parenthesized, Negative, Positive, Not, Operation, Comparison, NoTrees, AndTrees, ChainLineTree, Chain}
 use Rattle.basic_tree.specs.SpellingExpressions.{steps_of}
 use Rattle.basic_tree.specs.SpellingPieces.{Piece, Expression, Holds, IsPiece, ArePieces, pieces_steps, number}

@@ -12,18 +12,9 @@ use Rattle.basic_tree.specs.SpellingPieces.{Piece, ArePieces, sign_of, line, tar
 use Rattle.basic_tree.specs.SpellingParts.{shape, file_shape, element_size, name, close_channel, field_part}
 use Rattle.basic_tree.specs.GrammarStack.{Value, Item, TargetItem, ShapeItem, FileItem, NameItem, LineItem, ChannelItem, FieldItem, Sequence, Targets, Shapes, FileShapes, Parameters, Lines, Channels, FieldParts, Form, MoreOf}
 use Rattle.basic_tree.specs.GrammarForms.{item_form, shape_form, size_form, has_room, list_form, targets_in, shapes_in, files_in, names_in, lines_in, channels_in, parts_in}
+use Rattle.basic_tree.proofs.PieceLists.{pieces_append, pieces_split}
 use Rattle.basic_tree.proofs.FormReads.{Reads, stopping, absent}
 use Rattle.basic_tree.proofs.FormParts.{read_holds, read_key, read_if_sign, read_not_sign, read_opening, read_closing, read_expr, read_target, read_name, read_literal, read_one_more, read_no_more}
-
--- ---- pieces of two parts
-
-pub are_both : (a b : List Piece) → ArePieces a → ArePieces b → ArePieces (a ++ b)
-are_both [] b h i = i
-are_both (p ∷ a) b h i = (h.0, are_both a b h.1 i)
-
-pub are_split : (a b : List Piece) → ArePieces (a ++ b) → ArePieces a × ArePieces b
-are_split [] b h = (tt, h)
-are_split (p ∷ a) b h = let s = are_split a b h.1 in ((h.0, s.0), s.1)
 
 -- ---- any list
 
@@ -49,20 +40,20 @@ fits_behind pieces fit c (a ∷ more) ps h = c _
 pub read_more : {A : Type 0} {e d : Bool} {v : Value} (s : Sequence) (pieces : A → List Piece) (item : A → Item) (fit : List Piece → Bool) (limit : ℕ) → ReadsOne e d v s pieces item fit → CommaFits fit → HasRoom s limit → (more : List A) (items : List Item) (g : List Item → Form) (ps : List Piece) → length items + length more ≤ limit → ArePieces (after_commas pieces more) → ArePieces ps → fit ps ≡ true → absent (Punctuation sign.Comma) ps ≡ true → Reads e d (g (items ++ each_item item more)) ps v → Reads e d (MoreOf s items g) (after_commas pieces more ++ ps) v
 read_more {e = e} {d = d} {v = v} s pieces item fit limit one c room [] items g ps b a q f n h = read_no_more n q (subst (λ x. Reads e d (g x) ps v) (append-nil items) h)
 read_more {e = e} {d = d} {v = v} s pieces item fit limit one c room (x ∷ more) items g ps b a q f n h =
-    let parts : ArePieces (pieces x) × ArePieces (after_commas pieces more) = are_split (pieces x) (after_commas pieces more) a.1 in
+    let parts : ArePieces (pieces x) × ArePieces (after_commas pieces more) = pieces_split (pieces x) (after_commas pieces more) a.1 in
     let counted : length (items ++ item x ∷ []) + length more ≤ limit = rw length-append (omega (arith, b)) in
     let others : Reads e d (g ((items ++ item x ∷ []) ++ each_item item more)) ps v = subst (λ y. Reads e d (g y) ps v) (sym (append_assoc items (item x ∷ []) (each_item item more))) h in
     read_one_more (room items (omega (arith, b)))
     (subst (λ y. Reads e d (item_form s (λ i. MoreOf s (items ++ i ∷ []) g)) y v) (sym (append_assoc (pieces x) (after_commas pieces more) ps))
-    (one x (λ i. MoreOf s (items ++ i ∷ []) g) (after_commas pieces more ++ ps) parts.0 (are_both (after_commas pieces more) ps parts.1 q) (fits_behind pieces fit c more ps f)
+    (one x (λ i. MoreOf s (items ++ i ∷ []) g) (after_commas pieces more ++ ps) parts.0 (pieces_append (after_commas pieces more) ps parts.1 q) (fits_behind pieces fit c more ps f)
     (read_more s pieces item fit limit one c room more (items ++ item x ∷ []) g ps counted parts.1 q f n others)))
 
 pub read_list : {A : Type 0} {e d : Bool} {v : Value} (s : Sequence) (pieces : A → List Piece) (item : A → Item) (fit : List Piece → Bool) (limit : ℕ) → ReadsOne e d v s pieces item fit → CommaFits fit → HasRoom s limit → (list : List A) (g : List Item → Form) (ps : List Piece) → length list ≤ limit → ArePieces (many pieces list) → ArePieces ps → fit ps ≡ true → absent (Punctuation sign.Comma) ps ≡ true → Reads e d (g (each_item item list)) ps v → Reads e d (list_form s g) (many pieces list ++ ps) v
 read_list s pieces item fit limit one c room [] g ps b a q f n h = absurd cc
 read_list {e = e} {d = d} {v = v} s pieces item fit limit one c room (x ∷ more) g ps b a q f n h =
-    let parts : ArePieces (pieces x) × ArePieces (after_commas pieces more) = are_split (pieces x) (after_commas pieces more) a in
+    let parts : ArePieces (pieces x) × ArePieces (after_commas pieces more) = pieces_split (pieces x) (after_commas pieces more) a in
     subst (λ y. Reads e d (item_form s (λ i. MoreOf s (i ∷ []) g)) y v) (sym (append_assoc (pieces x) (after_commas pieces more) ps))
-    (one x (λ i. MoreOf s (i ∷ []) g) (after_commas pieces more ++ ps) parts.0 (are_both (after_commas pieces more) ps parts.1 q) (fits_behind pieces fit c more ps f)
+    (one x (λ i. MoreOf s (i ∷ []) g) (after_commas pieces more ++ ps) parts.0 (pieces_append (after_commas pieces more) ps parts.1 q) (fits_behind pieces fit c more ps f)
     (read_more s pieces item fit limit one c room more (item x ∷ []) g ps (omega (arith, b)) parts.1 q f n h))
 
 -- a list at the end of a statement
@@ -138,7 +129,7 @@ read_size n false e (Some x) g ps a q f r = absurd cc
 pub one_file : {e : Bool} {v : Value} → ReadsOne e false v FileShapes file_shape FileItem (λ ps. absent (Punctuation sign.Equal) ps)
 one_file {e = e} {v = v} s h ps a q f r =
     let sizes : List Piece = optional (λ x. element_size s.shape.name x) s.size in
-    let parts : ArePieces (shape s.shape) × ArePieces sizes = are_split (shape s.shape) sizes a in
+    let parts : ArePieces (shape s.shape) × ArePieces sizes = pieces_split (shape s.shape) sizes a in
     subst (λ y. Reads e false (item_form FileShapes h) y v) (sym (append_assoc (shape s.shape) sizes ps))
-    (read_shape s.shape.name s.shape.first s.shape.second (λ x. size_form x.name.text (λ size. h (FileItem (record { shape = x; size = size })))) (sizes ++ ps) parts.0 (are_both sizes ps parts.1 q)
+    (read_shape s.shape.name s.shape.first s.shape.second (λ x. size_form x.name.text (λ size. h (FileItem (record { shape = x; size = size })))) (sizes ++ ps) parts.0 (pieces_append sizes ps parts.1 q)
     (read_size s.shape.name s.shape.name.text refl s.size (λ size. h (FileItem (record { shape = s.shape; size = size }))) ps parts.1 q f r))

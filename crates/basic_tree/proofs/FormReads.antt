@@ -1,5 +1,5 @@
 -- Pieces that a form reads, and what may stand behind them.
-use Rattle.std.proofs.Common.{subst, ◌≡◌, ◌+◌, ℕ, suc, ◌≤◌, not, Bool, true, false, List, [], ◌∷◌, ◌++◌, None, refl, sym, ap}
+use Rattle.std.proofs.Common.{subst, ◌≡◌, ℕ, suc, ◌≤◌, not, Bool, true, false, List, [], ◌∷◌, ◌++◌, None, refl, sym, ap}
 use Rattle.basic_tree.specs.declared.tokens.Keyword.{Keyword}
 use Rattle.basic_tree.specs.declared.tokens.Keyword.TheVariants as keyword
 use Rattle.basic_tree.specs.declared.tokens.Sign.{Sign}

@@ -1,5 +1,5 @@
 -- The statements with lists: their words lead the machine from their form.
-use Rattle.std.proofs.Common.{subst, ◌≡◌, ◌+◌, ℕ, Bool, true, false, List, [], ◌∷◌, ◌++◌, Option, Some, None, refl, sym, append_assoc}
+use Rattle.std.proofs.Common.{subst, ◌≡◌, ℕ, Bool, true, false, List, [], ◌∷◌, ◌++◌, Option, Some, None, refl, sym, append_assoc}
 use Rattle.std.proofs.lemmas.List.{append-nil}
 use Rattle.basic_tree.specs.declared.names.Name.{Name}
 use Rattle.basic_tree.specs.declared.tokens.Keyword.TheVariants as keyword
@@ -13,7 +13,7 @@ use Rattle.basic_tree.specs.SpellingWords.{Key, Punctuation, Plain}
 use Rattle.basic_tree.specs.SpellingWords.{Item as ItemOf}
 use Rattle.basic_tree.specs.Trees.{Tree, PrintedTree, Tab, PrintItemTree, PrintChannelTree, PromptTree, CloseChannelTree, FieldPartTree, StatementTree, Data, Dim, DimFile, Print, Input, InputLine, Read, OnGoto, OnGosub, Close, Field}
 use Rattle.basic_tree.specs.Trees.{Value as ValueOf}
-use Rattle.basic_tree.specs.SpellingPieces.{Piece, Fixed, ArePieces, number, line, target, optional, each, many}
+use Rattle.basic_tree.specs.SpellingPieces.{Piece, Fixed, ArePieces, line, target, optional, each, many}
 use Rattle.basic_tree.specs.SpellingParts.{shape, file_shape, printed, print_item, close_channel, field_part}
 use Rattle.basic_tree.specs.SpellingStatements.{pieces_of}
 use Rattle.basic_tree.specs.GrammarStack.{Value, Stated, TargetItem, ShapeItem, FileItem, LineItem, ChannelItem, FieldItem, Targets, Shapes, FileShapes, Lines, Channels, FieldParts, MoreItems, MorePrinted}
@@ -21,7 +21,8 @@ use Rattle.basic_tree.specs.GrammarForms.{says, targets_in, shapes_in, files_in,
 use Rattle.basic_tree.specs.GrammarSentences.{input_targets}
 use Rattle.basic_tree.proofs.FormReads.{Reads, stopping, absent}
 use Rattle.basic_tree.proofs.FormParts.{read_made, read_holds, read_key, read_sign, read_if_key, read_if_sign, read_not_key, read_not_sign, read_opening, read_closing, read_expr, read_name, read_literal, read_quoted, read_unquoted, read_item, read_item_added, read_no_items, read_tab, read_value, read_nothing}
-use Rattle.basic_tree.proofs.FormLists.{are_split, read_last_list, targets_back, shapes_back, files_back, lines_back, channels_back, parts_back, one_target, one_shape, one_line, one_channel, one_field, one_file}
+use Rattle.basic_tree.proofs.PieceLists.{pieces_split}
+use Rattle.basic_tree.proofs.FormLists.{read_last_list, targets_back, shapes_back, files_back, lines_back, channels_back, parts_back, one_target, one_shape, one_line, one_channel, one_field, one_file}
 use Rattle.basic_tree.proofs.FormSimple.{Begun, begun_as}
 
 -- what is made of the elements of a list, is made of the list
@@ -79,7 +80,7 @@ read_printed : {e : Bool} (c : Option PrintChannelTree) (list items : List Print
 read_printed {e = e} c [] items last a = subst (λ x. Reads e false (MorePrinted c items) (optional printed last) (Stated (Print c x last))) (sym (append-nil items)) (read_last_printed c items last a)
 read_printed {e = e} c (i ∷ more) items last a =
     let same : (print_item i ++ each print_item more) ++ optional printed last ≡ print_item i ++ (each print_item more ++ optional printed last) = append_assoc (print_item i) (each print_item more) (optional printed last) in
-    let parts : ArePieces (print_item i) × ArePieces (each print_item more ++ optional printed last) = are_split (print_item i) (each print_item more ++ optional printed last) (subst ArePieces same a) in
+    let parts : ArePieces (print_item i) × ArePieces (each print_item more ++ optional printed last) = pieces_split (print_item i) (each print_item more ++ optional printed last) (subst ArePieces same a) in
     subst (λ x. Reads e false (MorePrinted c items) x (Stated (Print c (items ++ i ∷ more) last))) (sym same)
     (read_print_item c items i.printed i.separator (each print_item more ++ optional printed last) parts.0 parts.1
     (subst (λ x. Reads e false (MorePrinted c (items ++ i ∷ [])) (each print_item more ++ optional printed last) (Stated (Print c x last))) (append_assoc items (i ∷ []) more)

@@ -1,17 +1,15 @@
 -- Each line is judged by where the machine stops; no word is too deep where there is none.
-use Rattle.std.proofs.Common.{subst, ◌≡◌, ℕ, zero, suc, ◌+◌, ◌<◌, ◌≤◌, Bool, true, false, List, [], ◌∷◌, ◌++◌, length, drop, Option, Some, None, Ok, Err, refl, sym, ap, ◌∙◌, arith}
+use Rattle.std.proofs.Common.{◌≡◌, ℕ, suc, ◌<◌, ◌≤◌, Bool, true, false, List, [], ◌∷◌, length, drop, Option, Some, None, Ok, Err, refl, sym, ap, ◌∙◌, arith}
 use Rattle.std.proofs.lemmas.List.{append-nil, drop_all}
-use Rattle.basic_tree.specs.declared.tokens.Cause.TheVariants as cause
 use Rattle.basic_tree.specs.SpellingWords.{Word, words_of, most_levels}
-use Rattle.basic_tree.specs.Trees.{Tree, LineTree, ClauseTree, StatementClause}
+use Rattle.basic_tree.specs.Trees.{ClauseTree, StatementClause}
 use Rattle.basic_tree.specs.SpellingExpressions.{is_text}
 use Rattle.basic_tree.specs.Tokens.{Reading, tokens_of}
-use Rattle.basic_tree.specs.GrammarPlaces.{IsReadLine, IsWrongLine, IsDeepLine}
-use Rattle.basic_tree.specs.GrammarStack.{Values, top, stated, below, Form, Made, TakeKey, TakeSign, TakeClosing, IfKey, IfSign, ExprOf, ExprIf, TargetOf, NameIn, FnNameIn, LiteralIn, LiteralIf, QuotedIf, ItemIn, MoreItems, MoreOf, MorePrinted, ClauseIn, Symbol, Level, More, MoreRelations, Exponent, Expect, Opening, Close, Do, Subscripts, SecondSubscript, Arguments, MoreArguments, Go, Await, AwaitClause, Modifiers, OneStatement, MoreStatements}
+use Rattle.basic_tree.specs.GrammarStack.{Values, top, stated, below, Form, IfKey, IfSign, ExprIf, LiteralIf, QuotedIf, MoreItems, MoreOf, ClauseIn, Symbol, MoreRelations, Go, Await, AwaitClause}
 use Rattle.basic_tree.specs.GrammarMachine.{Move, Takes, Skips, Refuses, no_relation, clause_move, form_move_with, move}
 use Rattle.basic_tree.specs.GrammarMachine.{Closes as Ends}
 use Rattle.basic_tree.specs.GrammarRun.{Turn, Next, Ended, Stuck, Deep, moved, turn, Wrong, TooDeep, Outcome, turned, run}
-use Rattle.basic_tree.specs.LineVerdicts.{Verdict, HasTree, RefusedFor, WordsJudged, ReadingJudged, Judges, LinesAreJudged}
+use Rattle.basic_tree.specs.LineVerdicts.{WordsJudged, ReadingJudged, Judges, LinesAreJudged}
 use Rattle.basic_tree.specs.GrammarJudge.{line_symbols, line_values, outcome_verdict, verdict_of, reading_verdict, judge_of}
 use Rattle.basic_tree.proofs.MachinePasses.{left}
 use Rattle.basic_tree.proofs.MachineStops.{finished}
@@ -86,6 +84,7 @@ deep_within : (ws : List Word) (k n : ℕ) (s : List Symbol) (vs : Values) → k
 deep_within ws k n s vs le h = go (drop k ws) refl where
   nothing : length ws ≤ k → ⊥
   nothing over = never_deep_at_end ws n s vs (h ∙ ap (λ (x : List Word). Err (TooDeep x)) (drop_all k ws over))
+
   go : (x : List Word) → drop k ws ≡ x → k < length ws
   go x e = below_or k (length ws) le nothing where
     below_or : (a b : ℕ) → a ≤ b → (b ≤ a → ⊥) → a < b

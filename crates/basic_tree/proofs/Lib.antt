@@ -47,6 +47,7 @@ pub mod MachineTurns
 pub mod MoveLemmas
 pub mod OneLine
 pub mod OneTree
+pub mod PieceLists
 pub mod SeamLemmas
 pub mod SentenceBack
 pub mod SliceLemmas

@@ -1,5 +1,5 @@
 -- The words of a statement with its modifiers lead the machine from the form of its first word to the statement.
-use Rattle.std.proofs.Common.{subst, ◌≡◌, ◌+◌, ◌-◌, max, ℕ, suc, ◌≤◌, Bool, true, false, not, ◌||◌, List, [], ◌∷◌, ◌++◌, Option, Some, None, refl, sym, ap, ◌∙◌, append_assoc, arith}
+use Rattle.std.proofs.Common.{subst, ◌≡◌, ◌+◌, ◌-◌, max, ℕ, suc, ◌≤◌, Bool, true, false, not, ◌||◌, List, [], ◌∷◌, ◌++◌, Option, Some, None, refl, sym, ap, ◌∙◌, arith}
 use Rattle.basic_tree.specs.declared.tokens.Keyword.{Keyword}
 use Rattle.basic_tree.specs.declared.tokens.Keyword.TheVariants as keyword
 use Rattle.basic_tree.specs.declared.tokens.Sign.TheVariants as sign
@@ -11,6 +11,7 @@ use Rattle.basic_tree.specs.SpellingStatements.{is_if, is_head, wants_else, clos
 use Rattle.basic_tree.specs.GrammarStack.{Value, Stated, Modifying, Modify, Symbol, Go, Do, Close, Modifiers, Form}
 use Rattle.basic_tree.specs.GrammarSentences.{Class, Choice, Head, Simple, Sentence, sentence_of, key_modifier, modifier_of}
 use Rattle.basic_tree.specs.GrammarRun.{run}
+use Rattle.basic_tree.proofs.PieceLists.{steps_append, pieces_split}
 use Rattle.basic_tree.proofs.FormLeads.{key_ends, word_ends, Ending, OfClass}
 use Rattle.basic_tree.proofs.MachineSteps.{run_do, run_close}
 use Rattle.basic_tree.proofs.MachineLeads.{words_append, words_parts}
@@ -112,20 +113,14 @@ pub closings_words : (s : StatementTree) → words (pieces_steps (closings s)) �
 closings_words (Modified s m) = closings_words s
 closings_words s = refl
 
-pub pieces_append : (a b : List Piece) → pieces_steps (a ++ b) ≡ pieces_steps a ++ pieces_steps b
-pieces_append [] b = refl
-pieces_append (p ∷ a) b = rw (pieces_append a b, append_assoc) refl
-
 pub pieces_words : (a b : List Piece) (r : List Word) → words (pieces_steps (a ++ b)) ++ r ≡ words (pieces_steps a) ++ (words (pieces_steps b) ++ r)
-pieces_words a b r = ap (λ x. words x ++ r) (pieces_append a b) ∙ words_parts (pieces_steps a) (pieces_steps b) r
+pieces_words a b r = ap (λ x. words x ++ r) (steps_append a b) ∙ words_parts (pieces_steps a) (pieces_steps b) r
 
 pub parts_before : (a b : List Piece) → ArePieces (a ++ b) → ArePieces a
-parts_before [] b h = tt
-parts_before (p ∷ a) b h = (h.0, parts_before a b h.1)
+parts_before a b h = (pieces_split a b h).0
 
 pub parts_behind : (a b : List Piece) → ArePieces (a ++ b) → ArePieces b
-parts_behind [] b h = h
-parts_behind (p ∷ a) b h = parts_behind a b h.1
+parts_behind a b h = (pieces_split a b h).1
 
 -- ---- a statement with modifiers
 
@@ -180,7 +175,7 @@ one_more s m b d = record {
   sentence = b.sentence;
   known = b.known;
   spelled =
-      ap (λ x. words x) (pieces_append (pieces_of s) (modifier m))
+      ap (λ x. words x) (steps_append (pieces_of s) (modifier m))
       ∙ words_append (pieces_steps (pieces_of s)) (pieces_steps (modifier m))
       ∙ ap (λ x. x ++ words (pieces_steps (modifier m))) b.spelled;
   class = b.class;

@@ -6,8 +6,9 @@ use Rattle.basic_tree.specs.Trees.{ModifierTree, StatementTree, Modified}
 use Rattle.basic_tree.specs.SpellingPieces.{pieces_steps, ArePieces}
 use Rattle.basic_tree.specs.SpellingParts.{modifier}
 use Rattle.basic_tree.specs.SpellingStatements.{is_if, is_head, closings, pieces_of, statement_pieces}
+use Rattle.basic_tree.proofs.PieceLists.{steps_append}
 use Rattle.basic_tree.proofs.MachineReads.{modifiers_steps, AreModifiers, modified_by}
-use Rattle.basic_tree.proofs.LineLeads.{pieces_append, parts_before, parts_behind, neither}
+use Rattle.basic_tree.proofs.LineLeads.{parts_before, parts_behind, neither}
 
 -- modifiers stand behind no IF, and behind no statement that stands by itself
 abbrev pub MayHave : StatementTree → List ModifierTree → Type 0
@@ -40,7 +41,7 @@ unmodified_with (Modified s m) ms h a y =
       each = x.each;
       may_have = x.may_have;
       steps =
-          ap (λ q. q ++ (modifiers_steps ms ++ Closes ∷ pieces_steps (closings s))) (pieces_append (pieces_of s) (modifier m))
+          ap (λ q. q ++ (modifiers_steps ms ++ Closes ∷ pieces_steps (closings s))) (steps_append (pieces_of s) (modifier m))
           ∙ regroup (pieces_steps (pieces_of s)) (pieces_steps (modifier m)) (modifiers_steps ms) Closes (pieces_steps (closings s))
           ∙ x.steps;
     }
@@ -57,5 +58,5 @@ unmodified_lem s h =
       pieces = x.pieces;
       each = x.each;
       may_have = x.may_have;
-      steps = pieces_append (pieces_of s) (closings s) ∙ x.steps;
+      steps = steps_append (pieces_of s) (closings s) ∙ x.steps;
     }

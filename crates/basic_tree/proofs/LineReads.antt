@@ -1,24 +1,19 @@
 -- The stack of a line spells lines alone and takes each of them, and how a line is judged by where the machine stops.
-use Rattle.std.proofs.Common.{subst, ◌≡◌, ℕ, zero, suc, ◌+◌, ◌<◌, ◌≤◌, Bool, true, false, cond, List, [], ◌∷◌, ◌++◌, length, drop, Option, Some, None, Ok, Err, refl, sym, ap, ◌∙◌, arith}
-use Rattle.std.proofs.lemmas.List.{append-nil, length-drop, drop_all}
-use Rattle.basic_tree.specs.declared.tokens.Cause.TheVariants as cause
-use Rattle.basic_tree.specs.SpellingWords.{Word, Step, words, words_of, most_levels}
+use Rattle.std.proofs.Common.{◌≡◌, ℕ, suc, ◌≤◌, List, [], ◌∷◌, ◌++◌, length, drop, Option, Some, None, Ok, Err, refl, sym, ap, ◌∙◌, arith}
+use Rattle.std.proofs.lemmas.List.{append-nil}
+use Rattle.basic_tree.specs.SpellingWords.{Word, Step, words}
 use Rattle.basic_tree.specs.Trees.{LineTree, StatementTree}
-use Rattle.basic_tree.specs.SpellingPieces.{pieces_steps, ArePieces, each}
+use Rattle.basic_tree.specs.SpellingPieces.{pieces_steps, each}
 use Rattle.basic_tree.specs.SpellingStatements.{line_steps, IsLine}
-use Rattle.basic_tree.specs.Tokens.{Reading, tokens_of}
-use Rattle.basic_tree.specs.GrammarPlaces.{IsReadLine, IsWrongLine, IsDeepLine}
 use Rattle.basic_tree.specs.GrammarStack.{Values, Parsed, Symbol}
-use Rattle.basic_tree.specs.GrammarRun.{Turn, Next, Ended, Stuck, Deep, turn, Wrong, TooDeep, Outcome, turned, run}
-use Rattle.basic_tree.specs.LineVerdicts.{Verdict, HasTree, RefusedFor, WordsJudged, ReadingJudged, Judges}
-use Rattle.basic_tree.specs.GrammarJudge.{line_symbols, line_values, outcome_verdict, verdict_of, reading_verdict, judge_of}
+use Rattle.basic_tree.specs.GrammarRun.{Turn, Next, Ended, Stuck, Deep, turn, Wrong, turned, run}
+use Rattle.basic_tree.specs.GrammarJudge.{line_symbols, line_values}
 use Rattle.basic_tree.proofs.MachineReads.{place_pieces, separated}
 use Rattle.basic_tree.proofs.MachineSpelled.{Spelled}
 use Rattle.basic_tree.proofs.MachinePasses.{left}
-use Rattle.basic_tree.proofs.MachineStops.{finished}
-use Rattle.basic_tree.proofs.ListBack.{steps_append, pieces_append}
+use Rattle.basic_tree.proofs.PieceLists.{steps_append, pieces_append}
 use Rattle.basic_tree.proofs.LineLevels.{line_above}
-use Rattle.basic_tree.proofs.LinePlaces.{ReadsLines, line_read, line_wrong, line_stops, line_deep}
+use Rattle.basic_tree.proofs.LinePlaces.{ReadsLines}
 use Rattle.basic_tree.proofs.OneLine.{line_leads}
 
 -- ---- lines

@@ -1,38 +1,25 @@
 -- What the moves of a list and of PRINT took, their forms read; and every form.
-use Rattle.std.proofs.Common.{subst, ◌≡◌, ℕ, Bool, true, false, cond, ◌⊎◌, List, [], ◌∷◌, ◌++◌, Option, Some, None, inl, inr, refl, sym, ap, ◌∙◌, append_assoc}
+use Rattle.std.proofs.Common.{subst, ◌≡◌, Bool, true, false, cond, List, [], ◌∷◌, ◌++◌, Option, Some, None, inl, inr, refl, sym, ap, ◌∙◌, append_assoc}
 use Rattle.std.proofs.lemmas.List.{append-nil}
-use Rattle.basic_tree.specs.declared.names.Name.{Name}
 use Rattle.basic_tree.specs.declared.tokens.Keyword.TheVariants as keyword
-use Rattle.basic_tree.specs.declared.tokens.Sign.{Sign}
 use Rattle.basic_tree.specs.declared.tokens.Sign.TheVariants as sign
-use Rattle.basic_tree.specs.declared.kinds.Want.{Want}
 use Rattle.basic_tree.specs.declared.kinds.Want.TheVariants as want
 use Rattle.basic_tree.specs.declared.parts.Shape.{Shape}
 use Rattle.basic_tree.specs.declared.parts.Separator.{Separator}
 use Rattle.basic_tree.specs.declared.parts.Separator.TheVariants as separator
-use Rattle.basic_tree.specs.SpellingWords.{Word, Key, Punctuation, Named, Number, Step, Plain, Opens, Closes, words}
+use Rattle.basic_tree.specs.SpellingWords.{Word, Key, Punctuation, Named, Number, Step, Plain, Opens, Closes}
 use Rattle.basic_tree.specs.SpellingWords.{Item as ItemOf}
-use Rattle.basic_tree.specs.Trees.{Tree, PrintedTree, Value as ValueOf, Tab, PrintItemTree, PrintChannelTree, ClauseTree, Print}
-use Rattle.basic_tree.specs.SpellingExpressions.{mark, steps_of, Fits, IsTree}
-use Rattle.basic_tree.specs.SpellingPieces.{Piece, piece_steps, pieces_steps, ArePieces, optional}
-use Rattle.basic_tree.specs.SpellingParts.{shape, file_shape, element_size, printed, print_item, separator_piece}
-use Rattle.basic_tree.specs.GrammarStack.{Value, Stated, Values, Item, TargetItem, ShapeItem, FileItem, NameItem, LineItem, ChannelItem, FieldItem, Sequence, Targets, Shapes, FileShapes, Parameters, Lines, Channels, FieldParts, Bound, Size, within, Form, Made, TakeKey, TakeSign, TakeClosing, IfKey, IfSign, ExprOf, ExprIf, TargetOf, NameIn, FnNameIn, LiteralIn, LiteralIf, QuotedIf, ItemIn, MoreItems, MoreOf, MorePrinted, ClauseIn, Close, Go}
+use Rattle.basic_tree.specs.Trees.{PrintedTree, Value as ValueOf, Tab, PrintItemTree, PrintChannelTree, ClauseTree, Print}
+use Rattle.basic_tree.specs.SpellingExpressions.{mark, steps_of}
+use Rattle.basic_tree.specs.SpellingPieces.{Piece, pieces_steps, ArePieces}
+use Rattle.basic_tree.specs.SpellingParts.{shape, element_size, printed, print_item, separator_piece}
+use Rattle.basic_tree.specs.GrammarStack.{Value, Stated, Values, Item, TargetItem, ShapeItem, FileItem, NameItem, LineItem, ChannelItem, FieldItem, Sequence, Targets, Shapes, FileShapes, Parameters, Lines, Channels, FieldParts, Form, Made, TakeKey, TakeSign, TakeClosing, IfKey, IfSign, ExprOf, ExprIf, TargetOf, NameIn, FnNameIn, LiteralIn, LiteralIf, QuotedIf, ItemIn, MoreItems, MoreOf, MorePrinted, ClauseIn, Close, Go}
 use Rattle.basic_tree.specs.GrammarForms.{begins_value, has_room, item_form, shape_form, size_form, printed_form}
 use Rattle.basic_tree.specs.GrammarMachine.{Move, Takes, Skips, Refuses, expression, expression_if, more_of_list, tab_form, more_printed, form_move_with}
-use Rattle.basic_tree.proofs.MachineReads.{taken, item_pieces, Belongs, AreItems, items_steps, data_steps, print_pieces, Reads}
-use Rattle.basic_tree.proofs.MachineSpelled.{Spelled}
+use Rattle.basic_tree.proofs.PieceLists.{steps_append, pieces_append}
+use Rattle.basic_tree.proofs.MachineReads.{item_pieces, Belongs, items_steps, print_pieces, Reads}
 use Rattle.basic_tree.proofs.MachineBack.{TakesBack, MoveBack}
 use Rattle.basic_tree.proofs.FormBack.{through_form, behind_step, key_back, sign_back, expression_back, expr_back, expr_if_back, target_back, name_back, fn_name_back, literal_back, quoted_back, item_back}
-
--- ---- pieces
-
-pub steps_append : (a b : List Piece) → pieces_steps (a ++ b) ≡ pieces_steps a ++ pieces_steps b
-steps_append [] b = refl
-steps_append (x ∷ a) b = ap (λ y. piece_steps x ++ y) (steps_append a b) ∙ sym (append_assoc (piece_steps x) (pieces_steps a) (pieces_steps b))
-
-pub pieces_append : (a b : List Piece) → ArePieces a → ArePieces b → ArePieces (a ++ b)
-pieces_append [] b h i = i
-pieces_append (x ∷ a) b h i = (h.0, pieces_append a b h.1 i)
 
 -- ---- elements
 
@@ -49,12 +36,13 @@ shape_read g p v h =
     let o = h.4 in
     let f = o.2 in
     elim f.4 as (λ x. ReadsShape g p v) [
-      inl c ↦
-        (let n = c.2 in
-        let e = n.4 in
-        (record { name = h.0; first = f.0; second = Some n.0 }, e.0, rw (h.2, o.1, f.2, c.1, n.2, e.1) refl, (h.3, (tt, (f.3, (tt, (n.3, (tt, (tt, tt))))))), e.2))
-    | inr e ↦
-        (record { name = h.0; first = f.0; second = None }, e.0, rw (h.2, o.1, f.2, e.1) refl, (h.3, (tt, (f.3, (tt, (tt, tt))))), e.2) ]
+      | inl c ↦
+          (let n = c.2 in
+          let e = n.4 in
+          (record { name = h.0; first = f.0; second = Some n.0 }, e.0, rw (h.2, o.1, f.2, c.1, n.2, e.1) refl, (h.3, (tt, (f.3, (tt, (n.3, (tt, (tt, tt))))))), e.2))
+      | inr e ↦
+          (record { name = h.0; first = f.0; second = None }, e.0, rw (h.2, o.1, f.2, e.1) refl, (h.3, (tt, (f.3, (tt, (tt, tt))))), e.2)
+    ]
 
 -- ---- the elements of each list
 
@@ -68,12 +56,17 @@ file_read : (s : Shape) (g : Item → Form) (p : List Step) (v : Value) (t : Boo
 file_read s g p v false e i h = no_size s g p v i h
 file_read s g p v true e i h =
     elim h as (λ x. ReadsFile s g p v) [
-      inl y ↦
-        (let n = y.2 in
-        (FileItem (record { shape = s; size = Some n.0 }), n.1,
-         rw (y.1, n.2) (sym (append_assoc (pieces_steps (shape s)) (mark sign.Equal ∷ Plain (Number n.0) ∷ []) n.1) ∙ ap (λ x. x ++ n.1) (sym (steps_append (shape s) (element_size s.name n.0)))),
-         tt, pieces_append (shape s) (element_size s.name n.0) i (e, (tt, (n.3, tt))), n.4))
-    | inr y ↦ no_size s g p v i y ]
+      | inl y ↦
+          (let n = y.2 in (
+            FileItem (record { shape = s; size = Some n.0 }),
+            n.1,
+            rw (y.1, n.2) (sym (append_assoc (pieces_steps (shape s)) (mark sign.Equal ∷ Plain (Number n.0) ∷ []) n.1) ∙ ap (λ x. x ++ n.1) (sym (steps_append (shape s) (element_size s.name n.0)))),
+            tt,
+            pieces_append (shape s) (element_size s.name n.0) i (e, (tt, (n.3, tt))),
+            n.4,
+          ))
+      | inr y ↦ no_size s g p v i y
+    ]
 
 pub item_read : (s : Sequence) (g : Item → Form) (p : List Step) (v : Value) → Reads (item_form s g) p v → ReadsItem s g p v
 item_read (Targets w) g p v h = (TargetItem h.0, h.1, h.2 ∙ ap (λ x. x ++ h.1) (sym (append-nil (steps_of h.0))), h.4, (h.5, ((h.3, tt), tt)), h.6)
@@ -86,10 +79,11 @@ item_read Parameters g p v h = (NameItem h.0, h.1, h.2, tt, (tt, tt), h.4)
 item_read Lines g p v h = (LineItem h.0, h.1, h.2, tt, (h.3, tt), h.4)
 item_read Channels g p v h =
     elim h as (λ x. ReadsItem Channels g p v) [
-      inl c ↦
-        (let t = c.2 in
-        (ChannelItem (record { hash = true; number = t.0 }), t.1, c.1 ∙ ap (λ x. mark sign.Hash ∷ x) (t.2 ∙ ap (λ x. x ++ t.1) (sym (append-nil (steps_of t.0)))), tt, (tt, ((t.3, t.4), tt)), t.5))
-    | inr t ↦ (ChannelItem (record { hash = false; number = t.0 }), t.1, t.2 ∙ ap (λ x. x ++ t.1) (sym (append-nil (steps_of t.0))), tt, ((t.3, t.4), tt), t.5) ]
+      | inl c ↦
+          (let t = c.2 in
+          (ChannelItem (record { hash = true; number = t.0 }), t.1, c.1 ∙ ap (λ x. mark sign.Hash ∷ x) (t.2 ∙ ap (λ x. x ++ t.1) (sym (append-nil (steps_of t.0)))), tt, (tt, ((t.3, t.4), tt)), t.5))
+      | inr t ↦ (ChannelItem (record { hash = false; number = t.0 }), t.1, t.2 ∙ ap (λ x. x ++ t.1) (sym (append-nil (steps_of t.0))), tt, ((t.3, t.4), tt), t.5)
+    ]
 item_read FieldParts g p v h =
     let k = h.5 in
     let n = k.2 in
@@ -101,9 +95,13 @@ item_read FieldParts g p v h =
 pub one_item_more : (s : Sequence) (items : List Item) (g : List Item → Form) (p : List Step) (v : Value) → has_room s items ≡ true → Reads (item_form s (λ item. MoreOf s (items ++ item ∷ []) g)) p v → Reads (MoreOf s items g) (mark sign.Comma ∷ p) v
 one_item_more s items g p v room h =
     let i = item_read s (λ item. MoreOf s (items ++ item ∷ []) g) p v h in
-    let m = i.5 in
-    (i.0 ∷ m.0, m.1, ap (λ x. mark sign.Comma ∷ x) (i.2 ∙ ap (λ x. pieces_steps (item_pieces i.0) ++ x) m.2 ∙ sym (append_assoc (pieces_steps (item_pieces i.0)) (items_steps m.0) m.1)),
-     (room, i.3, i.4, m.3), subst (λ x. Reads (g x) m.1 v) (append_assoc items (i.0 ∷ []) m.0) m.4)
+    let m = i.5 in (
+      i.0 ∷ m.0,
+      m.1,
+      ap (λ x. mark sign.Comma ∷ x) (i.2 ∙ ap (λ x. pieces_steps (item_pieces i.0) ++ x) m.2 ∙ sym (append_assoc (pieces_steps (item_pieces i.0)) (items_steps m.0) m.1)),
+      (room, i.3, i.4, m.3),
+      subst (λ x. Reads (g x) m.1 v) (append_assoc items (i.0 ∷ []) m.0) m.4,
+    )
 
 no_item_more : (s : Sequence) (items : List Item) (g : List Item → Form) (p : List Step) (v : Value) → Reads (g items) p v → Reads (MoreOf s items g) p v
 no_item_more s items g p v h = ([], p, refl, tt, subst (λ x. Reads (g x) p v) (sym (append-nil items)) h)
@@ -124,19 +122,23 @@ abbrev ReadsPrinted : Option PrintChannelTree → List PrintItemTree → List Pi
 ReadsPrinted c items front p v = Reads (MorePrinted c items) (pieces_steps front ++ p) v
 
 separated_item : (c : Option PrintChannelTree) (items : List PrintItemTree) (x : PrintedTree) (s : Separator) (q : List Step) (v : Value) → ArePieces (printed x) → ArePieces (separator_piece s ∷ []) → Reads (MorePrinted c (items ++ record { printed = x; separator = s } ∷ [])) q v → ReadsPrinted c items (print_item (record { printed = x; separator = s })) q v
-separated_item c items x s q v i j h =
-    (record { printed = x; separator = s } ∷ h.0, h.1,
-     ap (λ y. pieces_steps (print_item (record { printed = x; separator = s })) ++ y) h.2 ∙ sym (steps_append (print_item (record { printed = x; separator = s })) (print_pieces h.0 h.1)) ∙ ap (λ y. pieces_steps y) (sym (append_assoc (print_item (record { printed = x; separator = s })) _ _)),
-     subst (λ y. ArePieces y) (sym (append_assoc (print_item (record { printed = x; separator = s })) _ _)) (pieces_append (print_item (record { printed = x; separator = s })) (print_pieces h.0 h.1) (pieces_append (printed x) (separator_piece s ∷ []) i j) h.3),
-     ap (λ y. Stated (Print c y h.1)) (sym (append_assoc items (record { printed = x; separator = s } ∷ []) h.0)) ∙ h.4)
+separated_item c items x s q v i j h = (
+  record { printed = x; separator = s } ∷ h.0,
+  h.1,
+  ap (λ y. pieces_steps (print_item (record { printed = x; separator = s })) ++ y) h.2 ∙ sym (steps_append (print_item (record { printed = x; separator = s })) (print_pieces h.0 h.1)) ∙ ap (λ y. pieces_steps y) (sym (append_assoc (print_item (record { printed = x; separator = s })) _ _)),
+  subst (λ y. ArePieces y) (sym (append_assoc (print_item (record { printed = x; separator = s })) _ _)) (pieces_append (print_item (record { printed = x; separator = s })) (print_pieces h.0 h.1) (pieces_append (printed x) (separator_piece s ∷ []) i j) h.3),
+  ap (λ y. Stated (Print c y h.1)) (sym (append_assoc items (record { printed = x; separator = s } ∷ []) h.0)) ∙ h.4,
+)
 
 printed_read : (c : Option PrintChannelTree) (items : List PrintItemTree) (x : PrintedTree) (p : List Step) (v : Value) → ArePieces (printed x) → Reads (printed_form c items x) p v → ReadsPrinted c items (printed x) p v
 printed_read c items x p v i h =
     elim h as (λ y. ReadsPrinted c items (printed x) p v) [
-      inl y ↦ subst (λ z. Reads (MorePrinted c items) z v) (ap (λ z. z ++ y.0) (steps_append (printed x) _) ∙ append_assoc (pieces_steps (printed x)) _ y.0 ∙ ap (λ z. pieces_steps (printed x) ++ z) (sym y.1)) (separated_item c items x separator.Comma y.0 v i (tt, tt) y.2)
-    | inr z ↦ elim z as (λ y. ReadsPrinted c items (printed x) p v) [
-        inl y ↦ subst (λ z. Reads (MorePrinted c items) z v) (ap (λ z. z ++ y.0) (steps_append (printed x) _) ∙ append_assoc (pieces_steps (printed x)) _ y.0 ∙ ap (λ z. pieces_steps (printed x) ++ z) (sym y.1)) (separated_item c items x separator.Semicolon y.0 v i (tt, tt) y.2)
-      | inr y ↦ ([], Some x, ap (λ z. pieces_steps (printed x) ++ z) y.0 ∙ append-nil (pieces_steps (printed x)), i, ap (λ z. Stated (Print c z (Some x))) (append-nil items) ∙ y.1) ] ]
+      | inl y ↦ subst (λ z. Reads (MorePrinted c items) z v) (ap (λ z. z ++ y.0) (steps_append (printed x) _) ∙ append_assoc (pieces_steps (printed x)) _ y.0 ∙ ap (λ z. pieces_steps (printed x) ++ z) (sym y.1)) (separated_item c items x separator.Comma y.0 v i (tt, tt) y.2)
+      | inr z ↦ elim z as (λ y. ReadsPrinted c items (printed x) p v) [
+        | inl y ↦ subst (λ z. Reads (MorePrinted c items) z v) (ap (λ z. z ++ y.0) (steps_append (printed x) _) ∙ append_assoc (pieces_steps (printed x)) _ y.0 ∙ ap (λ z. pieces_steps (printed x) ++ z) (sym y.1)) (separated_item c items x separator.Semicolon y.0 v i (tt, tt) y.2)
+        | inr y ↦ ([], Some x, ap (λ z. pieces_steps (printed x) ++ z) y.0 ∙ append-nil (pieces_steps (printed x)), i, ap (λ z. Stated (Print c z (Some x))) (append-nil items) ∙ y.1)
+      ]
+    ]
 
 print_end : (c : Option PrintChannelTree) (items : List PrintItemTree) (vs : Values) (o : Option Word) → MoveBack (Go (MorePrinted c items)) vs o (Skips (Stated (Print c items None) ∷ vs))
 print_end c items vs None = λ k q u s. ([], Stated (Print c items None), q, refl, ([], None, refl, tt, ap (λ z. Stated (Print c z None)) (append-nil items)), s)

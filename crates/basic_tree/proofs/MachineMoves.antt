@@ -1,5 +1,5 @@
 -- Each move of the machine's symbols, and a turn of its whole stack, took what is spelled so.
-use Rattle.std.proofs.Common.{subst, ◌&&◌, ◌||◌, ◌==◌, not, ◌≡◌, ℕ, zero, suc, ◌≤◌, Bool, true, false, cond, List, [], ◌∷◌, ◌++◌, Option, Some, None, refl, sym, ap, ◌∙◌, append_assoc, arith}
+use Rattle.std.proofs.Common.{subst, ◌&&◌, ◌||◌, ◌==◌, not, ◌≡◌, ℕ, ◌≤◌, Bool, true, false, cond, List, [], ◌∷◌, ◌++◌, Option, Some, None, refl, sym, ap, ◌∙◌, append_assoc, arith}
 use Rattle.std.proofs.lemmas.Bool.{eqb-true}
 use Rattle.basic_tree.specs.declared.names.Name.{Name}
 use Rattle.basic_tree.specs.declared.tokens.Sign.{Sign}
@@ -13,11 +13,11 @@ use Rattle.basic_tree.specs.SpellingWords.{Word, Punctuation, Step, Plain, Opens
 use Rattle.basic_tree.specs.Trees.{Tree, Variable, Element, Call, Negative, Positive, Not, Operation, Comparison, Trees, NoTrees, AndTrees}
 use Rattle.basic_tree.specs.SpellingExpressions.{mark, steps_of, more_steps, is_text, Fits, want_of, level_of, is_exponent, IsRight, AreSubscripts, IsTree}
 use Rattle.basic_tree.specs.GrammarTables.{sign_level, relation_level, operator_level, operator_word, joins_texts, relation_sign}
-use Rattle.basic_tree.specs.GrammarWords.{operator_of, relation_of, sign_number, is_same_sign}
+use Rattle.basic_tree.specs.GrammarWords.{operator_of, relation_of, is_same_sign}
 use Rattle.basic_tree.specs.GrammarStack.{Term, Several, Values, top, several, below, kept, kept_several, made, others, Action, MakeOperation, MakeComparison, Symbol, Level, More, MoreRelations, Exponent, Expect, Opening, Close, Do, Subscripts, SecondSubscript, Arguments, MoreArguments, Go, Await, AwaitClause, Modifiers, OneStatement, MoreStatements}
 use Rattle.basic_tree.proofs.SentenceBack.{go_back, await_back, await_clause_back, modifiers_back, one_statement_back, more_statements_back}
 use Rattle.basic_tree.specs.GrammarStarts.{Start, atom, signed, start}
-use Rattle.basic_tree.specs.GrammarMachine.{Move, Takes, Skips, Refuses, begun, right_of, joined, more_of, no_relation, related, expect, open_list, subscripts, second_subscript, arguments, more_arguments, move}
+use Rattle.basic_tree.specs.GrammarMachine.{Takes, Skips, Refuses, begun, right_of, joined, more_of, no_relation, related, expect, open_list, subscripts, second_subscript, arguments, more_arguments, move}
 use Rattle.basic_tree.specs.GrammarStack.{with_last}
 use Rattle.basic_tree.specs.GrammarMachine.{Closes as Ends}
 use Rattle.basic_tree.proofs.MachineSpelled.{IsSecond, joined_trees, Spelled, as_is}

@@ -1,14 +1,12 @@
 -- What the steps of a form are, and what they read as.
 use Rattle.std.proofs.Common.{◌≡◌, ℕ, Bool, true, false, ◌⊎◌, List, [], ◌∷◌, ◌++◌, Option, Some, None}
-use Rattle.basic_tree.specs.declared.names.Name.{Name}
 use Rattle.basic_tree.specs.declared.tokens.Sign.TheVariants as sign
-use Rattle.basic_tree.specs.declared.kinds.Want.{Want}
 use Rattle.basic_tree.specs.declared.kinds.Want.TheVariants as want
 use Rattle.basic_tree.specs.SpellingWords.{Word, Key, Punctuation, Named, FnNamed, Number, Quotation, Step, Plain, Opens, Closes, words}
 use Rattle.basic_tree.specs.SpellingWords.{Item as ItemOf}
 use Rattle.basic_tree.specs.Trees.{Tree, Variable, PrintedTree, ModifierTree, PrintItemTree, ClauseTree, StatementTree, Modified, Print}
 use Rattle.basic_tree.specs.SpellingExpressions.{mark, steps_of, Fits, IsTree}
-use Rattle.basic_tree.specs.SpellingPieces.{Piece, Fixed, Expression, Holds, pieces_steps, ArePieces, is_target, line, optional, each, after_commas, sign_of}
+use Rattle.basic_tree.specs.SpellingPieces.{Piece, Expression, Holds, pieces_steps, ArePieces, is_target, line, optional, each, sign_of}
 use Rattle.basic_tree.specs.SpellingParts.{shape, file_shape, printed, print_item, name, modifier, close_channel, field_part, first_word}
 use Rattle.basic_tree.specs.SpellingStatements.{clause_pieces, statement_pieces}
 use Rattle.basic_tree.specs.GrammarStack.{Value, Stated, Item, TargetItem, ShapeItem, FileItem, NameItem, LineItem, ChannelItem, FieldItem, Sequence, Targets, Shapes, FileShapes, Parameters, Lines, Channels, FieldParts, within, Form, Made, TakeKey, TakeSign, TakeClosing, IfKey, IfSign, ExprOf, ExprIf, TargetOf, NameIn, FnNameIn, LiteralIn, LiteralIf, QuotedIf, ItemIn, MoreItems, MoreOf, MorePrinted, ClauseIn}

@@ -12,11 +12,12 @@ use Rattle.basic_tree.specs.GrammarSentences.{Class, Choice, Head, Simple}
 use Rattle.basic_tree.specs.GrammarMachine.{behind_class}
 use Rattle.basic_tree.specs.GrammarRun.{Outcome, run}
 use Rattle.basic_tree.specs.GrammarPlaces.{OneLine}
+use Rattle.basic_tree.proofs.PieceLists.{steps_append}
 use Rattle.basic_tree.proofs.MachineReads.{place_pieces, separated}
 use Rattle.basic_tree.proofs.MachineSteps.{run_do}
 use Rattle.basic_tree.proofs.MachineLeads.{words_append}
 use Rattle.basic_tree.proofs.LineSteps.{NoSentence, behind_clause_class, run_statement, run_no_statement, run_more_statements}
-use Rattle.basic_tree.proofs.LineLeads.{Finished, finished_widened, closings_words, pieces_append, pieces_words, parts_before, parts_behind, Starts}
+use Rattle.basic_tree.proofs.LineLeads.{Finished, finished_widened, closings_words, pieces_words, parts_before, parts_behind, Starts}
 use Rattle.basic_tree.proofs.IfLeads.{starts}
 
 -- ---- a statement of a line, or none
@@ -70,7 +71,7 @@ others_finish [] = tt
 others_finish (s ∷ others) = refl
 
 two_words : (a b : List Piece) → words (pieces_steps (a ++ b)) ≡ words (pieces_steps a) ++ words (pieces_steps b)
-two_words a b = ap (λ x. words x) (pieces_append a b) ∙ words_append (pieces_steps a) (pieces_steps b)
+two_words a b = ap (λ x. words x) (steps_append a b) ∙ words_append (pieces_steps a) (pieces_steps b)
 
 no_others : OthersLead []
 unfolding run

@@ -2,22 +2,23 @@
 use Rattle.std.proofs.Common.{subst, ◌≡◌, not, ◌||◌, ℕ, Bool, true, false, cond, List, [], ◌∷◌, ◌++◌, Option, Some, None, refl, sym, ap, ◌∙◌, append_assoc}
 use Rattle.std.proofs.lemmas.List.{append-nil}
 use Rattle.basic_tree.specs.declared.tokens.Sign.TheVariants as sign
-use Rattle.basic_tree.specs.SpellingWords.{Word, Punctuation, Number, Step, Plain, Opens, Closes}
+use Rattle.basic_tree.specs.SpellingWords.{Word, Punctuation, Number, Step, Plain, Closes}
 use Rattle.basic_tree.specs.Trees.{Tree, ModifierTree, ClauseTree, LineClause, StatementClause, StatementTree, IfThen, IfGoto, Modified}
 use Rattle.basic_tree.specs.SpellingExpressions.{mark}
-use Rattle.basic_tree.specs.SpellingPieces.{Piece, pieces_steps, ArePieces, closing, each}
+use Rattle.basic_tree.specs.SpellingPieces.{pieces_steps, ArePieces, each}
 use Rattle.basic_tree.specs.SpellingParts.{modifier}
-use Rattle.basic_tree.specs.SpellingStatements.{is_if, is_head, closings, pieces_of, clause_pieces, statement_pieces}
-use Rattle.basic_tree.specs.GrammarStack.{Value, Term, Several, Stated, Modifying, Parsed, Values, top, stated, parsed, below, kept_stated, kept_parsed, with_statement, LineNumber, within, Form, ClauseIn, AddStatement, Modify, Symbol, Close, Do, Go, Await, AwaitClause, Modifiers, OneStatement, MoreStatements}
+use Rattle.basic_tree.specs.SpellingStatements.{is_if, is_head, closings, pieces_of, statement_pieces}
+use Rattle.basic_tree.specs.GrammarStack.{Value, Stated, Modifying, Parsed, Values, top, stated, parsed, below, kept_stated, kept_parsed, with_statement, LineNumber, within, Form, ClauseIn, AddStatement, Modify, Symbol, Close, Do, Go, Await, AwaitClause, Modifiers, OneStatement, MoreStatements}
 use Rattle.basic_tree.specs.GrammarSentences.{Class, Choice, Head, Simple, Sentence, sentence_of, modifier_of}
 use Rattle.basic_tree.specs.GrammarMachine.{Move, Takes, Skips, Refuses, then_also, no_clause, behind_clause, clause_sentence, clause_move, form_move_with, form_move, behind_class, statement_move, one_statement, modified, modifiers, more_statements}
 use Rattle.basic_tree.specs.GrammarMachine.{Closes as Ends}
 use Rattle.basic_tree.proofs.MachineReads.{taken, Reads, modifiers_steps, AreModifiers, modified_by, place_pieces, separated}
-use Rattle.basic_tree.proofs.FormLeads.{OfClass, Says, Modifies}
+use Rattle.basic_tree.proofs.FormLeads.{Says, Modifies}
 use Rattle.basic_tree.proofs.MachineSpelled.{Spelled}
 use Rattle.basic_tree.proofs.MachineBack.{TakesBack, MoveBack}
 use Rattle.basic_tree.proofs.FormBack.{sign_back}
-use Rattle.basic_tree.proofs.ListBack.{steps_append, pieces_append, form_back}
+use Rattle.basic_tree.proofs.ListBack.{form_back}
+use Rattle.basic_tree.proofs.PieceLists.{steps_append, pieces_append}
 use Rattle.basic_tree.proofs.SoundSentences.{sentence_sound, modifier_sound}
 
 -- ---- what stands behind a form
@@ -82,10 +83,14 @@ choice_is_no_head s e = absurd cc
 -- a statement as a clause
 whole_clause : (s : StatementTree) (p : List Step) (ms : List ModifierTree) (g : ClauseTree → Form) (k : List Symbol) (vs : Values) (q : List Step) (u : Values) → not (is_head (modified_by s ms)) ≡ true → Whole s p ms → Spelled (AwaitClause g ∷ k) (Stated (modified_by s ms) ∷ vs) q u → Spelled (Go (ClauseIn g) ∷ k) vs (p ++ (modifiers_steps ms ++ Closes ∷ q)) u
 whole_clause s p ms g k vs q u nh w h =
-    let body = pieces_steps (statement_pieces (modified_by s ms)) in
-    (body ++ Closes ∷ h.0, h.1, h.2,
-     ap (λ x. p ++ (modifiers_steps ms ++ Closes ∷ x)) h.3 ∙ sym (append_assoc p (modifiers_steps ms) (Closes ∷ (h.0 ++ h.2))) ∙ ap (λ x. x ++ Closes ∷ (h.0 ++ h.2)) (sym w.steps) ∙ sym (append_assoc body (Closes ∷ h.0) h.2),
-     (StatementClause (modified_by s ms), h.0, refl, (nh, w.pieces), h.4), h.5)
+    let body = pieces_steps (statement_pieces (modified_by s ms)) in (
+      body ++ Closes ∷ h.0,
+      h.1,
+      h.2,
+      ap (λ x. p ++ (modifiers_steps ms ++ Closes ∷ x)) h.3 ∙ sym (append_assoc p (modifiers_steps ms) (Closes ∷ (h.0 ++ h.2))) ∙ ap (λ x. x ++ Closes ∷ (h.0 ++ h.2)) (sym w.steps) ∙ sym (append_assoc body (Closes ∷ h.0) h.2),
+      (StatementClause (modified_by s ms), h.0, refl, (nh, w.pieces), h.4),
+      h.5,
+    )
 
 choice_clause : (g : ClauseTree → Form) (k : List Symbol) (vs : Values) (p : List Step) (v : Value) (q : List Step) (u : Values) → Says Choice p v → Spelled (Close ∷ AwaitClause g ∷ k) (v ∷ vs) q u → Spelled (Go (ClauseIn g) ∷ k) vs (p ++ q) u
 choice_clause g k vs p (Stated s) q u h c = subst (λ x. Spelled (Go (ClauseIn g) ∷ k) vs (p ++ x) u) (sym c.1) (whole_clause s p [] g k vs c.0 u (choice_is_no_head s h.3) (bare_whole Choice s p h) c.2)
@@ -148,10 +153,13 @@ await_clause_back g vs o = await_through (AwaitClause g) (g (StatementClause (st
 
 add_modifier : (k : List Symbol) (vs : Values) (p : List Step) (v : Value) (q : List Step) (u : Values) → Modifies p v → Spelled (Do Modify ∷ Modifiers ∷ Close ∷ k) (v ∷ vs) q u → Spelled (Modifiers ∷ k) vs (p ++ q) u
 add_modifier k vs p (Modifying m) q u h c =
-    let x = c.4 in
-    (m ∷ c.0, x.0,
-     ap (λ y. y ++ q) h.1 ∙ ap (λ y. pieces_steps (modifier m) ++ y) (c.2 ∙ ap (λ y. modifiers_steps c.0 ++ y) x.1 ∙ sym (append_assoc (modifiers_steps c.0) (Closes ∷ []) x.0)) ∙ sym (append_assoc (pieces_steps (modifier m)) (modifiers_steps c.0 ++ Closes ∷ []) x.0),
-     (h.0, c.3), x.2)
+    let x = c.4 in (
+      m ∷ c.0,
+      x.0,
+      ap (λ y. y ++ q) h.1 ∙ ap (λ y. pieces_steps (modifier m) ++ y) (c.2 ∙ ap (λ y. modifiers_steps c.0 ++ y) x.1 ∙ sym (append_assoc (modifiers_steps c.0) (Closes ∷ []) x.0)) ∙ sym (append_assoc (pieces_steps (modifier m)) (modifiers_steps c.0 ++ Closes ∷ []) x.0),
+      (h.0, c.3),
+      x.2,
+    )
 add_modifier k vs p v q u h c = absurd h
 
 no_modifier : (vs : Values) (o : Option Word) → MoveBack Modifiers vs o (Skips (kept_stated vs))
@@ -202,11 +210,13 @@ no_more vs (Some t) = λ k q u h. ([], q, refl, tt, subst (λ x. Spelled k (Pars
 
 one_more : (vs : Values) → TakesBack false MoreStatements vs vs (Punctuation sign.Colon) (OneStatement ∷ MoreStatements ∷ [])
 one_more vs = λ k q u h.
-    let x = h.4 in
-    (h.0 ∷ x.0, x.1,
-     ap (λ y. mark sign.Colon ∷ y) (h.2 ∙ ap (λ y. pieces_steps (place_pieces h.0) ++ y) x.2 ∙ sym (append_assoc (pieces_steps (place_pieces h.0)) (pieces_steps (each separated x.0)) x.1) ∙ ap (λ y. y ++ x.1) (sym (steps_append (place_pieces h.0) (each separated x.0)))),
-     (tt, pieces_append (place_pieces h.0) (each separated x.0) h.3 x.3),
-     subst (λ y. Spelled k (Parsed y ∷ below vs) x.1 u) (append_assoc (parsed vs) (h.0 ∷ []) x.0) x.4)
+    let x = h.4 in (
+      h.0 ∷ x.0,
+      x.1,
+      ap (λ y. mark sign.Colon ∷ y) (h.2 ∙ ap (λ y. pieces_steps (place_pieces h.0) ++ y) x.2 ∙ sym (append_assoc (pieces_steps (place_pieces h.0)) (pieces_steps (each separated x.0)) x.1) ∙ ap (λ y. y ++ x.1) (sym (steps_append (place_pieces h.0) (each separated x.0)))),
+      (tt, pieces_append (place_pieces h.0) (each separated x.0) h.3 x.3),
+      subst (λ y. Spelled k (Parsed y ∷ below vs) x.1 u) (append_assoc (parsed vs) (h.0 ∷ []) x.0) x.4,
+    )
 
 pub more_statements_back : (vs : Values) (o : Option Word) → MoveBack MoreStatements vs o (more_statements vs o)
 more_statements_back vs o = sign_back MoreStatements false sign.Colon vs o (OneStatement ∷ MoreStatements ∷ []) (Skips (kept_parsed vs)) (one_more vs) (no_more vs o)

@@ -1,16 +1,17 @@
 -- Steps that pieces spell, put together piece by piece from the front.
-use Rattle.std.proofs.Common.{◌≡◌, ℕ, Bool, true, List, [], ◌∷◌, ◌++◌, refl, sym, ap, ◌∙◌, subst, append_assoc}
+use Rattle.std.proofs.Common.{◌≡◌, ℕ, Bool, true, List, [], ◌∷◌, ◌++◌, sym, ap, ◌∙◌, subst, append_assoc}
 use Rattle.std.proofs.lemmas.List.{append-nil}
 use Rattle.basic_tree.specs.declared.names.Name.{Name}
 use Rattle.basic_tree.specs.declared.kinds.Want.{Want}
 use Rattle.basic_tree.specs.SpellingWords.{Named, Number, Step, Plain}
 use Rattle.basic_tree.specs.Trees.{Tree, Variable, StatementTree, ModifierTree}
 use Rattle.basic_tree.specs.SpellingExpressions.{steps_of, Fits, IsTree}
-use Rattle.basic_tree.specs.SpellingPieces.{Piece, Fixed, Expression, NameOf, LiteralOf, Holds, piece_steps, pieces_steps, ArePieces}
+use Rattle.basic_tree.specs.SpellingPieces.{Piece, Fixed, Expression, NameOf, LiteralOf, Holds, pieces_steps, ArePieces}
 use Rattle.basic_tree.specs.SpellingParts.{modifier}
 use Rattle.basic_tree.specs.SpellingStatements.{closings, pieces_of}
 use Rattle.basic_tree.specs.GrammarStack.{Value, Stated, Modifying, Form}
 use Rattle.basic_tree.specs.GrammarSentences.{Class}
+use Rattle.basic_tree.proofs.PieceLists.{steps_append, pieces_append}
 use Rattle.basic_tree.proofs.MachineReads.{Reads}
 use Rattle.basic_tree.proofs.FormLeads.{OfClass, Says, Modifies}
 
@@ -41,16 +42,8 @@ holds e s = record { wanted = (e, s.wanted); spelled = s.spelled }
 
 -- ---- lists of pieces
 
-pub steps_join : (a b : List Piece) → pieces_steps (a ++ b) ≡ pieces_steps a ++ pieces_steps b
-steps_join [] b = refl
-steps_join (x ∷ a) b = ap (λ q. piece_steps x ++ q) (steps_join a b) ∙ sym (append_assoc (piece_steps x) (pieces_steps a) (pieces_steps b))
-
-pub are_joined : (a b : List Piece) → ArePieces a → ArePieces b → ArePieces (a ++ b)
-are_joined [] b h k = k
-are_joined (x ∷ a) b h k = (h.0, are_joined a b h.1 k)
-
 pub joined : (a : List Piece) {b : List Piece} {p q : List Step} → p ≡ pieces_steps a ++ q → ArePieces a → Spells b q → Spells (a ++ b) p
-joined a {b = b} e h s = record { wanted = are_joined a b h s.wanted; spelled = e ∙ ap (λ q. pieces_steps a ++ q) s.spelled ∙ sym (steps_join a b) }
+joined a {b = b} e h s = record { wanted = pieces_append a b h s.wanted; spelled = e ∙ ap (λ q. pieces_steps a ++ q) s.spelled ∙ sym (steps_append a b) }
 
 -- the steps are given by an equation
 pub as_steps : {a : List Piece} {p q : List Step} → p ≡ q → Spells a q → Spells a p
@@ -75,8 +68,8 @@ pub record Starts (pieces : List Piece) (p q : List Step) : Type 0 where
 
 pub one_behind : (a b : List Piece) (p q r : List Step) → Starts a p q → Starts b q r → Starts (a ++ b) p r
 one_behind a b p q r h k = record {
-  wanted = are_joined a b h.wanted k.wanted;
-  spelled = h.spelled ∙ ap (λ q. pieces_steps a ++ q) k.spelled ∙ sym (append_assoc (pieces_steps a) (pieces_steps b) r) ∙ ap (λ s. s ++ r) (sym (steps_join a b));
+  wanted = pieces_append a b h.wanted k.wanted;
+  spelled = h.spelled ∙ ap (λ q. pieces_steps a ++ q) k.spelled ∙ sym (append_assoc (pieces_steps a) (pieces_steps b) r) ∙ ap (λ s. s ++ r) (sym (steps_append a b));
 }
 
 -- ---- statements and modifiers

@@ -8,7 +8,6 @@ use Rattle.basic_tree.specs.SpellingWords.{Item as ItemOf}
 use Rattle.basic_tree.specs.Trees.{Tree, If, Unless, While, Until, ForModifier, For, Next, FnEnd, Data, Result, Read, Restore, Goto, Gosub, Return, OnGoto, OnGosub, OnErrorGoto, Resume, Stop, End, Sleep, Lset, Rset, Kill, Rename}
 use Rattle.basic_tree.specs.SpellingPieces.{Fixed, each}
 use Rattle.basic_tree.specs.SpellingParts.{range}
-use Rattle.basic_tree.specs.SpellingStatements.{items}
 use Rattle.basic_tree.specs.GrammarStack.{Value, Stated, Modifying, TargetItem, LineItem, Targets, LineNumber, Bound, Made, TakeKey, ExprOf, LiteralIn, LiteralIf}
 use Rattle.basic_tree.specs.GrammarForms.{list_form, targets_in, lines_in, says, range_form}
 use Rattle.basic_tree.specs.GrammarSentences.{Head, Simple, for_form, next_form, data_form, result_form, go_form, on_form, lset_form, rset_form}

@@ -1,24 +1,21 @@
 -- The forms of statements: what each expects word by word, and the tree that it makes.
-use Rattle.std.specs.Prelude.{ℕ, ◌&&◌, ◌||◌, nat_lt, not, Bool, true, false, cond, List, [], ◌∷◌, ◌++◌, length, Option, Some, None}
+use Rattle.std.specs.Prelude.{ℕ, ◌&&◌, nat_lt, Bool, true, false, List, [], ◌∷◌, ◌++◌, length, Option, Some, None}
 use Rattle.basic_tree.specs.declared.names.Name.{Name}
 use Rattle.basic_tree.specs.declared.tokens.Keyword.{Keyword}
 use Rattle.basic_tree.specs.declared.tokens.Keyword.TheVariants as keyword
 use Rattle.basic_tree.specs.declared.tokens.Sign.TheVariants as sign
 use Rattle.basic_tree.specs.declared.expressions.Function.{Function}
-use Rattle.basic_tree.specs.declared.kinds.Want.{Want}
 use Rattle.basic_tree.specs.declared.kinds.Want.TheVariants as want
 use Rattle.basic_tree.specs.declared.parts.Shape.{Shape}
 use Rattle.basic_tree.specs.declared.parts.FileShape.{FileShape}
 use Rattle.basic_tree.specs.declared.parts.Separator.TheVariants as separator
 use Rattle.basic_tree.specs.declared.parts.OpenFor.{OpenFor}
-use Rattle.basic_tree.specs.declared.parts.OpenFor.TheVariants as purpose
 use Rattle.basic_tree.specs.SpellingWords.{Word, Key, Punctuation, Named, FnNamed, Number, Quotation, words}
-use Rattle.basic_tree.specs.Trees.{Tree, PrintedTree, ModifierTree, If, Unless, While, Until, ForModifier, PrintItemTree, PrintChannelTree, CloseChannelTree, FieldPartTree, ClauseTree, ElseTree, NoElse, Else, StatementTree, IfThen, IfGoto, For, Next, FnEnd, Data, Dim, DimFile, Def, Let, Result, Print, Input, InputLine, Read, Restore, Goto, Gosub, Return, OnGoto, OnGosub, OnErrorGoto, Resume, Stop, End, Chain, Sleep, Open, Close, Get, Put, Unlock, Field, Lset, Rset, Kill, Rename}
+use Rattle.basic_tree.specs.Trees.{Tree, PrintedTree, PrintItemTree, PrintChannelTree, CloseChannelTree, FieldPartTree, ElseTree, NoElse, Else, StatementTree, Def, Let, Print, Open}
 use Rattle.basic_tree.specs.SpellingExpressions.{steps_of, is_text, want_of}
 use Rattle.basic_tree.specs.SpellingParts.{last_word, may_follow}
-use Rattle.basic_tree.specs.SpellingStatements.{clause_wants_else}
 use Rattle.basic_tree.specs.GrammarWords.{function_of}
-use Rattle.basic_tree.specs.GrammarStack.{Stated, Modifying, Item, TargetItem, ShapeItem, FileItem, NameItem, LineItem, ChannelItem, FieldItem, Sequence, Targets, Shapes, FileShapes, Parameters, Lines, Channels, FieldParts, Limit, LineNumber, Bound, Size, Form, Made, TakeKey, TakeSign, TakeClosing, IfKey, IfSign, ExprOf, ExprIf, TargetOf, NameIn, FnNameIn, LiteralIn, LiteralIf, QuotedIf, ItemIn, MoreItems, MoreOf, MorePrinted, ClauseIn}
+use Rattle.basic_tree.specs.GrammarStack.{Stated, Item, TargetItem, ShapeItem, FileItem, NameItem, LineItem, ChannelItem, FieldItem, Sequence, Targets, Shapes, FileShapes, Parameters, Lines, Channels, FieldParts, LineNumber, Bound, Size, Form, Made, TakeKey, TakeSign, TakeClosing, IfKey, IfSign, ExprOf, TargetOf, NameIn, LiteralIn, MoreOf, MorePrinted, ClauseIn}
 
 -- ---- tests of words
 

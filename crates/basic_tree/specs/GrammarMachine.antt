@@ -12,7 +12,7 @@ use Rattle.basic_tree.specs.declared.kinds.Want.{Want}
 use Rattle.basic_tree.specs.declared.kinds.Want.TheVariants as want
 use Rattle.basic_tree.specs.SpellingWords.{Word, Key, Punctuation, Named, FnNamed, Number, Quotation}
 use Rattle.basic_tree.specs.SpellingWords.{Item as ItemOf}
-use Rattle.basic_tree.specs.Trees.{Tree, Variable, Call, NoTrees, PrintedTree, Value, Tab, PrintItemTree, PrintChannelTree, ClauseTree, LineClause, StatementClause, Print}
+use Rattle.basic_tree.specs.Trees.{Tree, Variable, Call, NoTrees, Value, Tab, PrintItemTree, PrintChannelTree, ClauseTree, LineClause, StatementClause, Print}
 use Rattle.basic_tree.specs.GrammarTables.{sign_level, not_level, operator_level, joins_texts}
 use Rattle.basic_tree.specs.GrammarWords.{operator_of, relation_of, is_same_sign, is_same_keyword}
 use Rattle.basic_tree.specs.SpellingExpressions.{is_text, want_of}

@@ -1,5 +1,5 @@
 -- With which word each statement begins, and its form.
-use Rattle.std.specs.Prelude.{Bool, true, false, List, [], ◌∷◌, Option, Some, None}
+use Rattle.std.specs.Prelude.{true, false, [], ◌∷◌, Option, Some, None}
 use Rattle.basic_tree.specs.declared.tokens.Keyword.{Keyword}
 use Rattle.basic_tree.specs.declared.tokens.Keyword.TheVariants as keyword
 use Rattle.basic_tree.specs.declared.tokens.Sign.TheVariants as sign
