@@ -1,5 +1,8 @@
 -- What passes the test for a word is that word.
-use Rattle.std.proofs.Common.{◌≡◌, true, sym, ap}
+use Rattle.std.proofs.Common.{◌≡◌, ◌||◌, true, refl, sym, ap}
+use Rattle.basic_tree.specs.declared.tokens.Keyword.TheVariants as keyword
+use Rattle.basic_tree.specs.GrammarForms.{is_known, key_begins}
+use Rattle.basic_tree.specs.GrammarWords.{function_of, is_same_keyword}
 use Rattle.basic_tree.specs.declared.tokens.Keyword.{Keyword}
 use Rattle.basic_tree.specs.SpellingWords.{Word, Key, Punctuation, Named, FnNamed, Number, Quotation, Item}
 use Rattle.basic_tree.proofs.FormBack.{same_key}
@@ -13,3 +16,8 @@ is_that_key k (FnNamed t) h = absurd cc
 is_that_key k (Number t) h = absurd cc
 is_that_key k (Quotation t) h = absurd cc
 is_that_key k (Item t) h = absurd cc
+
+-- NOT is no function, and begins a value all the same
+pub not_or_function : (k : Keyword) → (is_same_keyword k keyword.Not || is_known (function_of k)) ≡ key_begins k
+not_or_function keyword.Not = refl
+not_or_function k = refl

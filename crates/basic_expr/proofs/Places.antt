@@ -1,16 +1,14 @@
 -- Where an expression is read or refused, by the grammar: from where the machine stops.
-use Rattle.std.proofs.Common.{◌≡◌, ℕ, ◌<◌, ◌≤◌, List, [], ◌∷◌, length, drop, Ok, Err, refl, ap, ◌∙◌, arith}
+use Rattle.std.proofs.Common.{◌≡◌, ℕ, ◌≤◌, List, [], ◌∷◌, length, drop, Ok, Err, refl, ap, ◌∙◌, arith}
 use Rattle.basic_tree.specs.declared.kinds.Want.{Want}
-use Rattle.basic_tree.specs.declared.tokens.Cause.TheVariants as cause
 use Rattle.basic_tree.specs.SpellingWords.{Word, most_levels}
 use Rattle.basic_tree.specs.Trees.{Tree}
-use Rattle.basic_tree.specs.GrammarPlaces.{IsRead, IsWrong, IsDeep}
+use Rattle.basic_tree.specs.GrammarPlaces.{IsRead}
 use Rattle.basic_tree.specs.GrammarStack.{Term, Values, Symbol, Level, loosest}
-use Rattle.basic_tree.specs.GrammarRun.{Wrong, TooDeep, Outcome, run}
+use Rattle.basic_tree.specs.GrammarRun.{run}
 use Rattle.basic_tree.proofs.MachinePasses.{left}
 use Rattle.basic_tree.proofs.BetweenLemmas.{stops_behind}
 use Rattle.basic_tree.proofs.ExpressionPlaces.{expression_read, expression_wrong, expression_deep}
-use Rattle.basic_values.specs.declared.failures.Trouble.TheVariants as trouble
 use Rattle.basic_expr.specs.declared.failures.Failure.{Failure}
 use Rattle.basic_expr.specs.declared.failures.Failure.TheVariants as failure
 use Rattle.basic_expr.specs.Failures.{IsNear, trouble_of}

@@ -17,9 +17,10 @@ as_word (Item bytes) = spelling.Item bytes.now
 abbrev pub as_words : List Word → List spelling.Word
 as_words words = map as_word words
 
--- a text in quotes has no more bytes than a line may have
+-- a text in quotes or an item has no more bytes than a line may have
 abbrev pub IsShort : Word → Type 0
 IsShort (Quotation bytes) = length bytes.now ≤ 255
+IsShort (Item bytes) = length bytes.now ≤ 255
 IsShort other = Unit {0}
 
 -- how many words a line may have

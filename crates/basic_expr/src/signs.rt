@@ -4,14 +4,15 @@ ghost use Rattle.std.specs.Prelude.{◌≡◌, ◌≤◌, ◌<◌, ◌+◌, ◌�
 ghost use Rattle.basic_expr.specs.Views.{as_word, most_words};
 ghost use Rattle.basic_expr.specs.Reading.{First, IsPrefixed, IsRightLevel, OperatorAt, goes_on, PrefixAt, ReadsSign, RelationAt, Stands, always, exponents, is_key, is_sign, number_atom, signed_level, takes_number};
 ghost use Rattle.basic_tree.specs.GrammarStack.{Level, Exponent};
-ghost use Rattle.basic_tree.specs.GrammarWords.{operator_of, relation_of, is_same_sign};
+ghost use Rattle.basic_tree.specs.GrammarForms.{begins_value, is_known, key_begins};
+ghost use Rattle.basic_tree.specs.GrammarWords.{function_of, operator_of, relation_of, is_same_sign};
 ghost use Rattle.basic_tree.specs.SpellingWords.{Punctuation, Key as KeyWord};
 ghost use Rattle.basic_tree.specs.declared.kinds.Want.TheVariants.{Number};
 
 use crate::failures::Failure;
 use crate::keys::is_same_key;
 use crate::tables::{
-    joins_texts, key_operator, level_of, sign_number, sign_operator, sign_relation,
+    function_of, joins_texts, key_operator, level_of, sign_number, sign_operator, sign_relation,
 };
 use crate::words::{Word, Words};
 use basic_tree::{Keyword, Operator, Relation, Sign};
@@ -204,5 +205,46 @@ pub(crate) fn next_prefix(words: &Words<'_>, place: usize, level: usize) -> Opti
         next_sign(words, place)
     } else {
         next_not(words, place)
+    }
+}
+
+/// Whether a value of the language may begin with a word of the grammar: NOT, or a function.
+#[tactic(auto, using(crate::proofs::KeyNumbers::not_or_function))]
+fn key_begins(key: Keyword) -> bool
+    ensures { result ≡ key_begins key }
+{
+    is_same_key(key, Keyword::Not) || is_function(key)
+}
+
+fn is_function(key: Keyword) -> bool
+    ensures { result ≡ is_known (function_of key) }
+{
+    match function_of(key) {
+        None => false,
+        Some(_) => true,
+    }
+}
+
+fn sign_begins(sign: Sign) -> bool
+    ensures { result ≡ begins_value (Punctuation sign) }
+{
+    match sign {
+        Sign::Opening | Sign::Plus | Sign::Minus => true,
+        _ => false,
+    }
+}
+
+/// Whether an expression may begin with a word.
+pub fn begins_value(word: Word<'_>) -> bool
+    ensures { result ≡ begins_value (as_word word.entry) }
+{
+    match word {
+        Word::Number(value) => value < 32768,
+        Word::Quotation(_) => true,
+        Word::Named(_) => true,
+        Word::FnNamed(_) => true,
+        Word::Punctuation(sign) => sign_begins(sign),
+        Word::Key(key) => key_begins(key),
+        Word::Item(_) => false,
     }
 }

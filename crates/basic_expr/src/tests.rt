@@ -2,9 +2,11 @@
 
 use super::*;
 use basic_scanner::scan;
-use basic_tree::{Keyword, Name, Sign};
-use std::alloc::Global;
+use basic_tree::{Cause, Keyword, Name, Refusal, Sign, Want};
+use basic_values::Trouble;
+use std::alloc::{AllocError, Global};
 use std::process::Abort;
+use std::test::Fail;
 
 const A_TEXT: Name = Name {
     letter: b'A',
@@ -253,4 +255,103 @@ fn lines_have_their_words(rt: HostRuntime) {
     for (line, wanted) in LINES {
         has_words(&rt, rt.alloc(), line, wanted);
     }
+}
+
+// Expressions
+
+/// What an expression of a line is answered: the place behind it, or where it is refused.
+#[derive(Clone, Copy, Debug, PartialEq, Eq)]
+enum Answer {
+    Read(u16),
+    Syntax(u16),
+    TooDeep(u16),
+    Failed,
+}
+
+fn parsed<R: Abort>(rt: &R, alloc: Global, line: &[u8], want: Want) -> Answer {
+    assert!(rt; line.len() <= 255, "a line is too long");
+    let tokens = match scan(alloc, line) {
+        Ok(tokens) => tokens,
+        Err(_) => return Answer::Failed,
+    };
+    match parse_expr(alloc, &tokens, 0, want) {
+        Ok((_, end)) => Answer::Read(end),
+        Err(
+            Trouble::Refused(
+                Refusal {
+                    place,
+                    cause: Cause::Syntax,
+                },
+            ),
+        ) => Answer::Syntax(place),
+        Err(
+            Trouble::Refused(
+                Refusal {
+                    place,
+                    cause: Cause::TooDeep,
+                },
+            ),
+        ) => Answer::TooDeep(place),
+        Err(_) => Answer::Failed,
+    }
+}
+
+/// The longest run of tokens is taken, and what stands behind it is left.
+static EXPRESSIONS: [(&[u8], Want, Answer); 24] = [
+    (b"1%", Want::Number, Answer::Read(1)),
+    (b"A%(1%,2%)^-3%)", Want::Number, Answer::Read(9)),
+    (b"A%(1%,2%)^-3%)", Want::Text, Answer::Syntax(0)),
+    (b"B$+'C'=LEFT$(B$,1%)-1%", Want::Text, Answer::Read(3)),
+    (b"B$+'C'=LEFT$(B$,1%)-1%", Want::Number, Answer::Read(10)),
+    (b"1%+2% TO 3%", Want::Number, Answer::Read(3)),
+    (b"A$ THEN", Want::Number, Answer::Syntax(1)),
+    (b"A$ THEN", Want::Either, Answer::Read(1)),
+    (b"A$", Want::Number, Answer::Syntax(1)),
+    (b"", Want::Either, Answer::Syntax(0)),
+    (b"1%+", Want::Number, Answer::Syntax(2)),
+    (b"1%+NOT 2%", Want::Number, Answer::Syntax(2)),
+    (b"(1%", Want::Number, Answer::Syntax(2)),
+    (b"A%(1%,2%,3%)", Want::Number, Answer::Syntax(5)),
+    (b"LEN(5%)", Want::Number, Answer::Syntax(2)),
+    (b"LEFT(A$)", Want::Text, Answer::Syntax(3)),
+    (b"MID(A$,1%,2%)", Want::Text, Answer::Read(8)),
+    (b"ERR(1%)", Want::Number, Answer::Read(1)),
+    (b"FNA%()", Want::Number, Answer::Syntax(2)),
+    (b"FNA%(1%,B$)+FNC%", Want::Number, Answer::Read(8)),
+    (b"NOT A%=1% OR B%", Want::Number, Answer::Read(6)),
+    (b"A$-B$", Want::Text, Answer::Read(1)),
+    (b"A%=B%=C%", Want::Number, Answer::Read(5)),
+    (b"AND", Want::Either, Answer::Syntax(0)),
+];
+
+#[test]
+fn expressions_are_read_or_refused(rt: HostRuntime) {
+    for (line, want, answer) in &EXPRESSIONS {
+        let found = parsed(&rt, rt.alloc(), line, *want);
+        assert_eq!(rt; (line, found), (line, *answer));
+    }
+}
+
+fn signs(alloc: Global, count: usize) -> Result<Vec<u8>, AllocError> {
+    let mut line = Vec::new(alloc);
+    for _ in 0..count {
+        line.push(b'-')?;
+    }
+    line.push(b'1')?;
+    Ok(line)
+}
+
+#[test]
+fn the_65th_level_is_refused(rt: HostRuntime) -> Result<(), Fail> {
+    let line = signs(rt.alloc(), 64)?;
+    assert_eq!(rt;
+        parsed(&rt, rt.alloc(), &line, Want::Number),
+        Answer::Read(65)
+    );
+    let line = signs(rt.alloc(), 65)?;
+    assert_eq!(rt;
+        parsed(&rt, rt.alloc(), &line, Want::Number),
+        Answer::TooDeep(64)
+    );
+    Ok(())
 }

@@ -96,6 +96,7 @@ fn name_of(bytes: &[u8]) -> Name
 
 /// The keyword that the bytes spell, else an item.
 fn key_or_item(bytes: &[u8]) -> Word<'_>
+    requires { length bytes.now ≤ 255 }
     ensures word { as_word result ≡ key_or_item bytes.entry.now (keyword_of bytes.entry.now) }
     ensures short { IsShort result }
 {
@@ -107,6 +108,7 @@ fn key_or_item(bytes: &[u8]) -> Word<'_>
 
 /// The sign that the bytes spell, else an item.
 fn sign_or_item(bytes: &[u8]) -> Word<'_>
+    requires { length bytes.now ≤ 255 }
     ensures word { as_word result ≡ sign_or_item bytes.entry.now (sign_of bytes.entry.now) }
     ensures short { IsShort result }
 {

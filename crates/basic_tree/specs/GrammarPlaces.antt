@@ -3,7 +3,7 @@ use Rattle.std.specs.Prelude.{◌≡◌, ℕ, ◌+◌, ◌-◌, ◌<◌, ◌≤�
 use Rattle.basic_tree.specs.declared.kinds.Want.{Want}
 use Rattle.basic_tree.specs.declared.tokens.Cause.{Cause}
 use Rattle.basic_tree.specs.declared.tokens.Cause.TheVariants as cause
-use Rattle.basic_tree.specs.SpellingWords.{Word, Step, levels, most_levels, too_deep}
+use Rattle.basic_tree.specs.SpellingWords.{Word, Step, levels, most_levels, too_deep, words}
 use Rattle.basic_tree.specs.Trees.{Tree, LineTree}
 use Rattle.basic_tree.specs.SpellingExpressions.{steps_of, IsExpr}
 use Rattle.basic_tree.specs.SpellingStatements.{IsLine, line_steps}
@@ -89,3 +89,7 @@ pub record IsReadLine (ws : List Word) (l : LineTree) : Type 0 where
 -- no words are two lines
 abbrev pub OneLine : Type 0
 OneLine = (ws : List Word) (l m : LineTree) → IsLine ws l → IsLine ws m → l ≡ m
+
+-- the spelling of a line gives its words back, and so does that of an expression
+abbrev pub SpellingGivesBack : Type 0
+SpellingGivesBack = ((ws : List Word) (l : LineTree) → IsLine ws l → words (line_steps l) ≡ ws) × ((w : Want) (ws : List Word) (t : Tree) → IsExpr w ws t → words (steps_of t) ≡ ws)

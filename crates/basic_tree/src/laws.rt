@@ -1,6 +1,6 @@
 //! What a user relies on, as laws over the definitions: each is the contract of a function that does nothing.
 
-ghost use Rattle.basic_tree.specs.GrammarPlaces.{OneTree, OneLine};
+ghost use Rattle.basic_tree.specs.GrammarPlaces.{OneTree, OneLine, SpellingGivesBack};
 ghost use Rattle.basic_tree.specs.LineVerdicts.{LinesAreJudged};
 ghost use Rattle.basic_tree.specs.TokenLaws.{TokensAreSlices, BlanksMoveTokens, BlanksSeparateTokens, LongestIsTaken};
 
@@ -37,4 +37,9 @@ pub fn one_line()
 /// Every line of bytes has a tree, or is refused for a cause: there is a judge of all lines.
 pub fn lines_are_judged()
     ensures { LinesAreJudged }
+{}
+
+/// A line's words are given back by the spelling of its tree, and so are those of an expression.
+pub fn spelling_gives_back()
+    ensures { SpellingGivesBack }
 {}

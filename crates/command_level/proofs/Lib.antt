@@ -3,3 +3,4 @@ mod DigitLemmas
 mod Ends
 mod SessionLemmas
 mod SumLemmas
+mod WordLemmas

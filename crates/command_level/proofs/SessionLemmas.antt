@@ -5,11 +5,13 @@ use Rattle.monitor_calls.specs.declared.names.Account.{Account}
 use Rattle.monitor_calls.specs.declared.calls.Request.{Request}
 use Rattle.monitor_calls.specs.declared.calls.Request.TheVariants as request
 use Rattle.monitor_calls.specs.declared.calls.Reply.{Reply}
+use Rattle.basic_tree.specs.GrammarJudge.{judge_of}
+use Rattle.basic_tree.proofs.Judged.{judge_of_judges}
 use Rattle.job_model.specs.Job.{Job, job_of, Gives, Breaks, Break, Ended, Gone, Waiting, ◌then◌, asked_by}
 use Rattle.job_model.specs.Asking.{counts_as}
 use Rattle.job_model.specs.Commands.{Login, Command, command_of}
 use Rattle.job_model.specs.Follow.{Does, Starts, Begins, Leads}
-use Rattle.job_model.specs.Talk.{Session, Step, hello, entered, answered, acts, visitor_acts, user_acts, line_acts, session, opening, leave, talk, told as talk_told, Finished}
+use Rattle.job_model.specs.Talk.{Session, Step, hello, entered, answered, acts, visitor_acts, user_acts, line_acts, session, opening, leave, talk, told as talk_told, Finished, IsTalk, BeginsTalk}
 use Rattle.job_model.specs.Texts.{invalid_entry, line_end}
 use Rattle.job_model.proofs.Follows.{still, does_on, does_then, does_from, does_starts, starts_then, starts_from}
 use Rattle.job_model.proofs.Grows.{session_grows}
@@ -50,52 +52,52 @@ module _ (s : Session) (line bytes screen : List ℕ) (command : Command) (same 
   told : command_of line ≡ command
   told = ap command_of (sym same) ∙ sym is
 
-  pub visitor_line : s.account ≡ None → Leads s (shown screen) (line_acts line) (visitor_acts command)
+  pub visitor_line : s.account ≡ None → Leads s (shown screen) (line_acts judge_of line) (visitor_acts command)
   visitor_line none made rest =
-      ap (λ (account : Option Account). acts account (command_of line) (job_of (shown written) made rest)) none
+      ap (λ (account : Option Account). acts judge_of account (command_of line) (job_of (shown written) made rest)) none
       ∙ ap (λ (command : Command). visitor_acts command (job_of (shown written) made rest)) told
       ∙ ap (visitor_acts command) (echoed made rest)
 
-  pub user_line : (account : Account) → s.account ≡ Some account → Leads s (shown screen) (line_acts line) (user_acts command)
+  pub user_line : (account : Account) → s.account ≡ Some account → Leads s (shown screen) (line_acts judge_of line) (user_acts judge_of command)
   user_line account some made rest =
-      ap (λ (account : Option Account). acts account (command_of line) (job_of (shown written) made rest)) some
-      ∙ ap (λ (command : Command). user_acts command (job_of (shown written) made rest)) told
-      ∙ ap (user_acts command) (echoed made rest)
+      ap (λ (account : Option Account). acts judge_of account (command_of line) (job_of (shown written) made rest)) some
+      ∙ ap (λ (command : Command). user_acts judge_of command (job_of (shown written) made rest)) told
+      ∙ ap (user_acts judge_of command) (echoed made rest)
 
 -- THE WHOLE SESSION
 
 -- one key line of those that are left
 pub one_line : (b m a : List Pair) (s t : Session) (keys lines : List (List ℕ)) (i : ℕ) (line : List ℕ) (on : Onward) → drop i keys ≡ line ∷ lines
-    → Does b m opening s (session keys) (session (drop i keys)) → Does m a s t (line_acts line) (goes on) → Does b a opening t (session keys) (λ job. goes on job then λ _. session lines)
+    → Does b m opening s (session judge_of keys) (session judge_of (drop i keys)) → Does m a s t (line_acts judge_of line) (goes on) → Does b a opening t (session judge_of keys) (λ job. goes on job then λ _. session judge_of lines)
 one_line b m a s t keys lines i line on cut so_far this =
-    let rest : Does b m opening s (session keys) (session (line ∷ lines)) = subst (λ (left : List (List ℕ)). Does b m opening s (session keys) (session left)) cut so_far in
-    does_on b m a opening s t (session keys) (session (line ∷ lines)) _ rest (does_then m a s t (line_acts line) (goes on) (λ _. session lines) this)
+    let rest : Does b m opening s (session judge_of keys) (session judge_of (line ∷ lines)) = subst (λ (left : List (List ℕ)). Does b m opening s (session judge_of keys) (session judge_of left)) cut so_far in
+    does_on b m a opening s t (session judge_of keys) (session judge_of (line ∷ lines)) _ rest (does_then m a s t (line_acts judge_of line) (goes on) (λ _. session judge_of lines) this)
 
 -- a key line that memory broke off
 pub line_begun : (b m a : List Pair) (s : Session) (keys lines : List (List ℕ)) (i : ℕ) (line : List ℕ) → drop i keys ≡ line ∷ lines
-    → Does b m opening s (session keys) (session (drop i keys)) → Starts m a s (line_acts line) → Starts b a opening (session keys)
+    → Does b m opening s (session judge_of keys) (session judge_of (drop i keys)) → Starts m a s (line_acts judge_of line) → Starts b a opening (session judge_of keys)
 line_begun b m a s keys lines i line cut so_far this =
-    let rest : Does b m opening s (session keys) (session (line ∷ lines)) = subst (λ (left : List (List ℕ)). Does b m opening s (session keys) (session left)) cut so_far in
-    does_starts b m a opening s (session keys) (session (line ∷ lines)) rest (starts_then m a s (line_acts line) (λ _. session lines) (λ _. session_grows lines) this)
+    let rest : Does b m opening s (session judge_of keys) (session judge_of (line ∷ lines)) = subst (λ (left : List (List ℕ)). Does b m opening s (session judge_of keys) (session judge_of left)) cut so_far in
+    does_starts b m a opening s (session judge_of keys) (session judge_of (line ∷ lines)) rest (starts_then m a s (line_acts judge_of line) (λ _. session judge_of lines) (λ _. session_grows judge_of lines) this)
 
 -- the end of the keys
 pub keys_end : (b m a : List Pair) (s t : Session) (keys : List (List ℕ)) (i : ℕ) → drop i keys ≡ []
-    → Does b m opening s (session keys) (session (drop i keys)) → Does m a s t (leave s.account) (goes onward.Ended) → Does b a opening t (session keys) (goes onward.Ended)
+    → Does b m opening s (session judge_of keys) (session judge_of (drop i keys)) → Does m a s t (leave s.account) (goes onward.Ended) → Does b a opening t (session judge_of keys) (goes onward.Ended)
 keys_end b m a s t keys i none so_far this =
-    let rest : Does b m opening s (session keys) (session []) = subst (λ (left : List (List ℕ)). Does b m opening s (session keys) (session left)) none so_far in
-    does_on b m a opening s t (session keys) (session []) (goes onward.Ended) rest (does_from m a s s t (session []) (leave s.account) (goes onward.Ended) (λ made rest. refl) this)
+    let rest : Does b m opening s (session judge_of keys) (session judge_of []) = subst (λ (left : List (List ℕ)). Does b m opening s (session judge_of keys) (session judge_of left)) none so_far in
+    does_on b m a opening s t (session judge_of keys) (session judge_of []) (goes onward.Ended) rest (does_from m a s s t (session judge_of []) (leave s.account) (goes onward.Ended) (λ made rest. refl) this)
 
 pub end_begun : (b m a : List Pair) (s : Session) (keys : List (List ℕ)) (i : ℕ) → drop i keys ≡ []
-    → Does b m opening s (session keys) (session (drop i keys)) → Starts m a s (leave s.account) → Starts b a opening (session keys)
+    → Does b m opening s (session judge_of keys) (session judge_of (drop i keys)) → Starts m a s (leave s.account) → Starts b a opening (session judge_of keys)
 end_begun b m a s keys i none so_far this =
-    let rest : Does b m opening s (session keys) (session []) = subst (λ (left : List (List ℕ)). Does b m opening s (session keys) (session left)) none so_far in
-    does_starts b m a opening s (session keys) (session []) rest (starts_from m a s s (session []) (leave s.account) (λ made rest. refl) this)
+    let rest : Does b m opening s (session judge_of keys) (session judge_of []) = subst (λ (left : List (List ℕ)). Does b m opening s (session judge_of keys) (session judge_of left)) none so_far in
+    does_starts b m a opening s (session judge_of keys) (session judge_of []) rest (starts_from m a s s (session judge_of []) (leave s.account) (λ made rest. refl) this)
 
 -- a session that has ended is the talk
-pub ended_talk : (b a : List Pair) (t : Session) (keys : List (List ℕ)) (break : Break) → break ≢ Waiting → Does b a opening t (session keys) (λ job. Breaks break job)
-    → (pairs : List Pair) × (a ≡ b ++ pairs) × (talk keys (replies pairs) ≡ (requests pairs, Finished t.screen))
+pub ended_talk : (b a : List Pair) (t : Session) (keys : List (List ℕ)) (break : Break) → break ≢ Waiting → Does b a opening t (session judge_of keys) (λ job. Breaks break job)
+    → (pairs : List Pair) × (a ≡ b ++ pairs) × IsTalk keys (replies pairs) (requests pairs) t.screen
 ended_talk b a t keys break over d =
-    (d.pairs, d.grew, ap (λ (left : List Reply). talk keys left) (sym (append-nil (replies d.pairs))) ∙ ap talk_told (d.means [] []) ∙ said break over)
+    (d.pairs, d.grew, (judge_of, judge_of_judges, ap (λ (left : List Reply). talk judge_of keys left) (sym (append-nil (replies d.pairs))) ∙ ap talk_told (d.means [] []) ∙ said break over))
   where
     said : (break : Break) → break ≢ Waiting → talk_told (Breaks break (job_of t (requests d.pairs) [])) ≡ (requests d.pairs, Finished t.screen)
     said Ended ne = refl
@@ -103,10 +105,10 @@ ended_talk b a t keys break over d =
     said Waiting ne = absurd (ne refl)
 
 -- a session that memory broke off begins the talk
-pub begun_talk : (b a : List Pair) (keys : List (List ℕ)) → Starts b a opening (session keys) → (pairs : List Pair) × (a ≡ b ++ pairs) × Begins (requests pairs) (talk keys (replies pairs)).0
+pub begun_talk : (b a : List Pair) (keys : List (List ℕ)) → Starts b a opening (session judge_of keys) → (pairs : List Pair) × (a ≡ b ++ pairs) × BeginsTalk keys (replies pairs) (requests pairs)
 begun_talk b a keys d =
-    let at : Begins (requests d.pairs) (asked_by (session keys (job_of opening [] (replies d.pairs ++ [])))) = d.begins [] [] in
-    (d.pairs, d.grew, (at.0, ap (λ (left : List Reply). (talk keys left).0) (sym (append-nil (replies d.pairs))) ∙ asked (session keys (job_of opening [] (replies d.pairs ++ []))) ∙ at.1))
+    let at : Begins (requests d.pairs) (asked_by (session judge_of keys (job_of opening [] (replies d.pairs ++ [])))) = d.begins [] [] in
+    (d.pairs, d.grew, (judge_of, judge_of_judges, (at.0, ap (λ (left : List Reply). (talk judge_of keys left).0) (sym (append-nil (replies d.pairs))) ∙ asked (session judge_of keys (job_of opening [] (replies d.pairs ++ []))) ∙ at.1)))
   where
     asked : (step : Step) → (talk_told step).0 ≡ asked_by step
     asked (Gives done job) = refl
@@ -115,9 +117,9 @@ begun_talk b a keys d =
     asked (Breaks Waiting job) = refl
 
 -- the session ended behind a key line
-pub over_talk : (b a : List Pair) (t : Session) (keys lines : List (List ℕ)) (on : Onward) → (on ≡ onward.Ended) ⊎ (on ≡ onward.Expired) → Does b a opening t (session keys) (λ job. goes on job then λ _. session lines)
-    → (pairs : List Pair) × (a ≡ b ++ pairs) × (talk keys (replies pairs) ≡ (requests pairs, Finished t.screen))
+pub over_talk : (b a : List Pair) (t : Session) (keys lines : List (List ℕ)) (on : Onward) → (on ≡ onward.Ended) ⊎ (on ≡ onward.Expired) → Does b a opening t (session judge_of keys) (λ job. goes on job then λ _. session judge_of lines)
+    → (pairs : List Pair) × (a ≡ b ++ pairs) × IsTalk keys (replies pairs) (requests pairs) t.screen
 over_talk b a t keys lines on (inl is) d =
-    ended_talk b a t keys Ended (λ e. cc) (subst (λ (o : Onward). Does b a opening t (session keys) (λ job. goes o job then λ _. session lines)) is d)
+    ended_talk b a t keys Ended (λ e. cc) (subst (λ (o : Onward). Does b a opening t (session judge_of keys) (λ job. goes o job then λ _. session judge_of lines)) is d)
 over_talk b a t keys lines on (inr is) d =
-    ended_talk b a t keys Gone (λ e. cc) (subst (λ (o : Onward). Does b a opening t (session keys) (λ job. goes o job then λ _. session lines)) is d)
+    ended_talk b a t keys Gone (λ e. cc) (subst (λ (o : Onward). Does b a opening t (session judge_of keys) (λ job. goes o job then λ _. session judge_of lines)) is d)

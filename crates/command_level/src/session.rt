@@ -1,22 +1,29 @@
 //! The session of one terminal: its keys, the requests that they make, and its screen.
 
-ghost use Rattle.std.specs.Prelude.{◌≡◌, ℕ, List, IfOk, OnOk, OnErr};
+ghost use Rattle.std.specs.Prelude.{◌≡◌, ◌≤◌, ℕ, List, length, IfOk, OnOk, OnErr};
 ghost use Rattle.monitor_calls.specs.Pairs.{Pair, requests, replies, Grew};
 ghost use Rattle.monitor_calls.specs.declared.calls.Request.TheVariants as request;
+ghost use Rattle.basic_tree.specs.GrammarJudge.{judge_of};
+ghost use Rattle.basic_tree.specs.LineVerdicts.{HasTree};
+ghost use Rattle.job_model.specs.Commands.{print_of};
 ghost use Rattle.job_model.specs.Asking.{counts_as};
-ghost use Rattle.job_model.specs.Follow.{Does, Starts, Begins, Leads};
-ghost use Rattle.job_model.specs.Talk.{answered, entered, hello, log_out, visitor_acts, user_acts, line_acts, leave, opening, talk, Finished};
-ghost use Rattle.command_level.specs.Seen.{seen, login_seen, command_seen};
+ghost use Rattle.job_model.specs.Follow.{Does, Starts, Leads};
+ghost use Rattle.job_model.specs.Talk.{answered, entered, hello, log_out, numbered_text, immediate_text, visitor_acts, user_acts, line_acts, leave, IsTalk, BeginsTalk};
+ghost use Rattle.command_level.specs.Seen.{seen, login_seen, command_seen, IsShort};
 ghost use Rattle.command_level.specs.Onwards.{goes};
 ghost use Rattle.std.specs.Option.{option_map};
 ghost use Rattle.monitor_calls.specs.Volumes.{is_between};
 
-use crate::commands::{Command, command_of};
+use crate::commands::{Command, command_of, print_of};
+use crate::judging::{Verdict, judge, refusal_text};
 use crate::logins::LoginForm;
 use crate::screen::Screen;
-use basic_values::{Fault, KeyLine, NoMemory};
+use basic_values::{Fault, Int, KeyLine, NoMemory};
 use monitor_calls::{Account, Port, Reply, Request};
 use std::alloc::Global;
+
+/// The answer to what a later stage does.
+const NOT_IN_STAGE: &[u8] = b"?Not in this stage\r\n";
 
 /// Whether the session goes on behind a line.
 #[derive(Clone, Copy, Debug, PartialEq, Eq)]
@@ -38,12 +45,12 @@ pub(crate) struct Session {
 /// The session of a terminal with these keys: what it shows when it has ended. It asks the port for what it wants of
 /// the monitor.
 pub fn serve<P: Port>(alloc: Global, keys: &[KeyLine], port: &mut P) -> Result<Screen, NoMemory>
-    // The requests and the screen are those of the talk.
+    // The requests and the screen are those of the talk, whose lines the grammar judges.
     ensures talk { IfOk result (λ screen. (pairs : List Pair) × Grew P.who P.log port.old port.new pairs
-        × (talk keys.now (replies pairs) ≡ (requests pairs, Finished screen))) }
+        × IsTalk keys.now (replies pairs) (requests pairs) screen) }
     // What was asked begins what the talk asks.
     ensures memory { OnErr result ((pairs : List Pair) × Grew P.who P.log port.old port.new pairs
-        × Begins (requests pairs) (talk keys.now (replies pairs)).0) }
+        × BeginsTalk keys.now (replies pairs) (requests pairs)) }
 {
     let mut session = Session {
         account: None,
@@ -68,15 +75,15 @@ impl Session {
         port: &mut P,
     ) -> Result<Onward, NoMemory>
         ensures same { P.who port.new ≡ P.who port.old }
-        ensures means { IfOk result (λ onward. Does (P.log port.old) (P.log port.new) (seen self.old) (seen self.new) (line_acts line.now) (goes onward)) }
-        ensures memory { OnErr result (Starts (P.log port.old) (P.log port.new) (seen self.old) (line_acts line.now)) }
+        ensures means { IfOk result (λ onward. Does (P.log port.old) (P.log port.new) (seen self.old) (seen self.new) (line_acts judge_of line.now) (goes onward)) }
+        ensures memory { OnErr result (Starts (P.log port.old) (P.log port.new) (seen self.old) (line_acts judge_of line.now)) }
     {
         let bytes = line.as_bytes();
         self.screen.echo(bytes)?;
         let command = command_of(bytes);
         match self.account {
-            None => self.visitor_acts(alloc, command, port),
-            Some(_) => self.user_acts(alloc, command, port),
+            None => self.visitor_acts(alloc, &command, port),
+            Some(_) => self.user_acts(alloc, &command, port),
         }
     }
 
@@ -84,18 +91,18 @@ impl Session {
     fn visitor_acts<P: Port>(
         &mut self,
         alloc: Global,
-        command: Command,
+        command: &Command<'_>,
         port: &mut P,
     ) -> Result<Onward, NoMemory>
         ensures same { P.who port.new ≡ P.who port.old }
-        ensures means { IfOk result (λ onward. Does (P.log port.old) (P.log port.new) (seen self.old) (seen self.new) (visitor_acts (command_seen command)) (goes onward)) }
-        ensures memory { OnErr result (Starts (P.log port.old) (P.log port.new) (seen self.old) (visitor_acts (command_seen command))) }
+        ensures means { IfOk result (λ onward. Does (P.log port.old) (P.log port.new) (seen self.old) (seen self.new) (visitor_acts (command_seen command.now)) (goes onward)) }
+        ensures memory { OnErr result (Starts (P.log port.old) (P.log port.new) (seen self.old) (visitor_acts (command_seen command.now))) }
     {
         match command {
-            Command::Hello(form) => self.hello(alloc, form, port),
+            Command::Hello(form) => self.hello(alloc, *form, port),
             Command::Bye => Ok(Onward::Ended),
             Command::BadBye => self.answer(b"?Illegal command\r\n"),
-            Command::Idle | Command::Print(_) | Command::Other => {
+            Command::Idle | Command::Later | Command::Numbered(_) | Command::Immediate(_) => {
                 self.screen.write(b"Please say HELLO\r\n")?;
                 Ok(Onward::Next)
             }
@@ -106,12 +113,13 @@ impl Session {
     fn user_acts<P: Port>(
         &mut self,
         alloc: Global,
-        command: Command,
+        command: &Command<'_>,
         port: &mut P,
     ) -> Result<Onward, NoMemory>
+        requires { IsShort (command_seen command.now) }
         ensures same { P.who port.new ≡ P.who port.old }
-        ensures means { IfOk result (λ onward. Does (P.log port.old) (P.log port.new) (seen self.old) (seen self.new) (user_acts (command_seen command)) (goes onward)) }
-        ensures memory { OnErr result (Starts (P.log port.old) (P.log port.new) (seen self.old) (user_acts (command_seen command))) }
+        ensures means { IfOk result (λ onward. Does (P.log port.old) (P.log port.new) (seen self.old) (seen self.new) (user_acts judge_of (command_seen command.now)) (goes onward)) }
+        ensures memory { OnErr result (Starts (P.log port.old) (P.log port.new) (seen self.old) (user_acts judge_of (command_seen command.now))) }
     {
         match command {
             Command::Hello(_) => self.answer(b"?Already logged in\r\n"),
@@ -121,11 +129,44 @@ impl Session {
             }
             Command::BadBye => self.answer(b"?Illegal command\r\n"),
             Command::Idle => Ok(Onward::Next),
-            Command::Print(value) => {
+            Command::Later => self.answer(NOT_IN_STAGE),
+            Command::Numbered(statement) => self.store(alloc, statement),
+            Command::Immediate(statement) => self.run(alloc, statement),
+        }
+    }
+
+    /// A program line, of which nothing is kept.
+    fn store(&mut self, alloc: Global, statement: &[u8]) -> Result<Onward, NoMemory>
+        requires { length statement.now ≤ 255 }
+        ensures means { IfOk result (λ onward. Leads (seen self.old) (seen self.new) (answered (numbered_text (judge_of statement.now))) (goes onward)) }
+    {
+        match judge(alloc, statement)? {
+            Verdict::RefusedFor(cause) => self.answer(refusal_text(cause)),
+            Verdict::HasTree => self.answer(NOT_IN_STAGE),
+        }
+    }
+
+    /// A line of immediate mode, of which PRINT of one sum of literals runs.
+    fn run(&mut self, alloc: Global, statement: &[u8]) -> Result<Onward, NoMemory>
+        requires { length statement.now ≤ 255 }
+        ensures means { IfOk result (λ onward. Leads (seen self.old) (seen self.new) (answered (immediate_text (judge_of statement.now) (print_of statement.now))) (goes onward)) }
+    {
+        match judge(alloc, statement)? {
+            Verdict::RefusedFor(cause) => self.answer(refusal_text(cause)),
+            Verdict::HasTree => self.print(print_of(statement)),
+        }
+    }
+
+    /// The value, where there is one to print.
+    fn print(&mut self, value: Option<Int>) -> Result<Onward, NoMemory>
+        ensures means { IfOk result (λ onward. Leads (seen self.old) (seen self.new) (answered (immediate_text HasTree value)) (goes onward)) }
+    {
+        match value {
+            Some(value) => {
                 self.screen.echo(value.printed().as_slice())?;
                 self.answer(b"")
             }
-            Command::Other => self.answer(b"?Not in this stage\r\n"),
+            None => self.answer(NOT_IN_STAGE),
         }
     }
 

@@ -5,9 +5,10 @@ use Rattle.monitor_calls.specs.declared.calls.Request.{Request}
 use Rattle.monitor_calls.specs.declared.calls.Request.TheVariants as request
 use Rattle.monitor_calls.specs.declared.calls.Reply.{Reply}
 use Rattle.monitor_calls.specs.declared.calls.Reply.TheVariants.{Done, Failed, Expired}
+use Rattle.basic_tree.specs.LineVerdicts.{Judge}
 use Rattle.job_model.specs.Job.{Job, Got, Gives, Breaks, ◌then◌, asked_by}
 use Rattle.job_model.specs.Asking.{ask, reply_from}
-use Rattle.job_model.specs.Commands.{Login, Command, Hello, Bye, BadBye, Idle, Print, Other, command_of}
+use Rattle.job_model.specs.Commands.{Login, Command, Hello, Bye, BadBye, Idle, Later, Numbered, Immediate, command_of}
 use Rattle.job_model.specs.Follow.{Begins}
 use Rattle.job_model.specs.Talk.{says, entered, hello, log_out, leave, acts, visitor_acts, user_acts, line_acts, session}
 use Rattle.job_model.specs.Texts.{line_end}
@@ -49,24 +50,26 @@ visitor_grows (Hello login) job = hello_grows login job
 visitor_grows Bye job = begins_same job.requests
 visitor_grows BadBye job = begins_same job.requests
 visitor_grows Idle job = begins_same job.requests
-visitor_grows (Print value) job = begins_same job.requests
-visitor_grows Other job = begins_same job.requests
+visitor_grows Later job = begins_same job.requests
+visitor_grows (Numbered statement) job = begins_same job.requests
+visitor_grows (Immediate statement) job = begins_same job.requests
 
-pub user_grows : (command : Command) → Grows (user_acts command)
-user_grows (Hello login) job = begins_same job.requests
-user_grows Bye job = log_out_grows job
-user_grows BadBye job = begins_same job.requests
-user_grows Idle job = begins_same job.requests
-user_grows (Print value) job = begins_same job.requests
-user_grows Other job = begins_same job.requests
+pub user_grows : (judge : Judge) (command : Command) → Grows (user_acts judge command)
+user_grows judge (Hello login) job = begins_same job.requests
+user_grows judge Bye job = log_out_grows job
+user_grows judge BadBye job = begins_same job.requests
+user_grows judge Idle job = begins_same job.requests
+user_grows judge Later job = begins_same job.requests
+user_grows judge (Numbered statement) job = begins_same job.requests
+user_grows judge (Immediate statement) job = begins_same job.requests
 
-pub acts_grow : (account : Option Account) (command : Command) → Grows (acts account command)
-acts_grow None command job = visitor_grows command job
-acts_grow (Some account) command job = user_grows command job
+pub acts_grow : (judge : Judge) (account : Option Account) (command : Command) → Grows (acts judge account command)
+acts_grow judge None command job = visitor_grows command job
+acts_grow judge (Some account) command job = user_grows judge command job
 
-pub line_grows : (line : List ℕ) → Grows (line_acts line)
-line_grows line job = acts_grow job.state.account (command_of line) (says (line ++ line_end) job)
+pub line_grows : (judge : Judge) (line : List ℕ) → Grows (line_acts judge line)
+line_grows judge line job = acts_grow judge job.state.account (command_of line) (says (line ++ line_end) job)
 
-pub session_grows : (lines : List (List ℕ)) → Grows (session lines)
-session_grows [] job = leave_grows job.state.account job
-session_grows (line ∷ lines) job = then_grows (line_acts line) _ (line_grows line) (λ u. session_grows lines) job
+pub session_grows : (judge : Judge) (lines : List (List ℕ)) → Grows (session judge lines)
+session_grows judge [] job = leave_grows job.state.account job
+session_grows judge (line ∷ lines) job = then_grows (line_acts judge line) _ (line_grows judge line) (λ u. session_grows judge lines) job

@@ -1,15 +1,18 @@
 -- The talk of a terminal: the requests that its session makes and the bytes that it shows, given its keys and the replies.
-use Rattle.std.specs.Prelude.{ℕ, List, [], ◌∷◌, ◌++◌, Option, Some, None}
+-- A judge says of each line that is a statement whether the grammar has a tree for it, or why it refuses it.
+use Rattle.std.specs.Prelude.{◌≡◌, ℕ, List, [], ◌∷◌, ◌++◌, Option, Some, None, ℤ}
 use Rattle.monitor_calls.specs.declared.names.Account.{Account}
 use Rattle.monitor_calls.specs.declared.calls.Request.{Request}
 use Rattle.monitor_calls.specs.declared.calls.Request.TheVariants as request
 use Rattle.monitor_calls.specs.declared.calls.Reply.{Reply}
 use Rattle.monitor_calls.specs.declared.calls.Reply.TheVariants.{Done, Failed, Expired}
 use Rattle.basic_values.specs.Numbers.{printed}
+use Rattle.basic_tree.specs.LineVerdicts.{Verdict, HasTree, RefusedFor, Judge, Judges}
 use Rattle.job_model.specs.Job.{Job, job_of, Got, Gives, Breaks, Ended, Gone, Waiting, ◌then◌}
 use Rattle.job_model.specs.Asking.{ask}
-use Rattle.job_model.specs.Commands.{Login, Command, Hello, Bye, BadBye, Idle, Print, Other, command_of}
-use Rattle.job_model.specs.Texts.{line_end, ready, please_say_hello, invalid_entry, already_logged_in, illegal_command, not_in_stage, bye, job_expired}
+use Rattle.job_model.specs.Commands.{Login, Command, Hello, Bye, BadBye, Idle, Later, Numbered, Immediate, command_of, print_of}
+use Rattle.job_model.specs.Follow.{Begins}
+use Rattle.job_model.specs.Texts.{line_end, ready, please_say_hello, invalid_entry, already_logged_in, illegal_command, not_in_stage, bye, job_expired, refusal_text}
 
 -- the account that the session acts for, or none before its login, and the bytes on the screen
 pub record Session : Type 0 where
@@ -48,34 +51,47 @@ abbrev pub leave : Option Account → Job Session → Step
 leave None job = Breaks Ended job
 leave (Some account) job = log_out job
 
+-- a program line: it is refused, or it would be stored
+abbrev pub numbered_text : Verdict → List ℕ
+numbered_text (RefusedFor cause) = refusal_text cause
+numbered_text HasTree = not_in_stage
+
+-- a line of immediate mode: it is refused, or it is done where it is PRINT of one sum of literals
+abbrev pub immediate_text : Verdict → Option ℤ → List ℕ
+immediate_text (RefusedFor cause) value = refusal_text cause
+immediate_text HasTree (Some value) = printed value ++ line_end
+immediate_text HasTree None = not_in_stage
+
 abbrev pub visitor_acts : Command → Job Session → Step
 visitor_acts (Hello login) job = hello login job
 visitor_acts Bye job = Breaks Ended job
 visitor_acts BadBye job = answered illegal_command job
 visitor_acts Idle job = Gives tt (says please_say_hello job)
-visitor_acts (Print value) job = Gives tt (says please_say_hello job)
-visitor_acts Other job = Gives tt (says please_say_hello job)
+visitor_acts Later job = Gives tt (says please_say_hello job)
+visitor_acts (Numbered statement) job = Gives tt (says please_say_hello job)
+visitor_acts (Immediate statement) job = Gives tt (says please_say_hello job)
 
-abbrev pub user_acts : Command → Job Session → Step
-user_acts (Hello login) job = answered already_logged_in job
-user_acts Bye job = log_out job
-user_acts BadBye job = answered illegal_command job
-user_acts Idle job = Gives tt job
-user_acts (Print value) job = answered (printed value ++ line_end) job
-user_acts Other job = answered not_in_stage job
+abbrev pub user_acts : Judge → Command → Job Session → Step
+user_acts judge (Hello login) job = answered already_logged_in job
+user_acts judge Bye job = log_out job
+user_acts judge BadBye job = answered illegal_command job
+user_acts judge Idle job = Gives tt job
+user_acts judge Later job = answered not_in_stage job
+user_acts judge (Numbered statement) job = answered (numbered_text (judge statement)) job
+user_acts judge (Immediate statement) job = answered (immediate_text (judge statement) (print_of statement)) job
 
-abbrev pub acts : Option Account → Command → Job Session → Step
-acts None command job = visitor_acts command job
-acts (Some account) command job = user_acts command job
+abbrev pub acts : Judge → Option Account → Command → Job Session → Step
+acts judge None command job = visitor_acts command job
+acts judge (Some account) command job = user_acts judge command job
 
 -- one key line: its echo, and what it asks for
-abbrev pub line_acts : List ℕ → Job Session → Step
-line_acts line job = acts job.state.account (command_of line) (says (line ++ line_end) job)
+abbrev pub line_acts : Judge → List ℕ → Job Session → Step
+line_acts judge line job = acts judge job.state.account (command_of line) (says (line ++ line_end) job)
 
 -- the key lines one after another, and then the end of the keys
-abbrev pub session : List (List ℕ) → Job Session → Step
-session [] job = leave job.state.account job
-session (line ∷ lines) job = line_acts line job then λ _ job. session lines job
+abbrev pub session : Judge → List (List ℕ) → Job Session → Step
+session judge [] job = leave job.state.account job
+session judge (line ∷ lines) job = line_acts judge line job then λ _ job. session judge lines job
 
 -- nobody is logged in, and nothing was written
 abbrev pub opening : Session
@@ -92,5 +108,13 @@ told (Breaks Ended job) = (job.requests, Finished job.state.screen)
 told (Breaks Gone job) = (job.requests, Finished job.state.screen)
 told (Breaks Waiting job) = (job.requests, Waits)
 
-abbrev pub talk : List (List ℕ) → List Reply → List Request × Outcome
-talk keys replies = told (session keys (job_of opening [] replies))
+abbrev pub talk : Judge → List (List ℕ) → List Reply → List Request × Outcome
+talk judge keys replies = told (session judge keys (job_of opening [] replies))
+
+-- with a judge that judges by the grammar, these keys and replies make these requests, and the screen at the end
+abbrev pub IsTalk : List (List ℕ) → List Reply → List Request → List ℕ → Type 0
+IsTalk keys replies requests screen = (judge : Judge) × Judges judge × (talk judge keys replies ≡ (requests, Finished screen))
+
+-- with such a judge, these requests begin what the talk asks
+abbrev pub BeginsTalk : List (List ℕ) → List Reply → List Request → Type 0
+BeginsTalk keys replies requests = (judge : Judge) × Judges judge × Begins requests (talk judge keys replies).0

@@ -6,7 +6,7 @@ use Rattle.monitor_calls.specs.Pairs.{requests, replies}
 use Rattle.monitor_calls.specs.Proper.{Proper}
 use Rattle.monitor_model.specs.State as monitor
 use Rattle.monitor_model.specs.History.{Legal, part_of}
-use Rattle.job_model.specs.Talk.{talk, Finished}
+use Rattle.job_model.specs.Talk.{IsTalk}
 use Rattle.deck_model.specs.Deck.{Deck, Terminal}
 use Rattle.deck_model.specs.Spelling.{Spelled}
 use Rattle.deck_model.specs.Report.{report, good_line}
@@ -48,12 +48,13 @@ ends left taken read_faults source source' given write_faults sink sink' = recor
 
 -- THE HEADLINE
 
--- each terminal's part of the history, by its number, is what its talk makes, and its screen is what the talk shows
+-- each terminal's part of the history, by its number, is what its talk makes, and its screen is what the talk shows; each
+-- talk is that of a judge of lines that judges by the grammar
 abbrev pub AllTalk : List Entry → ℕ → List Terminal → List (List ℕ) → Type 0
 AllTalk history job [] screens = screens ≡ []
 AllTalk history job (terminal ∷ terminals) [] = ⊥
 AllTalk history job (terminal ∷ terminals) (screen ∷ screens) =
-    (talk terminal.keys (replies (part_of job history)) ≡ (requests (part_of job history), Finished screen)) × AllTalk history (suc job) terminals screens
+    IsTalk terminal.keys (replies (part_of job history)) (requests (part_of job history)) screen × AllTalk history (suc job) terminals screens
 
 -- a run of a deck: the monitor answered one call at a time, from the deck's opening state, and each job asked what its
 -- terminal's keys make given the replies

@@ -4,7 +4,7 @@ ghost use Rattle.std.specs.Prelude.{◌≡◌, [], length, IfOk};
 ghost use Rattle.monitor_calls.specs.Pairs.{requests, replies};
 ghost use Rattle.monitor_calls.specs.Proper.{Proper};
 ghost use Rattle.monitor_model.specs.History.{Legal, part_of};
-ghost use Rattle.job_model.specs.Talk.{talk, Finished};
+ghost use Rattle.job_model.specs.Talk.{IsTalk};
 ghost use Rattle.deck_model.specs.Deck.{IsDeck};
 ghost use Rattle.rsts.specs.Decks.{deck_of};
 ghost use Rattle.rsts.specs.Headline.{IsRun};
@@ -75,8 +75,7 @@ fn run_terminal<P: Pacer>(
     requires { port.history ≡ [] }
     ensures legal { IfOk result (λ ran. Legal port.opening ran.1.history.items) }
     ensures proper { IfOk result (λ ran. Proper ran.1.history.items) }
-    ensures talk { IfOk result (λ ran. talk terminal.now.keys.items (replies (part_of port.job ran.1.history.items))
-        ≡ (requests (part_of port.job ran.1.history.items), Finished ran.0)) }
+    ensures talk { IfOk result (λ ran. IsTalk terminal.now.keys.items (replies (part_of port.job ran.1.history.items)) (requests (part_of port.job ran.1.history.items)) ran.0) }
 {
     let mut port = PacedPort {
         port,

@@ -7,6 +7,7 @@ use super::*;
 use rsts_io::{IdlePacer, MemorySink, MemorySource, PlainSink, PlainSource, StdSink, StdSource};
 use std::io;
 use std::io::{Read, Write};
+use std::process::Abort;
 use std::test::Fail;
 
 const HEAD: &[u8] = b"RSTS-DECK 1\nDISK 8\nACCOUNT 100,5 DEMO 100\nTERMINAL T1\n";
@@ -159,6 +160,57 @@ fn a_failing_sink_leaves_a_proper_front(rt: HostRuntime) -> Result<(), Fail> {
         assert_eq!(rt; ended.written.as_slice(), want);
     }
     Ok(())
+}
+
+/// Asserts what the program shows of one line behind the login, in front of CR LF and Ready.
+fn assert_line(rt: &(impl AllocGlobal + Abort), line: &str, answer: &str) -> Result<(), Fail> {
+    let alloc = rt.alloc();
+    let mut deck = HEAD.to_vec(alloc)?;
+    deck.extend_from_slice(b">HELLO 100,5;DEMO\n>")?;
+    deck.extend_from_slice(line.as_bytes())?;
+    deck.extend_from_slice(b"\n>BYE\nEND\n")?;
+    let screen = format!(in alloc;
+        "HELLO 100,5;DEMO\r\nReady\r\n{line}\r\n{answer}\r\nReady\r\nBYE\r\nBye\r\n"
+    )?;
+    let count = screen.len();
+    let want = format!(in alloc; "TERMINAL T1 {count}\n{screen}\n")?;
+    let ended = call(alloc, "run", deck.as_slice(), &[], &[])?;
+    assert_eq!(rt;
+        ended.written.as_slice(),
+        want.as_bytes(),
+        "of the line {line:?}"
+    );
+    assert_eq!(rt; ended.status, 0);
+    Ok(())
+}
+
+#[test]
+fn lines_are_judged_by_the_grammar(rt: HostRuntime) -> Result<(), Fail> {
+    for (line, answer) in [
+        ("PRINT A", "?Floating variable"),
+        ("PRINT 1.5", "?Floating literal"),
+        ("PRINT 40000", "?Number too wide"),
+        ("PRINT \"AB", "?Open string"),
+        ("PRINT 1%+", "?Syntax error"),
+        ("&", "?Stray byte"),
+        ("10 PRINT A", "?Floating variable"),
+        ("10 PRINT 1%", "?Not in this stage"),
+        ("GOTO 10", "?Not in this stage"),
+        ("LIST", "?Not in this stage"),
+        ("PRINT (2%)", "?Not in this stage"),
+        ("print 2 + 3%", " 5 "),
+    ] {
+        assert_line(&rt, line, answer)?;
+    }
+    let mut line = String::from_str(rt.alloc(), "PRINT ")?;
+    for _ in 0..65 {
+        line.push_str("(")?;
+    }
+    line.push_str("1%")?;
+    for _ in 0..65 {
+        line.push_str(")")?;
+    }
+    assert_line(&rt, line.as_str(), "?Expression too deep")
 }
 
 /// Runs an input between ends in memory, and tells how that ended.

@@ -1,9 +1,8 @@
 use Rattle.std.proofs.Common.{◌≡◌, ℕ, ◌+◌, ◌<◌, suc, ◌∷◌, List, length, drop, get_or, sym, ap, ◌∙◌, add-one, drop-cons, arith}
 use Rattle.std.proofs.Math.ListN.{drop_of_length-le}
 use Rattle.monitor_calls.specs.Pairs.{Pair, requests, replies, Grew}
-use Rattle.job_model.specs.Follow.{Begins}
 use Rattle.job_model.specs.Job.{Ended}
-use Rattle.job_model.specs.Talk.{talk}
+use Rattle.job_model.specs.Talk.{BeginsTalk}
 use Rattle.command_level.specs.Seen.{seen}
 use Rattle.command_level.proofs.Ends.{on_err}
 use Rattle.command_level.proofs.SessionLemmas.{one_line, line_begun, keys_end, end_begun, ended_talk, begun_talk, over_talk}
@@ -21,7 +20,7 @@ returns-in_err-take_line-clause-memory g c =
     let before = g.P.Port.log c.args.port.now in
     let after = g.P.Port.log c.take_line.new.port in
     let made = begun_talk before after keys (line_begun before (g.P.Port.log c.loop-line.port) after (seen c.loop-line.session) keys (drop (i + 1) keys) i c.line-item.result (cut_at keys i c.line-item.result (omega arith) c.line-item.is) c.loop-line.invariant.1 c.in_err-take_line.ensures.memory) in
-    let begun : (pairs : List Pair) × Grew g.P.Port.who g.P.Port.log c.args.port.now c.take_line.new.port pairs × Begins (requests pairs) (talk keys (replies pairs)).0 = (made.0, (c.in_err-take_line.ensures.same ∙ c.loop-line.invariant.0, made.1), made.2) in
+    let begun : (pairs : List Pair) × Grew g.P.Port.who g.P.Port.log c.args.port.now c.take_line.new.port pairs × BeginsTalk keys (replies pairs) (requests pairs) = (made.0, (c.in_err-take_line.ensures.same ∙ c.loop-line.invariant.0, made.1), made.2) in
     on_err _ begun
 
 pub returns-in-Ended : goal.returns-in-Ended
@@ -41,7 +40,7 @@ returns-in_err-leave-clause-memory g c =
     let before = g.P.Port.log c.args.port.now in
     let after = g.P.Port.log c.leave.new.port in
     let made = begun_talk before after keys (end_begun before (g.P.Port.log c.loop-line.port) after (seen c.loop-line.session) keys i (drop_of_length-le keys (omega arith)) c.loop-line.invariant.1 c.in_err-leave.ensures.memory) in
-    let begun : (pairs : List Pair) × Grew g.P.Port.who g.P.Port.log c.args.port.now c.leave.new.port pairs × Begins (requests pairs) (talk keys (replies pairs)).0 = (made.0, (c.in_err-leave.ensures.same ∙ c.loop-line.invariant.0, made.1), made.2) in
+    let begun : (pairs : List Pair) × Grew g.P.Port.who g.P.Port.log c.args.port.now c.leave.new.port pairs × BeginsTalk keys (replies pairs) (requests pairs) = (made.0, (c.in_err-leave.ensures.same ∙ c.loop-line.invariant.0, made.1), made.2) in
     on_err _ begun
 
 pub returns-clause-talk : goal.returns-clause-talk

@@ -13,11 +13,11 @@ use Rattle.command_level.proofs.session.Session.visitor_acts.Goals as goal
 pub returns-in-BadBye-clause-means : goal.returns-in-BadBye-clause-means
 returns-in-BadBye-clause-means g c =
     ok_map c.answer.result
-    (λ on leads. answered_does _ (seen c.args.self.now) (seen c.answer.new.self) (visitor_acts (command_seen c.args.command)) illegal_command on (λ job. ap (λ (command : Command). visitor_acts (command_seen command) job) c.in-BadBye.is) leads)
+    (λ on leads. answered_does _ (seen c.args.self.now) (seen c.answer.new.self) (visitor_acts (command_seen c.args.command.now)) illegal_command on (λ job. ap (λ (command : Command). visitor_acts (command_seen command) job) c.in-BadBye.is) leads)
     c.answer.ensures.means
 
 pub returns-in-Hello-clause-memory : goal.returns-in-Hello-clause-memory
 returns-in-Hello-clause-memory g c =
     err_map c.hello.result
-    (starts_from _ _ (seen c.args.self.now) (seen c.args.self.now) (visitor_acts (command_seen c.args.command)) (hello (option_map login_seen c.in-Hello.form)) (λ made rest. ap (λ (command : Command). visitor_acts (command_seen command) (job_of (seen c.args.self.now) made rest)) c.in-Hello.is))
+    (starts_from _ _ (seen c.args.self.now) (seen c.args.self.now) (visitor_acts (command_seen c.args.command.now)) (hello (option_map login_seen c.in-Hello.form)) (λ made rest. ap (λ (command : Command). visitor_acts (command_seen command) (job_of (seen c.args.self.now) made rest)) c.in-Hello.is))
     c.hello.ensures.memory

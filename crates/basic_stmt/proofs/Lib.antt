@@ -1,0 +1,11 @@
+pub mod ChainSteps
+pub mod ClauseSteps
+pub mod ListSteps
+pub mod ModifierSteps
+pub mod ParsedLines
+pub mod Parts
+pub mod PlainSteps
+pub mod PrintSteps
+pub mod SentencePlaces
+pub mod Steps
+pub mod TargetSteps
