@@ -162,3 +162,34 @@ fn failures_have_their_words(rt: HostRuntime) {
         assert_eq!(rt; halt.text(), text);
     }
 }
+
+#[test]
+fn numbers_stand_in_their_range(rt: HostRuntime) {
+    let rows = [
+        (b"0".as_slice(), Some(0)),
+        (b"7", Some(7)),
+        (b"254", Some(254)),
+        (b"255", None),
+        (b"4294967297", None),
+        (b"007", None),
+        (b"00", None),
+        (b"", None),
+        (b"+7", None),
+        (b"-7", None),
+        (b" 7", None),
+        (b"7 ", None),
+        (b"7%", None),
+        (b"99999999999999999999", None),
+    ];
+    for (text, number) in rows {
+        assert_eq!(rt; number_between(0, 254, text), number, "{text:?}");
+    }
+    let edges = [
+        (b"2".as_slice(), None),
+        (b"3", Some(3)),
+        (b"4294967295", Some(4294967295)),
+    ];
+    for (text, number) in edges {
+        assert_eq!(rt; number_between(3, 4294967295, text), number, "{text:?}");
+    }
+}

@@ -20,20 +20,25 @@ fn entry(project: u8, programmer: u8, password: &[u8], limit: u16) -> Result<Acc
 
 #[test]
 fn texts_are_taken_in_their_ranges(rt: HostRuntime) {
-    for (text, is_short, is_name) in [
-        (b"".as_slice(), true, false),
-        (b"DEMO7".as_slice(), true, true),
-        (b"demo7".as_slice(), true, false),
-        (b"ABCDEF".as_slice(), true, true),
-        (b"ABCDEFG".as_slice(), false, true),
-        (b"ABCDEFGH".as_slice(), false, true),
-        (b"ABCDEFGHI".as_slice(), false, false),
-        (b"A B".as_slice(), false, false),
+    for (text, is_short, is_password, is_name) in [
+        (b"".as_slice(), true, false, false),
+        (b"DEMO7".as_slice(), true, true, true),
+        (b"demo7".as_slice(), true, false, false),
+        (b"ABCDEF".as_slice(), true, true, true),
+        (b"ABCDEFG".as_slice(), false, false, true),
+        (b"ABCDEFGH".as_slice(), false, false, true),
+        (b"ABCDEFGHI".as_slice(), false, false, false),
+        (b"A B".as_slice(), false, false, false),
     ] {
         assert_eq!(rt;
             Short::of(text).is_some(),
             is_short,
             "as a short text: {text:?}"
+        );
+        assert_eq!(rt;
+            Short::password(text).is_some(),
+            is_password,
+            "as a password: {text:?}"
         );
         assert_eq!(rt;
             TerminalName::of(text).is_some(),
