@@ -26,7 +26,7 @@ wanted w = Level loosest w ∷ []
 -- ---- one expression is expected
 
 -- it is a tree's steps
-is_tree : (w : Want) (x : List Step) (u : Values) → Spelled (wanted w) [] x u → (t : Tree) × (x ≡ steps_of t) × IsExpr w (words x) t × (Term t ∷ [] ≡ u)
+pub is_tree : (w : Want) (x : List Step) (u : Values) → Spelled (wanted w) [] x u → (t : Tree) × (x ≡ steps_of t) × IsExpr w (words x) t × (Term t ∷ [] ≡ u)
 is_tree w x u s =
     let e = s.2 ∙ ap (λ y. steps_of s.0 ++ y) s.4.0 ∙ append-nil (steps_of s.0) in
     (s.0, e, record { tree = s.3.tree; kind = s.3.kind; spelling = ap (λ y. words y) e }, s.4.1)

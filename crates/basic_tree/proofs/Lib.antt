@@ -3,6 +3,7 @@ mod PlaceExamples
 mod SpellingExamples
 mod TokenExamples
 pub mod BetweenLemmas
+pub mod DeepLevels
 pub mod ExpressionPlaces
 pub mod ExpressionSymbols
 pub mod FormAssignments
@@ -25,6 +26,7 @@ pub mod Judged
 pub mod LineLeads
 pub mod LineLevels
 pub mod LineModified
+pub mod LevelsSettled
 pub mod LinePlaces
 pub mod LineReads
 pub mod LineSteps
@@ -45,6 +47,7 @@ pub mod MachineStops
 pub mod MachineTrees
 pub mod MachineTurns
 pub mod MoveLemmas
+pub mod OneAnswer
 pub mod OneLine
 pub mod OneTree
 pub mod PieceLists

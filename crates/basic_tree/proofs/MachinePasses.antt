@@ -90,11 +90,12 @@ pub record Passes (p : List Word) (n : ℕ) (k : List Symbol) (vs : Values) (n' 
   pub runs : (d : ℕ) (x : List Word) → run (n + d) (p ++ x) k vs ≡ run (n' + d) x k' vs'
   pub spells : (q : List Step) (u : Values) → Spelled k' vs' q u → Spelled k vs (steps ++ q) u
 
-pub passes : (p r : List Word) (n : ℕ) (k : List Symbol) (vs : Values) → left (run n (p ++ r) k vs) ≡ r → (n' : ℕ) × (k' : List Symbol) × (vs' : Values) × Passes p n k vs n' k' vs'
+-- where the machine does not stop in front of them
+pub passes_front : (p r : List Word) (n : ℕ) (k : List Symbol) (vs : Values) → length (left (run n (p ++ r) k vs)) ≤ length r → (n' : ℕ) × (k' : List Symbol) × (vs' : Values) × Passes p n k vs n' k' vs'
 unfolding run
-passes [] r n k vs h = (n, k, vs, record { steps = []; spelled = refl; counts = refl; runs = λ d x. refl; spells = λ q u s. s })
-passes (t ∷ p) r n k vs h = go (turn k n vs (Some t)) refl h (λ m b a. passes p r m b a) where
-  go : (x : Turn) → turn k n vs (Some t) ≡ x → left (turned x (t ∷ (p ++ r)) (λ m vs' k'. run m (p ++ r) k' vs')) ≡ r → ((m : ℕ) (b : List Symbol) (a : Values) → left (run m (p ++ r) b a) ≡ r → (n' : ℕ) × (k' : List Symbol) × (vs' : Values) × Passes p m b a n' k' vs') → (n' : ℕ) × (k' : List Symbol) × (vs' : Values) × Passes (t ∷ p) n k vs n' k' vs'
+passes_front [] r n k vs h = (n, k, vs, record { steps = []; spelled = refl; counts = refl; runs = λ d x. refl; spells = λ q u s. s })
+passes_front (t ∷ p) r n k vs h = go (turn k n vs (Some t)) refl h (λ m b a. passes_front p r m b a) where
+  go : (x : Turn) → turn k n vs (Some t) ≡ x → length (left (turned x (t ∷ (p ++ r)) (λ m vs' k'. run m (p ++ r) k' vs'))) ≤ length r → ((m : ℕ) (b : List Symbol) (a : Values) → length (left (run m (p ++ r) b a)) ≤ length r → (n' : ℕ) × (k' : List Symbol) × (vs' : Values) × Passes p m b a n' k' vs') → (n' : ℕ) × (k' : List Symbol) × (vs' : Values) × Passes (t ∷ p) n k vs n' k' vs'
   go (Next m a b) e l again =
       let on = again m b a l in
       let back = subst (λ z. TurnBack k n vs (Some t) z) e (turn_back k n vs t) in (
@@ -109,6 +110,10 @@ passes (t ∷ p) r n k vs h = go (turn k n vs (Some t)) refl h (λ m b a. passes
           spells = λ q u s. subst (λ x. Spelled k vs x u) (sym (ends_append back.0 (taken back.1 t) on.3.steps q)) (back.3 (on.3.steps ++ q) u (on.3.spells q u s));
         },
       )
-  go (Ended u) e l again = absurd (omega (arith, ap length l, length-append p r))
-  go Stuck e l again = absurd (omega (arith, ap length l, length-append p r))
-  go Deep e l again = absurd (omega (arith, ap length l, length-append p r))
+  go (Ended u) e l again = absurd (omega (arith, l, length-append p r))
+  go Stuck e l again = absurd (omega (arith, l, length-append p r))
+  go Deep e l again = absurd (omega (arith, l, length-append p r))
+
+-- where it stops right behind them
+pub passes : (p r : List Word) (n : ℕ) (k : List Symbol) (vs : Values) → left (run n (p ++ r) k vs) ≡ r → (n' : ℕ) × (k' : List Symbol) × (vs' : Values) × Passes p n k vs n' k' vs'
+passes p r n k vs h = passes_front p r n k vs (omega (arith, ap length h))

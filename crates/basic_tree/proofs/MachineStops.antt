@@ -1,7 +1,6 @@
 -- Where the machine stops, from any stack: what was spelled, how deep its words stand, and what goes no further.
-use Rattle.std.proofs.Common.{subst, ◌≡◌, ℕ, zero, suc, ◌+◌, ◌-◌, ◌<◌, ◌≤◌, true, false, List, [], ◌∷◌, ◌++◌, length, Some, None, Ok, Err, refl, sym, ap, ◌∙◌, arith}
+use Rattle.std.proofs.Common.{subst, ◌≡◌, ℕ, zero, suc, ◌+◌, ◌-◌, List, [], ◌∷◌, ◌++◌, length, Some, None, Ok, Err, refl, sym, ap, ◌∙◌, arith}
 use Rattle.std.specs.Prelude.{nat_lt, position}
-use Rattle.std.proofs.lemmas.Grind.{common_steps}
 use Rattle.std.proofs.lemmas.List.{append-nil}
 use Rattle.basic_tree.specs.SpellingWords.{Word, Step, Plain, Opens, Closes, words, levels, most_levels, too_deep}
 use Rattle.basic_tree.specs.GrammarPlaces.{IsFlatTo}
@@ -11,6 +10,7 @@ use Rattle.basic_tree.proofs.MachineSpelled.{Spelled, fill}
 use Rattle.basic_tree.proofs.MachineLeads.{words_append}
 use Rattle.basic_tree.proofs.MachineTurns.{ends, TurnBack, turn_back}
 use Rattle.basic_tree.proofs.MachinePasses.{left, left_short, Further, turn_more, Counts, Passes, passes}
+use Rattle.basic_tree.proofs.DeepLevels.{first, later, never}
 use Rattle.basic_tree.proofs.MachineLevels.{Above, flat}
 use Rattle.basic_tree.proofs.MachinePlaces.{goes_no_further, ended, words_of_ends}
 
@@ -20,17 +20,6 @@ goes_on_from p n k vs n' k' vs' h x =
     let none : n + 0 ≡ n = omega arith in
     let left_over : n' + 0 ≡ n' = omega arith in
     ap (λ i. run i (p ++ x) k vs) (sym none) ∙ h.runs 0 x ∙ ap (λ i. run i x k' vs') left_over
-
--- ---- the first level that is too deep
-
-first : (x : ℕ) (xs : List ℕ) → most_levels < x → position (λ level. nat_lt most_levels level) (x ∷ xs) ≡ Some 0
-first x xs lt = let e : nat_lt most_levels x ≡ true = grind arith in rw e (grind (arith, common_steps))
-
-later : (x : ℕ) (xs : List ℕ) (i : ℕ) → x ≤ most_levels → position (λ level. nat_lt most_levels level) xs ≡ Some i → position (λ level. nat_lt most_levels level) (x ∷ xs) ≡ Some (suc i)
-later x xs i le h = let e : nat_lt most_levels x ≡ false = grind arith in rw e (grind (arith, common_steps))
-
-never : (x : ℕ) (xs : List ℕ) → x ≤ most_levels → position (λ level. nat_lt most_levels level) xs ≡ None → position (λ level. nat_lt most_levels level) (x ∷ xs) ≡ None
-never x xs le h = let e : nat_lt most_levels x ≡ false = grind arith in rw e (grind (arith, common_steps))
 
 -- where no level is left, the next word that opens one is too deep
 pub deep_at : (g q : List Step) (c : Word) (n depth : ℕ) → n + depth ≡ most_levels → Counts n g 0 → Above depth (g ++ Opens c ∷ q) → position (λ level. nat_lt most_levels level) (levels depth (g ++ Opens c ∷ q)) ≡ Some (length (words g))

@@ -1,3 +1,4 @@
+pub mod AnswerLaws
 pub mod GrammarForms
 pub mod GrammarJudge
 pub mod GrammarMachine

@@ -1,5 +1,6 @@
 //! What a user relies on, as laws over the definitions: each is the contract of a function that does nothing.
 
+ghost use Rattle.basic_tree.specs.AnswerLaws.{LevelsAreSettled, OneExprAnswer, OneLineAnswer, OneVerdict};
 ghost use Rattle.basic_tree.specs.GrammarPlaces.{OneTree, OneLine, SpellingGivesBack};
 ghost use Rattle.basic_tree.specs.LineVerdicts.{LinesAreJudged};
 ghost use Rattle.basic_tree.specs.TokenLaws.{TokensAreSlices, BlanksMoveTokens, BlanksSeparateTokens, LongestIsTaken};
@@ -42,4 +43,24 @@ pub fn lines_are_judged()
 /// A line's words are given back by the spelling of its tree, and so are those of an expression.
 pub fn spelling_gives_back()
     ensures { SpellingGivesBack }
+{}
+
+/// The level of nesting in which a word stands hangs on the words up to it, and on none behind it.
+pub fn levels_are_settled()
+    ensures { LevelsAreSettled }
+{}
+
+/// From a place on, words are read as one expression up to one place, or refused at one place for one cause.
+pub fn expressions_have_one_answer()
+    ensures { OneExprAnswer }
+{}
+
+/// Words are one line, or refused at one place for one cause.
+pub fn lines_have_one_answer()
+    ensures { OneLineAnswer }
+{}
+
+/// The bytes of a line have one verdict: all judges by the grammar agree.
+pub fn one_verdict()
+    ensures { OneVerdict }
 {}
