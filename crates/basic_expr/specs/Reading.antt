@@ -214,16 +214,3 @@ pub record Gathers (n m : ℕ) (ws : List Word) (ss : List Symbol) (v : Values) 
   pub runs : (k : List Symbol) (vs : Values) → run n (drop from ws) (ss ++ k) (v ++ vs) ≡ run m (drop place ws) (more ++ k) (Several (trees_in items) ∷ vs)
   pub after : from < place
   pub within : place ≤ length ws
-
--- ---- targets
-
--- the name of a variable or an array of the wanted kind stands first
-abbrev pub names_target : Want → Word → Bool
-names_target w (Named name) = takes w name.text
-names_target w other = false
-
--- a name of the wanted kind and its subscripts
-abbrev pub ReadsTarget : ℕ → List Word → Want → ℕ → Result Found Failure → Type 0
-ReadsTarget n ws w from r =
-    ((name : Name) × Stands ws (Named name) from × (takes w name.text ≡ true) × ReadsAt n ws (Subscripts name) (from + 1) r)
-    ⊎ (First (names_target w) (drop from ws) × (r ≡ Err (failure.Wrong from)))

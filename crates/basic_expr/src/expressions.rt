@@ -1,7 +1,7 @@
 //! Expressions by recursive descent: one function for each sort of symbol of the grammar's machine.
 
 ghost use Rattle.std.specs.Prelude.{◌≡◌, ◌≤◌, ◌<◌, ◌+◌, ◌∷◌, [], length, drop, IfOk};
-ghost use Rattle.basic_expr.specs.Reading.{Ends, EndsFrom, IsChain, IsPrefixed, ReadsAll, ReadsAt, ReadsSecond, ReadsTarget, Stands, begins_atom, function_expected, prefixed, second_tree, trees_in};
+ghost use Rattle.basic_expr.specs.Reading.{Ends, EndsFrom, IsChain, IsPrefixed, ReadsAll, ReadsAt, ReadsSecond, Stands, begins_atom, function_expected, prefixed, second_tree, trees_in};
 ghost use Rattle.basic_expr.specs.Views.{as_word, most_words};
 ghost use Rattle.basic_tree.specs.GrammarMachine.{right_of};
 ghost use Rattle.basic_tree.specs.GrammarStack.{Arguments, Exponent, Level, Several, Subscripts, loosest};
@@ -496,8 +496,6 @@ fn parse_function(
     })
 }
 
-// For the statements
-
 /// The longest expression of the wanted kind from a place on, with so many levels of nesting left.
 pub fn expression_at(
     alloc: Global,
@@ -511,30 +509,4 @@ pub fn expression_at(
     ensures ends { Ends words.now from result }
 {
     parse_level(alloc, words, from, want, LOOSEST, levels)
-}
-
-/// A variable or an element of an array of the wanted kind.
-pub fn target_at(
-    alloc: Global,
-    words: &Words<'_>,
-    from: usize,
-    want: Want,
-    levels: usize,
-) -> Result<Found, Failure>
-    requires { from ≤ length words.now }
-    ensures reads { ReadsTarget levels words.now want from result }
-    ensures ends { Ends words.now from result }
-{
-    match words.peek(from) {
-        None => Err(Failure::Wrong { place: from }),
-        Some(word) => match word {
-            Word::Named(name) => {
-                if !takes(want, name.text) {
-                    return Err(Failure::Wrong { place: from });
-                }
-                subscripts_at(alloc, words, from + 1, name, levels)
-            }
-            _ => Err(Failure::Wrong { place: from }),
-        },
-    }
 }

@@ -10,7 +10,7 @@ ghost use Rattle.basic_tree.specs.SpellingExpressions.{want_of};
 use basic_tree::{Function, Keyword, Operator, Relation, Sign, Want};
 
 /// Whether a text, or else a number, may stand where a kind is wanted.
-pub(crate) fn takes(want: Want, text: bool) -> bool
+pub fn takes(want: Want, text: bool) -> bool
     ensures { result ≡ takes want text }
 {
     match want {

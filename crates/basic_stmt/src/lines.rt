@@ -16,14 +16,11 @@ ghost use Rattle.basic_stmt.specs.Structure.{IsPlace, LineEnds, LineStops, Sente
 use crate::choices::{if_at, simple_at};
 use crate::plain::plain_at;
 use crate::sentences::{Class, class_at};
-use basic_expr::{Failure, Words, next_is_sign};
+use basic_expr::{Failure, MOST_LEVELS, Words, next_is_sign};
 use basic_scanner::Tokens;
 use basic_tree::{Cause, Line, Refusal, Sign, Statement};
 use basic_values::Trouble;
 use std::alloc::Global;
-
-/// How deep a line may nest.
-const MOST_LEVELS: usize = 64;
 
 /// The statement of a class that begins at a place of the line, and the place behind it.
 #[tactic(auto, using(crate::proofs::ParsedLines::statements))]

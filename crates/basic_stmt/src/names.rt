@@ -2,13 +2,12 @@
 
 ghost use Rattle.std.specs.Prelude.{◌≡◌, ℕ, ◌+◌, ◌<◌, ◌≤◌, length, IfOk, IfErr};
 ghost use Rattle.basic_expr.specs.Views.{as_word, most_words};
-ghost use Rattle.basic_tree.specs.GrammarStarts.{takes};
 ghost use Rattle.basic_tree.specs.GrammarStack.{Form, NameIn, FnNameIn, LiteralIn, within};
 ghost use Rattle.basic_tree.specs.declared.names.Name.{Name};
 ghost use Rattle.basic_stmt.specs.Reading.{Behind, FnNameAt, Halts, IfLiteral, IfQuoted, IsPlaced, Leads, NameAt, NumberAt, fn_named, limit_of, named, number};
 
 use crate::literals::Literal;
-use basic_expr::{Failure, Word, Words};
+use basic_expr::{Failure, Word, Words, takes};
 use basic_tree::{Name, Want};
 use basic_values::{NoMemory, Text, Trouble};
 use std::alloc::Global;
@@ -74,17 +73,6 @@ fn next_number(words: &Words<'_>, from: usize) -> Option<u16>
     match words.peek(from) {
         None => None,
         Some(word) => number(word),
-    }
-}
-
-/// Whether a text or a number may stand where a kind is wanted.
-pub(crate) fn takes(want: Want, text: bool) -> bool
-    ensures { result ≡ takes want text }
-{
-    match want {
-        Want::Number => !text,
-        Want::Text => text,
-        Want::Either => true,
     }
 }
 

@@ -8,8 +8,8 @@ ghost use Rattle.basic_tree.specs.TreeViews.{tree_of, target_of};
 ghost use Rattle.basic_tree.specs.GrammarStack.{Form, TargetOf};
 ghost use Rattle.basic_stmt.specs.Reading.{Behind, Halts, IsPlaced, Leads};
 
-use crate::names::{next_name, takes};
-use basic_expr::{Failure, Words, subscripts_at};
+use crate::names::next_name;
+use basic_expr::{Failure, Words, subscripts_at, takes};
 use basic_tree::{Expr, Target, Want};
 use std::alloc::Global;
 
