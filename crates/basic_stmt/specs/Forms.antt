@@ -1,12 +1,10 @@
 -- The forms of statements that have no name in the grammar.
 use Rattle.std.specs.Prelude.{true, false}
-use Rattle.basic_tree.specs.declared.names.Name.{Name}
-use Rattle.basic_tree.specs.declared.tokens.Keyword.{Keyword}
 use Rattle.basic_tree.specs.declared.tokens.Keyword.TheVariants as keyword
 use Rattle.basic_tree.specs.declared.tokens.Sign.TheVariants as sign
 use Rattle.basic_tree.specs.declared.kinds.Want.TheVariants as want
 use Rattle.basic_tree.specs.Trees.{FnEnd, Read, Restore, Goto, Gosub, Return, Resume, Stop, End, Sleep, Close, Get, Put, Unlock, Kill, Rename}
-use Rattle.std.specs.Prelude.{ℕ, List, Option, Some, None}
+use Rattle.std.specs.Prelude.{ℕ, List, Some, None}
 use Rattle.basic_tree.specs.declared.parts.Separator.TheVariants as separator
 use Rattle.basic_tree.specs.GrammarSentences.{input_targets}
 use Rattle.basic_tree.specs.Trees.{Tree, OnGoto, OnGosub, OnErrorGoto, DimFile, InputLine}
@@ -50,15 +48,11 @@ sleep_form = TakeKey false keyword.Sleep (ExprOf want.Number (λ n. says (Sleep 
 abbrev pub close_form : Form
 close_form = TakeKey false keyword.Close (list_form Channels (λ items. says (Close (channels_in items))))
 
--- GET or PUT, and what stands behind its channel and record
-abbrev pub record_form : Keyword → (Tree → Option Tree → Form) → Form
-record_form key g = TakeKey false key (TakeSign false sign.Hash (ExprOf want.Number (λ c. number_option keyword.Record (λ b. g c b))))
-
 abbrev pub get_form : Form
-get_form = record_form keyword.Get (λ c b. says (Get c b))
+get_form = TakeKey false keyword.Get (TakeSign false sign.Hash (ExprOf want.Number (λ c. number_option keyword.Record (λ b. says (Get c b)))))
 
 abbrev pub put_form : Form
-put_form = record_form keyword.Put (λ c b. says (Put c b))
+put_form = TakeKey false keyword.Put (TakeSign false sign.Hash (ExprOf want.Number (λ c. number_option keyword.Record (λ b. says (Put c b)))))
 
 abbrev pub unlock_form : Form
 unlock_form = TakeKey false keyword.Unlock (TakeSign false sign.Hash (ExprOf want.Number (λ c. says (Unlock c))))
@@ -97,7 +91,3 @@ abbrev pub input_prompt_form : List ℕ → Form
 input_prompt_form text =
     IfSign false sign.Semicolon (input_targets None (Some (record { text = text; separator = separator.Semicolon })))
     (TakeSign false sign.Comma (input_targets None (Some (record { text = text; separator = separator.Comma }))))
-
--- LSET or RSET, and what stands behind its variable and value
-abbrev pub moved_text_form : Keyword → (Name → Tree → Form) → Form
-moved_text_form key g = TakeKey false key (NameIn want.Text (λ x. TakeSign false sign.Equal (ExprOf want.Text (λ value. g x value))))

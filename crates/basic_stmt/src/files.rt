@@ -9,7 +9,7 @@ ghost use Rattle.basic_tree.specs.StatementViews.{statement_of};
 ghost use Rattle.basic_tree.specs.GrammarStack.{ExprOf, Form, Stated};
 ghost use Rattle.basic_tree.specs.GrammarForms.{number_option, mode_form, cluster_form, options_form, channel_form, file_form};
 ghost use Rattle.basic_tree.specs.GrammarSentences.{open_form, field_form};
-ghost use Rattle.basic_stmt.specs.Forms.{record_form, get_form, put_form, unlock_form, close_form, open_for_form};
+ghost use Rattle.basic_stmt.specs.Forms.{get_form, put_form, unlock_form, close_form, open_for_form};
 ghost use Rattle.basic_stmt.specs.Reading.{Behind, From, Gives, Halts, IsPlaced, Leads};
 
 use crate::lists::elements;
@@ -41,28 +41,6 @@ fn option(
     Ok((None, from))
 }
 
-/// GET or PUT, by its word: `#`, a channel and perhaps a record, and the place behind them.
-#[tactic(auto, using(crate::proofs::Steps::leading))]
-fn record_access(
-    alloc: Global,
-    words: &Words<'_>,
-    from: usize,
-    key: Keyword,
-    levels: usize,
-) -> Result<((Expr, Option<Expr>), usize), Failure>
-    requires { from ≤ length words.now }
-    ensures ends { IfOk result (λ x. Behind words.now from x.1) }
-    ensures found { IfOk result (λ x. (g : Tree → Option Tree → Form) → Leads levels levels words.now from x.1 (record_form key g) (g (tree_of x.0.0) (option_map tree_of x.0.1))) }
-    ensures placed { IfErr result (λ e. IsPlaced words.now e) }
-    ensures refused { IfErr result (λ e. (g : Tree → Option Tree → Form) → Halts levels words.now from (record_form key g) e) }
-{
-    let at = take_key(words, from, key)?;
-    let behind = take_sign(words, at, Sign::Hash)?;
-    let (channel, named) = expression(alloc, words, behind, Want::Number, levels)?;
-    let (record, end) = option(alloc, words, named, Keyword::Record, levels)?;
-    Ok(((channel, record), end))
-}
-
 /// GET, a channel and perhaps a record.
 #[tactic(auto, using(crate::proofs::Steps::leading))]
 pub(crate) fn get(
@@ -77,7 +55,10 @@ pub(crate) fn get(
     ensures placed { IfErr result (λ e. IsPlaced words.now e) }
     ensures refused { IfErr result (λ e. Halts levels words.now from get_form e) }
 {
-    let ((channel, record), end) = record_access(alloc, words, from, Keyword::Get, levels)?;
+    let at = take_key(words, from, Keyword::Get)?;
+    let behind = take_sign(words, at, Sign::Hash)?;
+    let (channel, named) = expression(alloc, words, behind, Want::Number, levels)?;
+    let (record, end) = option(alloc, words, named, Keyword::Record, levels)?;
     Ok((Statement::Get { channel, record }, end))
 }
 
@@ -95,7 +76,10 @@ pub(crate) fn put(
     ensures placed { IfErr result (λ e. IsPlaced words.now e) }
     ensures refused { IfErr result (λ e. Halts levels words.now from put_form e) }
 {
-    let ((channel, record), end) = record_access(alloc, words, from, Keyword::Put, levels)?;
+    let at = take_key(words, from, Keyword::Put)?;
+    let behind = take_sign(words, at, Sign::Hash)?;
+    let (channel, named) = expression(alloc, words, behind, Want::Number, levels)?;
+    let (record, end) = option(alloc, words, named, Keyword::Record, levels)?;
     Ok((Statement::Put { channel, record }, end))
 }
 

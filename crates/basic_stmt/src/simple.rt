@@ -2,18 +2,15 @@
 
 ghost use Rattle.std.specs.Prelude.{◌≡◌, ℕ, ◌+◌, ◌<◌, ◌≤◌, length, IfOk, IfErr};
 ghost use Rattle.basic_tree.specs.StatementViews.{statement_of};
-ghost use Rattle.basic_tree.specs.declared.names.Name.{Name};
-ghost use Rattle.basic_tree.specs.Trees.{Tree};
-ghost use Rattle.basic_tree.specs.TreeViews.{tree_of};
-ghost use Rattle.basic_tree.specs.GrammarStack.{Form, Stated};
+ghost use Rattle.basic_tree.specs.GrammarStack.{Stated};
 ghost use Rattle.basic_tree.specs.GrammarSentences.{next_form, lset_form, rset_form};
-ghost use Rattle.basic_stmt.specs.Forms.{fn_end_form, restore_form, return_form, stop_form, end_form, sleep_form, kill_form, rename_form, moved_text_form};
-ghost use Rattle.basic_stmt.specs.Reading.{Behind, Gives, Halts, IsPlaced, Leads};
+ghost use Rattle.basic_stmt.specs.Forms.{fn_end_form, restore_form, return_form, stop_form, end_form, sleep_form, kill_form, rename_form};
+ghost use Rattle.basic_stmt.specs.Reading.{Behind, Gives, Halts, IsPlaced};
 
 use crate::names::name;
 use crate::reading::{expression, take_key, take_sign};
 use basic_expr::{Failure, Words};
-use basic_tree::{Expr, Keyword, Name, Sign, Statement, Want};
+use basic_tree::{Keyword, Sign, Statement, Want};
 use std::alloc::Global;
 
 /// NEXT and the variable of its loop.
@@ -174,28 +171,6 @@ pub(crate) fn rename(
     Ok((Statement::Rename { old, new }, end))
 }
 
-/// LSET or RSET, by its word: a text variable, `=` and its value, and the place behind them.
-#[tactic(auto, using(crate::proofs::Steps::leading))]
-fn moved_text(
-    alloc: Global,
-    words: &Words<'_>,
-    from: usize,
-    key: Keyword,
-    levels: usize,
-) -> Result<((Name, Expr), usize), Failure>
-    requires { from ≤ length words.now }
-    ensures ends { IfOk result (λ x. Behind words.now from x.1) }
-    ensures found { IfOk result (λ x. (g : Name → Tree → Form) → Leads levels levels words.now from x.1 (moved_text_form key g) (g x.0.0 (tree_of x.0.1))) }
-    ensures placed { IfErr result (λ e. IsPlaced words.now e) }
-    ensures refused { IfErr result (λ e. (g : Name → Tree → Form) → Halts levels words.now from (moved_text_form key g) e) }
-{
-    let at = take_key(words, from, key)?;
-    let (variable, named) = name(words, at, Want::Text)?;
-    let behind = take_sign(words, named, Sign::Equal)?;
-    let (value, end) = expression(alloc, words, behind, Want::Text, levels)?;
-    Ok(((variable, value), end))
-}
-
 /// LSET, a text variable, `=` and its value.
 #[tactic(auto, using(crate::proofs::Steps::leading))]
 pub(crate) fn lset(
@@ -210,7 +185,10 @@ pub(crate) fn lset(
     ensures placed { IfErr result (λ e. IsPlaced words.now e) }
     ensures refused { IfErr result (λ e. Halts levels words.now from lset_form e) }
 {
-    let ((variable, value), end) = moved_text(alloc, words, from, Keyword::Lset, levels)?;
+    let at = take_key(words, from, Keyword::Lset)?;
+    let (variable, named) = name(words, at, Want::Text)?;
+    let behind = take_sign(words, named, Sign::Equal)?;
+    let (value, end) = expression(alloc, words, behind, Want::Text, levels)?;
     Ok((Statement::Lset { variable, value }, end))
 }
 
@@ -228,6 +206,9 @@ pub(crate) fn rset(
     ensures placed { IfErr result (λ e. IsPlaced words.now e) }
     ensures refused { IfErr result (λ e. Halts levels words.now from rset_form e) }
 {
-    let ((variable, value), end) = moved_text(alloc, words, from, Keyword::Rset, levels)?;
+    let at = take_key(words, from, Keyword::Rset)?;
+    let (variable, named) = name(words, at, Want::Text)?;
+    let behind = take_sign(words, named, Sign::Equal)?;
+    let (value, end) = expression(alloc, words, behind, Want::Text, levels)?;
     Ok((Statement::Rset { variable, value }, end))
 }
