@@ -3,6 +3,7 @@ use Rattle.std.proofs.Common.{◌≡◌, ℕ, ◌+◌, ◌<◌, ◌≤◌, List,
 use Rattle.std.proofs.lemmas.List.{drop_all, map-append}
 use Rattle.basic_expr.specs.declared.failures.Failure.{Failure}
 use Rattle.basic_expr.specs.declared.failures.Failure.TheVariants as failure
+use Rattle.basic_expr.specs.Failures.{trouble_of}
 use Rattle.basic_expr.specs.Reading.{First, Stands, is_sign}
 use Rattle.basic_tree.specs.declared.statements.Statement.{Statement}
 use Rattle.basic_tree.specs.declared.programs.Line.{Line}
@@ -159,21 +160,20 @@ pub read_answer : (tokens : List Lexeme) (ws : List Word) (place : ℕ) (items :
 read_answer tokens ws place items line same at h e =
     subst (λ (x : List Word). ((l : LineTree) × IsReadLine x l × (line_of line ≡ line_statements l)) × (verdict_of x ≡ HasTree)) same (parsed_line ws place line items e at h)
 
-refused_answer : (tokens : List Lexeme) (ws : List Word) (r : Trouble Refusal) (place : ℕ) (why : Cause) → ws ≡ words_of tokens → r ≡ Refused (record { place = place; cause = why }) → RefusesLine ws place why × (verdict_of ws ≡ RefusedFor why) → Parses tokens (Err r) × HasVerdict tokens (Err r)
-refused_answer tokens ws r place why same e h =
-    subst (λ (x : Trouble Refusal). Parses tokens (Err x) × HasVerdict tokens (Err x)) (sym e) (subst (λ (x : List Word). RefusesLine x place why × (verdict_of x ≡ RefusedFor why)) same h)
+refused_answer : (tokens : List Lexeme) (ws : List Word) (place : ℕ) (why : Cause) → ws ≡ words_of tokens → RefusesLine ws place why × (verdict_of ws ≡ RefusedFor why) → Parses tokens (Err (Refused (record { place = place; cause = why }))) × HasVerdict tokens (Err (Refused (record { place = place; cause = why })))
+refused_answer tokens ws place why same h = subst (λ (x : List Word). RefusesLine x place why × (verdict_of x ≡ RefusedFor why)) same h
 
-pub left_answer : (tokens : List Lexeme) (ws : List Word) (r : Trouble Refusal) (place : ℕ) (items : List Statement) → ws ≡ words_of tokens → (place ≡ length ws → ⊥) → LineEnds ws place items → r ≡ Refused (record { place = place; cause = cause.Syntax }) → Parses tokens (Err r) × HasVerdict tokens (Err r)
-left_answer tokens ws r place items same apart h e = refused_answer tokens ws r place cause.Syntax same e (line_left ws place items apart h)
+pub left_answer : (tokens : List Lexeme) (ws : List Word) (r : Trouble Refusal) (place : ℕ) (items : List Statement) → ws ≡ words_of tokens → (place ≡ length ws → ⊥) → LineEnds ws place items → r ≡ trouble_of (failure.Wrong place) → Parses tokens (Err r) × HasVerdict tokens (Err r)
+left_answer tokens ws r place items same apart h e =
+    subst (λ (x : Trouble Refusal). Parses tokens (Err x) × HasVerdict tokens (Err x)) (sym e) (refused_answer tokens ws place cause.Syntax same (line_left ws place items apart h))
 
-pub wrong_answer : (tokens : List Lexeme) (ws : List Word) (r : Trouble Refusal) (f : Failure) (place : ℕ) → ws ≡ words_of tokens → f ≡ failure.Wrong place → IsPlaced ws f → LineStops ws f → r ≡ Refused (record { place = place; cause = cause.Syntax }) → Parses tokens (Err r) × HasVerdict tokens (Err r)
-wrong_answer tokens ws r f place same is inside h e =
-    refused_answer tokens ws r place cause.Syntax same e
-    (line_is_wrong ws place (subst (λ (x : Failure). IsPlaced ws x) is inside) (subst (λ (x : Failure). LineStops ws x) is h))
+failed_answer : (tokens : List Lexeme) (ws : List Word) (f : Failure) → ws ≡ words_of tokens → IsPlaced ws f → LineStops ws f → Parses tokens (Err (trouble_of f)) × HasVerdict tokens (Err (trouble_of f))
+failed_answer tokens ws failure.NoMemory same inside h = (tt, tt)
+failed_answer tokens ws (failure.Wrong place) same inside h = refused_answer tokens ws place cause.Syntax same (line_is_wrong ws place inside h)
+failed_answer tokens ws (failure.TooDeep place) same inside h = refused_answer tokens ws place cause.TooDeep same (line_is_deep ws place inside h)
 
-pub deep_answer : (tokens : List Lexeme) (ws : List Word) (r : Trouble Refusal) (f : Failure) (place : ℕ) → ws ≡ words_of tokens → f ≡ failure.TooDeep place → IsPlaced ws f → LineStops ws f → r ≡ Refused (record { place = place; cause = cause.TooDeep }) → Parses tokens (Err r) × HasVerdict tokens (Err r)
-deep_answer tokens ws r f place same is inside h e =
-    refused_answer tokens ws r place cause.TooDeep same e
-    (line_is_deep ws place (subst (λ (x : Failure). IsPlaced ws x) is inside) (subst (λ (x : Failure). LineStops ws x) is h))
+pub failure_answer : (tokens : List Lexeme) (ws : List Word) (r : Trouble Refusal) (f : Failure) → ws ≡ words_of tokens → IsPlaced ws f → LineStops ws f → r ≡ trouble_of f → Parses tokens (Err r) × HasVerdict tokens (Err r)
+failure_answer tokens ws r f same inside h e =
+    subst (λ (x : Trouble Refusal). Parses tokens (Err x) × HasVerdict tokens (Err x)) (sym e) (failed_answer tokens ws f same inside h)
 
 pub ruleset lines = (parsed_line, line_left, line_is_wrong, line_is_deep)

@@ -1,8 +1,6 @@
 //! Lines: their statements, one behind another.
 
 ghost use Rattle.std.specs.Prelude.{◌≡◌, ◌≤◌, ◌++◌, ◌∷◌, [], length, drop, Some, Err, IfOk, IfErr, OnOk};
-ghost use Rattle.basic_expr.specs.Views.{most_words};
-ghost use Rattle.basic_values.specs.declared.failures.Trouble.TheVariants.{Refused};
 ghost use Rattle.basic_expr.specs.declared.failures.Failure.TheVariants.{NoMemory};
 ghost use Rattle.basic_tree.specs.SpellingWords.{most_levels};
 ghost use Rattle.basic_tree.specs.StatementViews.{statement_of};
@@ -18,7 +16,7 @@ use crate::plain::plain_at;
 use crate::sentences::{Class, class_at};
 use basic_expr::{Failure, MOST_LEVELS, Words, next_is_sign};
 use basic_scanner::Tokens;
-use basic_tree::{Cause, Line, Refusal, Sign, Statement};
+use basic_tree::{Line, Refusal, Sign, Statement};
 use basic_values::Trouble;
 use std::alloc::Global;
 
@@ -104,17 +102,6 @@ fn all_statements(alloc: Global, words: &Words<'_>) -> Result<(Vec<Statement>, u
     Ok((statements, place))
 }
 
-/// The refusal of a word.
-fn refused(place: usize, cause: Cause) -> Trouble<Refusal>
-    requires { place ≤ most_words }
-    ensures { result ≡ Refused (record { place = place; cause = cause }) }
-{
-    Trouble::Refused(Refusal {
-        place: place as u16,
-        cause,
-    })
-}
-
 /// The statements of the line that the tokens are: those between `:` or `\`, of which each place may be empty.
 /// Else the first token that no line has there, or the one that opens level 65 of nesting, whichever is leftmost.
 #[tactic(auto, using(crate::proofs::ParsedLines::lines))]
@@ -128,10 +115,8 @@ pub fn parse_line(alloc: Global, tokens: &Tokens<'_>) -> Result<Line, Trouble<Re
         Ok((statements, place)) => if place == count {
             Ok(Line { statements })
         } else {
-            Err(refused(place, Cause::Syntax))
+            Err(Failure::Wrong { place }.trouble())
         },
-        Err(Failure::NoMemory) => Err(Trouble::NoMemory),
-        Err(Failure::Wrong { place }) => Err(refused(place, Cause::Syntax)),
-        Err(Failure::TooDeep { place }) => Err(refused(place, Cause::TooDeep)),
+        Err(failure) => Err(failure.trouble()),
     }
 }
