@@ -7,5 +7,6 @@ pub mod Parts
 pub mod PlainSteps
 pub mod PrintSteps
 pub mod SentencePlaces
+pub mod ReadLines
 pub mod Steps
 pub mod TargetSteps

@@ -7,12 +7,10 @@ use Rattle.basic_expr.specs.Failures.{trouble_of}
 use Rattle.basic_expr.specs.Reading.{First, Stands, is_sign}
 use Rattle.basic_tree.specs.declared.statements.Statement.{Statement}
 use Rattle.basic_tree.specs.declared.programs.Line.{Line}
-use Rattle.basic_tree.specs.declared.tokens.Cause.{Cause}
 use Rattle.basic_tree.specs.declared.tokens.Cause.TheVariants as cause
 use Rattle.basic_tree.specs.declared.tokens.Refusal.{Refusal}
 use Rattle.basic_values.specs.declared.failures.Trouble.{Trouble}
-use Rattle.basic_values.specs.declared.failures.Trouble.TheVariants.{Refused}
-use Rattle.basic_stmt.specs.Parsing.{HasVerdict, Parses}
+use Rattle.basic_stmt.specs.Parsing.{Parses}
 use Rattle.basic_tree.specs.declared.tokens.Sign.TheVariants as sign
 use Rattle.basic_tree.specs.Tokens.{Lexeme}
 use Rattle.basic_tree.specs.SpellingWords.{Word, Punctuation, words_of, most_levels}
@@ -22,10 +20,8 @@ use Rattle.basic_tree.specs.StatementViews.{statement_of, line_of}
 use Rattle.basic_tree.specs.GrammarStack.{Values, Stated, Parsed, AddStatement, OneStatement, MoreStatements}
 use Rattle.basic_tree.specs.GrammarSentences.{if_form}
 use Rattle.basic_tree.specs.GrammarPlaces.{IsReadLine, RefusesLine}
-use Rattle.basic_tree.specs.GrammarJudge.{line_symbols, line_values, outcome_verdict, verdict_of}
-use Rattle.basic_tree.specs.GrammarRun.{Wrong, TooDeep, Outcome, run}
-use Rattle.basic_tree.specs.LineVerdicts.{HasTree, RefusedFor}
-use Rattle.basic_tree.proofs.BetweenLemmas.{behind_place}
+use Rattle.basic_tree.specs.GrammarJudge.{line_symbols, line_values}
+use Rattle.basic_tree.specs.GrammarRun.{Wrong, TooDeep, run}
 use Rattle.basic_tree.proofs.MachineSteps.{run_do}
 use Rattle.basic_tree.proofs.LineSteps as steps
 use Rattle.basic_tree.proofs.LinePlaces.{line_read, line_wrong, line_stops, line_deep}
@@ -126,54 +122,41 @@ pub ruleset so_far = (line_begun, line_more, line_ended, line_stops_first, line_
 
 -- ---- the line
 
-verdict_at : (ws : List Word) (o : Outcome) → run most_levels ws line_symbols line_values ≡ o → verdict_of ws ≡ outcome_verdict o
-unfolding verdict_of
-verdict_at ws o h = ap outcome_verdict h
-
-pub parsed_line : (ws : List Word) (place : ℕ) (line : Line) (items : List Statement) → line.statements.items ≡ items → place ≡ length ws → LineEnds ws place items → ((l : LineTree) × IsReadLine ws l × (line_of line ≡ line_statements l)) × (verdict_of ws ≡ HasTree)
+pub parsed_line : (ws : List Word) (place : ℕ) (line : Line) (items : List Statement) → line.statements.items ≡ items → place ≡ length ws → LineEnds ws place items → (l : LineTree) × IsReadLine ws l × (line_of line ≡ line_statements l)
 parsed_line ws place line items same at h =
     let l : LineTree = record { first = h.first; others = h.others } in
     let nothing : drop place ws ≡ [] = drop_all place ws (omega (arith, at)) in
     let ends : run most_levels ws line_symbols line_values ≡ Ok (made_line l, []) = h.runs ∙ ap (λ (x : List Word). Ok (made_line l, x)) nothing in
-    ((l, line_read line_symbols line_values made_line reads_lines ws l ends, ap (λ x. map statement_of x) same ∙ h.stated), verdict_at ws (Ok (made_line l, [])) ends)
+    (l, line_read line_symbols line_values made_line reads_lines ws l ends, ap (λ x. map statement_of x) same ∙ h.stated)
 
-pub line_left : (ws : List Word) (place : ℕ) (items : List Statement) → (place ≡ length ws → ⊥) → LineEnds ws place items → RefusesLine ws place cause.Syntax × (verdict_of ws ≡ RefusedFor cause.Syntax)
+pub line_left : (ws : List Word) (place : ℕ) (items : List Statement) → (place ≡ length ws → ⊥) → LineEnds ws place items → RefusesLine ws place cause.Syntax
 line_left ws place items apart h =
     let u : Values = Parsed (h.first ∷ h.others) ∷ [] in
     let inside : place < length ws = omega (arith, h.within, apart) in
-    let next : drop place ws ≡ _ = behind_place ws place inside in
-    (line_stops line_symbols line_values made_line reads_lines ws place u inside h.runs, verdict_at ws (Ok (u, drop place ws)) h.runs ∙ ap (λ (x : List Word). outcome_verdict (Ok (u, x))) next)
+    line_stops line_symbols line_values made_line reads_lines ws place u inside h.runs
 
-pub line_is_wrong : (ws : List Word) (place : ℕ) → place ≤ length ws → LineStops ws (failure.Wrong place) → RefusesLine ws place cause.Syntax × (verdict_of ws ≡ RefusedFor cause.Syntax)
-line_is_wrong ws place inside h =
-    let there = h (Wrong (drop place ws)) refl in
-    (line_wrong line_symbols line_values made_line reads_lines ws place inside there, verdict_at ws (Err (Wrong (drop place ws))) there)
+pub line_is_wrong : (ws : List Word) (place : ℕ) → place ≤ length ws → LineStops ws (failure.Wrong place) → RefusesLine ws place cause.Syntax
+line_is_wrong ws place inside h = line_wrong line_symbols line_values made_line reads_lines ws place inside (h (Wrong (drop place ws)) refl)
 
-pub line_is_deep : (ws : List Word) (place : ℕ) → place < length ws → LineStops ws (failure.TooDeep place) → RefusesLine ws place cause.TooDeep × (verdict_of ws ≡ RefusedFor cause.TooDeep)
-line_is_deep ws place inside h =
-    let there = h (TooDeep (drop place ws)) refl in
-    (line_deep line_symbols line_values made_line reads_lines ws place inside there, verdict_at ws (Err (TooDeep (drop place ws))) there)
+pub line_is_deep : (ws : List Word) (place : ℕ) → place < length ws → LineStops ws (failure.TooDeep place) → RefusesLine ws place cause.TooDeep
+line_is_deep ws place inside h = line_deep line_symbols line_values made_line reads_lines ws place inside (h (TooDeep (drop place ws)) refl)
 
 -- ---- what is answered
 
-pub read_answer : (tokens : List Lexeme) (ws : List Word) (place : ℕ) (items : List Statement) (line : Line) → ws ≡ words_of tokens → place ≡ length ws → LineEnds ws place items → line.statements.items ≡ items → Parses tokens (Ok line) × HasVerdict tokens (Ok line)
+pub read_answer : (tokens : List Lexeme) (ws : List Word) (place : ℕ) (items : List Statement) (line : Line) → ws ≡ words_of tokens → place ≡ length ws → LineEnds ws place items → line.statements.items ≡ items → Parses tokens (Ok line)
 read_answer tokens ws place items line same at h e =
-    subst (λ (x : List Word). ((l : LineTree) × IsReadLine x l × (line_of line ≡ line_statements l)) × (verdict_of x ≡ HasTree)) same (parsed_line ws place line items e at h)
+    subst (λ (x : List Word). (l : LineTree) × IsReadLine x l × (line_of line ≡ line_statements l)) same (parsed_line ws place line items e at h)
 
-refused_answer : (tokens : List Lexeme) (ws : List Word) (place : ℕ) (why : Cause) → ws ≡ words_of tokens → RefusesLine ws place why × (verdict_of ws ≡ RefusedFor why) → Parses tokens (Err (Refused (record { place = place; cause = why }))) × HasVerdict tokens (Err (Refused (record { place = place; cause = why })))
-refused_answer tokens ws place why same h = subst (λ (x : List Word). RefusesLine x place why × (verdict_of x ≡ RefusedFor why)) same h
-
-pub left_answer : (tokens : List Lexeme) (ws : List Word) (r : Trouble Refusal) (place : ℕ) (items : List Statement) → ws ≡ words_of tokens → (place ≡ length ws → ⊥) → LineEnds ws place items → r ≡ trouble_of (failure.Wrong place) → Parses tokens (Err r) × HasVerdict tokens (Err r)
+pub left_answer : (tokens : List Lexeme) (ws : List Word) (r : Trouble Refusal) (place : ℕ) (items : List Statement) → ws ≡ words_of tokens → (place ≡ length ws → ⊥) → LineEnds ws place items → r ≡ trouble_of (failure.Wrong place) → Parses tokens (Err r)
 left_answer tokens ws r place items same apart h e =
-    subst (λ (x : Trouble Refusal). Parses tokens (Err x) × HasVerdict tokens (Err x)) (sym e) (refused_answer tokens ws place cause.Syntax same (line_left ws place items apart h))
+    subst (λ (x : Trouble Refusal). Parses tokens (Err x)) (sym e) (subst (λ (x : List Word). RefusesLine x place cause.Syntax) same (line_left ws place items apart h))
 
-failed_answer : (tokens : List Lexeme) (ws : List Word) (f : Failure) → ws ≡ words_of tokens → IsPlaced ws f → LineStops ws f → Parses tokens (Err (trouble_of f)) × HasVerdict tokens (Err (trouble_of f))
-failed_answer tokens ws failure.NoMemory same inside h = (tt, tt)
-failed_answer tokens ws (failure.Wrong place) same inside h = refused_answer tokens ws place cause.Syntax same (line_is_wrong ws place inside h)
-failed_answer tokens ws (failure.TooDeep place) same inside h = refused_answer tokens ws place cause.TooDeep same (line_is_deep ws place inside h)
+failed_answer : (ws : List Word) (f : Failure) → IsPlaced ws f → LineStops ws f → (tokens : List Lexeme) → ws ≡ words_of tokens → Parses tokens (Err (trouble_of f))
+failed_answer ws failure.NoMemory inside h tokens same = tt
+failed_answer ws (failure.Wrong place) inside h tokens same = subst (λ (x : List Word). RefusesLine x place cause.Syntax) same (line_is_wrong ws place inside h)
+failed_answer ws (failure.TooDeep place) inside h tokens same = subst (λ (x : List Word). RefusesLine x place cause.TooDeep) same (line_is_deep ws place inside h)
 
-pub failure_answer : (tokens : List Lexeme) (ws : List Word) (r : Trouble Refusal) (f : Failure) → ws ≡ words_of tokens → IsPlaced ws f → LineStops ws f → r ≡ trouble_of f → Parses tokens (Err r) × HasVerdict tokens (Err r)
-failure_answer tokens ws r f same inside h e =
-    subst (λ (x : Trouble Refusal). Parses tokens (Err x) × HasVerdict tokens (Err x)) (sym e) (failed_answer tokens ws f same inside h)
+pub failure_answer : (tokens : List Lexeme) (ws : List Word) (r : Trouble Refusal) (f : Failure) → ws ≡ words_of tokens → IsPlaced ws f → LineStops ws f → r ≡ trouble_of f → Parses tokens (Err r)
+failure_answer tokens ws r f same inside h e = subst (λ (x : Trouble Refusal). Parses tokens (Err x)) (sym e) (failed_answer ws f inside h tokens same)
 
 pub ruleset lines = (parsed_line, line_left, line_is_wrong, line_is_deep)

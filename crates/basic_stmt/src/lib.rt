@@ -22,7 +22,7 @@ mod simple;
 mod targets;
 mod values;
 
-pub use lines::parse_line;
+pub use lines::{parse_line, read_line};
 
 #[cfg(test)]
 mod tests;

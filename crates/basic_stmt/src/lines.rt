@@ -1,21 +1,24 @@
 //! Lines: their statements, one behind another.
 
-ghost use Rattle.std.specs.Prelude.{◌≡◌, ◌≤◌, ◌++◌, ◌∷◌, [], length, drop, Some, Err, IfOk, IfErr, OnOk};
+ghost use Rattle.std.specs.Prelude.{◌≡◌, ◌≤◌, ◌⊎◌, ◌++◌, length, Some, Err, IfOk, IfErr, OnOk};
 ghost use Rattle.basic_expr.specs.declared.failures.Failure.TheVariants.{NoMemory};
+ghost use Rattle.basic_values.specs.declared.failures.Trouble.TheVariants.{Refused};
+ghost use Rattle.basic_values.specs.declared.failures.Trouble.TheVariants.{NoMemory as OutOfMemory};
+ghost use Rattle.basic_tree.specs.declared.tokens.Refusal.{Refusal};
+ghost use Rattle.basic_tree.specs.Trees.{LineTree};
+ghost use Rattle.basic_tree.specs.LineVerdicts.{Spells, Refuses};
 ghost use Rattle.basic_tree.specs.SpellingWords.{most_levels};
 ghost use Rattle.basic_tree.specs.StatementViews.{statement_of};
-ghost use Rattle.basic_tree.specs.GrammarJudge.{line_symbols, line_values};
-ghost use Rattle.basic_tree.specs.GrammarRun.{Halt, run};
 ghost use Rattle.basic_tree.specs.GrammarStack.{OneStatement};
-ghost use Rattle.basic_stmt.specs.Parsing.{HasVerdict, Parses};
-ghost use Rattle.basic_stmt.specs.Reading.{Behind, From, IsPlaced, halt_at};
+ghost use Rattle.basic_stmt.specs.Parsing.{Parses, Reads};
+ghost use Rattle.basic_stmt.specs.Reading.{Behind, From, IsPlaced};
 ghost use Rattle.basic_stmt.specs.Structure.{IsPlace, LineEnds, LineStops, SentenceAt, StatesLine, StopsAt, in_list};
 
 use crate::choices::{if_at, simple_at};
 use crate::plain::plain_at;
 use crate::sentences::{Class, class_at};
 use basic_expr::{Failure, MOST_LEVELS, Words, next_is_sign};
-use basic_scanner::Tokens;
+use basic_scanner::{Tokens, scan};
 use basic_tree::{Line, Refusal, Sign, Statement};
 use basic_values::Trouble;
 use std::alloc::Global;
@@ -107,7 +110,6 @@ fn all_statements(alloc: Global, words: &Words<'_>) -> Result<(Vec<Statement>, u
 #[tactic(auto, using(crate::proofs::ParsedLines::lines))]
 pub fn parse_line(alloc: Global, tokens: &Tokens<'_>) -> Result<Line, Trouble<Refusal>>
     ensures exact { Parses tokens.now result }
-    ensures verdict { HasVerdict tokens.now result }
 {
     let words = Words::of(alloc, tokens)?;
     let count = words.len();
@@ -119,4 +121,18 @@ pub fn parse_line(alloc: Global, tokens: &Tokens<'_>) -> Result<Line, Trouble<Re
         },
         Err(failure) => Err(failure.trouble()),
     }
+}
+
+/// The statements of the line that the bytes spell, at most 255: `scan`, and `parse_line` over its tokens.
+/// Else the first byte that begins no token; where there are tokens, the first of them that is refused.
+#[tactic(auto, using(crate::proofs::ReadLines::reads))]
+pub fn read_line(alloc: Global, line: &[u8]) -> Result<Line, Trouble<Refusal>>
+    requires { length line.now ≤ 255 }
+    ensures exact { Reads line.now result }
+    // Bytes that spell a line are read, and those that are refused are refused so, where memory lasts.
+    ensures must_read { (l : LineTree) → Spells line.now l → IfErr result (λ e. e ≡ OutOfMemory) }
+    ensures must_refuse { (refusal : Refusal) → Refuses line.now refusal → (result ≡ Err (Refused refusal)) ⊎ (result ≡ Err OutOfMemory) }
+{
+    let tokens = scan(alloc, line)?;
+    parse_line(alloc, &tokens)
 }

@@ -575,11 +575,7 @@ static TREES: [Shown; 8] = [
 fn trees_are_those_of_the_lines(rt: HostRuntime) -> Result<(), Fail> {
     let alloc = rt.alloc();
     for (line, tree) in &TREES {
-        let tokens = match scan(alloc, line) {
-            Ok(tokens) => tokens,
-            Err(_) => return Err(Fail::new("the line has no tokens")),
-        };
-        let line = match parse_line(alloc, &tokens) {
+        let line = match read_line(alloc, line) {
             Ok(line) => line,
             Err(_) => return Err(Fail::new("the line has no tree")),
         };

@@ -1,15 +1,17 @@
 -- Each line is judged by where the machine stops; no word is too deep where there is none.
-use Rattle.std.proofs.Common.{◌≡◌, ℕ, suc, ◌<◌, ◌≤◌, Bool, true, false, List, [], ◌∷◌, length, drop, Option, Some, None, Ok, Err, refl, sym, ap, ◌∙◌, arith}
+use Rattle.std.proofs.Common.{◌≡◌, ℕ, suc, ◌<◌, ◌≤◌, Bool, true, false, List, [], ◌∷◌, length, drop, Option, Some, None, Ok, Err, refl, sym, ap, subst, ◌∙◌, arith}
 use Rattle.std.proofs.lemmas.List.{append-nil, drop_all}
 use Rattle.basic_tree.specs.SpellingWords.{Word, words_of, most_levels}
-use Rattle.basic_tree.specs.Trees.{ClauseTree, StatementClause}
+use Rattle.basic_tree.specs.Trees.{ClauseTree, StatementClause, LineTree}
 use Rattle.basic_tree.specs.SpellingExpressions.{is_text}
-use Rattle.basic_tree.specs.Tokens.{Reading, tokens_of}
+use Rattle.basic_tree.specs.Tokens.{Lexeme, Reading, tokens_of}
 use Rattle.basic_tree.specs.GrammarStack.{Values, top, stated, below, Form, IfKey, IfSign, ExprIf, LiteralIf, QuotedIf, MoreItems, MoreOf, ClauseIn, Symbol, MoreRelations, Go, Await, AwaitClause}
 use Rattle.basic_tree.specs.GrammarMachine.{Move, Takes, Skips, Refuses, no_relation, clause_move, form_move_with, move}
 use Rattle.basic_tree.specs.GrammarMachine.{Closes as Ends}
 use Rattle.basic_tree.specs.GrammarRun.{Turn, Next, Ended, Stuck, Deep, moved, turn, Wrong, TooDeep, Outcome, turned, run}
-use Rattle.basic_tree.specs.LineVerdicts.{WordsJudged, ReadingJudged, Judges, LinesAreJudged}
+use Rattle.basic_tree.specs.LineVerdicts.{SpelledBy, RefusedBy, Verdict, HasTree, RefusedFor, IsJudged, Judges, LinesAreJudged}
+use Rattle.basic_tree.specs.GrammarPlaces.{IsReadLine, RefusesLine}
+use Rattle.basic_tree.specs.declared.tokens.Refusal.{Refusal}
 use Rattle.basic_tree.specs.GrammarJudge.{line_symbols, line_values, outcome_verdict, verdict_of, reading_verdict, judge_of}
 use Rattle.basic_tree.proofs.MachinePasses.{left}
 use Rattle.basic_tree.proofs.MachineStops.{finished}
@@ -90,7 +92,12 @@ deep_within ws k n s vs le h = go (drop k ws) refl where
     below_or : (a b : ℕ) → a ≤ b → (b ≤ a → ⊥) → a < b
     below_or a b x y = omega (arith, y)
 
-pub judged_by : (ws : List Word) (o : Outcome) → run most_levels ws line_symbols line_values ≡ o → WordsJudged ws (outcome_verdict o)
+-- what the grammar says of words
+abbrev WordsJudged : List Word → Verdict → Type 0
+WordsJudged ws HasTree = (l : LineTree) × IsReadLine ws l
+WordsJudged ws (RefusedFor why) = (k : ℕ) × RefusesLine ws k why
+
+judged_by : (ws : List Word) (o : Outcome) → run most_levels ws line_symbols line_values ≡ o → WordsJudged ws (outcome_verdict o)
 judged_by ws (Ok (u, [])) h =
     let f = finished ws [] most_levels line_symbols line_values u (ap (λ (x : List Word). run most_levels x line_symbols line_values) (append-nil ws) ∙ h) in
     let l = reads_lines.spells f.steps u f.spells in
@@ -113,17 +120,23 @@ judged_by ws (Err (TooDeep r)) h =
     let there = h ∙ ap (λ (x : List Word). Err (TooDeep x)) (sym same) in
     (e.0, line_deep line_symbols line_values made_line reads_lines ws e.0 (deep_within ws e.0 most_levels line_symbols line_values e.1 there) there)
 
-pub verdict_judged : (ws : List Word) → WordsJudged ws (verdict_of ws)
+verdict_judged : (ws : List Word) → WordsJudged ws (verdict_of ws)
 unfolding verdict_of
 verdict_judged ws = judged_by ws (run most_levels ws line_symbols line_values) refl
 
-reading_judged : (r : Reading) → ReadingJudged r (reading_verdict r)
-reading_judged (Ok tokens) = verdict_judged (words_of tokens)
-reading_judged (Err refusal) = refl
+tokens_judged : (line : List ℕ) (tokens : List Lexeme) (v : Verdict) → tokens_of line ≡ Ok tokens → WordsJudged (words_of tokens) v → IsJudged line v
+tokens_judged line tokens HasTree e h = (h.0, subst (λ (r : Reading). SpelledBy r h.0) (sym e) h.1)
+tokens_judged line tokens (RefusedFor why) e h =
+    let refusal : Refusal = record { place = h.0; cause = why } in
+    (refusal, subst (λ (r : Reading). RefusedBy r refusal) (sym e) h.1, refl)
+
+reading_judged : (line : List ℕ) (r : Reading) → tokens_of line ≡ r → IsJudged line (reading_verdict r)
+reading_judged line (Ok tokens) e = tokens_judged line tokens (verdict_of (words_of tokens)) e (verdict_judged (words_of tokens))
+reading_judged line (Err refusal) e = (refusal, subst (λ (r : Reading). RefusedBy r refusal) (sym e) refl, refl)
 
 -- the machine judges every line by the grammar
 pub judge_of_judges : Judges judge_of
-judge_of_judges line = reading_judged (tokens_of line)
+judge_of_judges line = reading_judged line (tokens_of line) refl
 
 pub lines_judged : LinesAreJudged
 lines_judged = (judge_of, judge_of_judges)

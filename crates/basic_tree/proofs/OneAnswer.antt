@@ -11,8 +11,9 @@ use Rattle.basic_tree.specs.Trees.{Tree, LineTree}
 use Rattle.basic_tree.specs.SpellingExpressions.{steps_of, IsExpr}
 use Rattle.basic_tree.specs.SpellingStatements.{line_steps, IsLine}
 use Rattle.basic_tree.specs.GrammarPlaces.{IsFlatTo, between, IsLimit, IsRead, IsWrong, IsDeep, RefusesExpr, IsWrongLine, IsDeepLine, IsReadLine, RefusesLine}
-use Rattle.basic_tree.specs.LineVerdicts.{Verdict, HasTree, RefusedFor, WordsJudged, ReadingJudged}
-use Rattle.basic_tree.specs.AnswerLaws.{OneExprAnswer, OneLineAnswer, OneVerdict}
+use Rattle.basic_tree.specs.declared.tokens.Refusal.{Refusal}
+use Rattle.basic_tree.specs.LineVerdicts.{SpelledBy, RefusedBy, HasTree, RefusedFor}
+use Rattle.basic_tree.specs.AnswerLaws.{OneExprAnswer, OneLineAnswer, OneBytesAnswer, OneVerdict}
 use Rattle.basic_tree.proofs.DeepLevels.{all_within, within_before, not_within}
 use Rattle.basic_tree.proofs.LevelsSettled.{line_levels, expression_levels}
 use Rattle.basic_tree.proofs.OneLine.{one_line_lem}
@@ -136,20 +137,35 @@ one_line_answer = record {
   apart = line_apart;
 }
 
--- ---- verdicts
+-- ---- bytes
 
-words_one : (ws : List Word) (v w : Verdict) → WordsJudged ws v → WordsJudged ws w → v ≡ w
-words_one ws HasTree HasTree a b = refl
-words_one ws HasTree (RefusedFor d) a b = absurd (line_apart ws b.0 a.0 d a.1 b.1)
-words_one ws (RefusedFor c) HasTree a b = absurd (line_apart ws a.0 b.0 c b.1 a.1)
-words_one ws (RefusedFor c) (RefusedFor d) a b = ap RefusedFor (line_refusals ws a.0 b.0 c d a.1 b.1).1
+same_refusal : (r s : Refusal) → r.place ≡ s.place → r.cause ≡ s.cause → r ≡ s
+same_refusal r s a b = ap (λ (place : ℕ). record { place = place; cause = r.cause }) a ∙ ap (λ (why : Cause). record { place = s.place; cause = why }) b
 
-reading_one : (r : Reading) (v w : Verdict) → ReadingJudged r v → ReadingJudged r w → v ≡ w
-reading_one (Ok tokens) v w a b = words_one (words_of tokens) v w a b
-reading_one (Err refusal) v w a b = a ∙ sym b
+bytes_read : (x : Reading) (l m : LineTree) → SpelledBy x l → SpelledBy x m → l ≡ m
+bytes_read (Ok tokens) l m a b = one_line_lem (words_of tokens) l m a.line b.line
+bytes_read (Err first) l m a b = absurd a
+
+bytes_refused : (x : Reading) (r s : Refusal) → RefusedBy x r → RefusedBy x s → r ≡ s
+bytes_refused (Ok tokens) r s a b = let same = line_refusals (words_of tokens) r.place s.place r.cause s.cause a b in same_refusal r s same.0 same.1
+bytes_refused (Err first) r s a b = sym a ∙ b
+
+bytes_apart : (x : Reading) (l : LineTree) (r : Refusal) → SpelledBy x l → RefusedBy x r → ⊥
+bytes_apart (Ok tokens) l r a b = line_apart (words_of tokens) r.place l r.cause a b
+bytes_apart (Err first) l r a b = a
+
+pub one_bytes_answer : OneBytesAnswer
+one_bytes_answer = record {
+  read = λ line. bytes_read (tokens_of line);
+  refused = λ line. bytes_refused (tokens_of line);
+  apart = λ line. bytes_apart (tokens_of line);
+}
 
 pub one_verdict_lem : OneVerdict
-one_verdict_lem line v w a b = reading_one (tokens_of line) v w a b
+one_verdict_lem line HasTree HasTree a b = refl
+one_verdict_lem line HasTree (RefusedFor d) a b = absurd (bytes_apart (tokens_of line) a.0 b.0 a.1 b.1)
+one_verdict_lem line (RefusedFor c) HasTree a b = absurd (bytes_apart (tokens_of line) b.0 a.0 b.1 a.1)
+one_verdict_lem line (RefusedFor c) (RefusedFor d) a b = ap RefusedFor (sym a.2 ∙ ap (λ (r : Refusal). r.cause) (bytes_refused (tokens_of line) a.0 b.0 a.1 b.1) ∙ b.2)
 
 -- ---- expressions
 

@@ -2,12 +2,13 @@
 use Rattle.std.specs.Prelude.{◌≡◌, ℕ, List, ◌++◌, length, take}
 use Rattle.basic_tree.specs.declared.kinds.Want.{Want}
 use Rattle.basic_tree.specs.declared.tokens.Cause.{Cause}
+use Rattle.basic_tree.specs.declared.tokens.Refusal.{Refusal}
 use Rattle.basic_tree.specs.SpellingWords.{Word, levels}
 use Rattle.basic_tree.specs.Trees.{Tree, LineTree}
 use Rattle.basic_tree.specs.SpellingExpressions.{steps_of, IsExpr}
 use Rattle.basic_tree.specs.SpellingStatements.{line_steps, IsLine}
 use Rattle.basic_tree.specs.GrammarPlaces.{IsRead, RefusesExpr, IsReadLine, RefusesLine}
-use Rattle.basic_tree.specs.LineVerdicts.{Verdict, IsJudged}
+use Rattle.basic_tree.specs.LineVerdicts.{Spells, Refuses, Verdict, IsJudged}
 
 -- the levels of the first words of a line do not hang on what stands behind them, and so it is with an expression
 pub record LevelsAreSettled : Type 0 where
@@ -26,6 +27,12 @@ pub record OneLineAnswer : Type 0 where
   pub refused : (ws : List Word) (j k : ℕ) (c d : Cause) → RefusesLine ws j c → RefusesLine ws k d → (j ≡ k) × (c ≡ d)
   pub apart : (ws : List Word) (k : ℕ) (l : LineTree) (c : Cause) → IsReadLine ws l → RefusesLine ws k c → ⊥
 
--- the bytes of a line have one verdict, so all judges by the grammar agree
+-- bytes spell one line or have one refusal
+pub record OneBytesAnswer : Type 0 where
+  pub read : (line : List ℕ) (l m : LineTree) → Spells line l → Spells line m → l ≡ m
+  pub refused : (line : List ℕ) (r s : Refusal) → Refuses line r → Refuses line s → r ≡ s
+  pub apart : (line : List ℕ) (l : LineTree) (r : Refusal) → Spells line l → Refuses line r → ⊥
+
+-- so they have one verdict, and all judges by the grammar agree
 abbrev pub OneVerdict : Type 0
 OneVerdict = (line : List ℕ) (v w : Verdict) → IsJudged line v → IsJudged line w → v ≡ w

@@ -1,26 +1,37 @@
--- What the grammar says of a line: it has a tree, or it is refused, and why.
+-- What the grammar says of the bytes of a line: the line that they spell, or where they are refused, and why.
 use Rattle.std.specs.Prelude.{◌≡◌, ℕ, List, Ok, Err}
 use Rattle.basic_tree.specs.declared.tokens.Cause.{Cause}
+use Rattle.basic_tree.specs.declared.tokens.Refusal.{Refusal}
 use Rattle.basic_tree.specs.Tokens.{Reading, tokens_of}
-use Rattle.basic_tree.specs.SpellingWords.{Word, words_of}
+use Rattle.basic_tree.specs.SpellingWords.{words_of}
 use Rattle.basic_tree.specs.Trees.{LineTree}
 use Rattle.basic_tree.specs.GrammarPlaces.{IsReadLine, RefusesLine}
+
+-- there are tokens, and they are the line's, none of them too deep
+abbrev pub SpelledBy : Reading → LineTree → Type 0
+SpelledBy (Ok tokens) l = IsReadLine (words_of tokens) l
+SpelledBy (Err first) l = ⊥
+
+-- the bytes spell the line
+abbrev pub Spells : List ℕ → LineTree → Type 0
+Spells line l = SpelledBy (tokens_of line) l
+
+-- refused at the first byte that begins no token; where there are tokens, at the first of them that no line has there, or that is too deep
+abbrev pub RefusedBy : Reading → Refusal → Type 0
+RefusedBy (Ok tokens) refusal = RefusesLine (words_of tokens) refusal.place refusal.cause
+RefusedBy (Err first) refusal = first ≡ refusal
+
+-- the bytes spell no line: where they stop, and why
+abbrev pub Refuses : List ℕ → Refusal → Type 0
+Refuses line refusal = RefusedBy (tokens_of line) refusal
 
 pub data Verdict : Type 0 where
   HasTree : Verdict
   RefusedFor : Cause → Verdict
 
-abbrev pub WordsJudged : List Word → Verdict → Type 0
-WordsJudged ws HasTree = (l : LineTree) × IsReadLine ws l
-WordsJudged ws (RefusedFor cause) = (k : ℕ) × RefusesLine ws k cause
-
--- a line without tokens is refused for the cause that its scanning has
-abbrev pub ReadingJudged : Reading → Verdict → Type 0
-ReadingJudged (Err refusal) v = v ≡ RefusedFor refusal.cause
-ReadingJudged (Ok tokens) v = WordsJudged (words_of tokens) v
-
 abbrev pub IsJudged : List ℕ → Verdict → Type 0
-IsJudged line v = ReadingJudged (tokens_of line) v
+IsJudged line HasTree = (l : LineTree) × Spells line l
+IsJudged line (RefusedFor cause) = (refusal : Refusal) × Refuses line refusal × (refusal.cause ≡ cause)
 
 -- what judges lines, and does it by the grammar
 abbrev pub Judge : Type 0

@@ -1,6 +1,6 @@
 //! What a user relies on, as laws over the definitions: each is the contract of a function that does nothing.
 
-ghost use Rattle.basic_tree.specs.AnswerLaws.{LevelsAreSettled, OneExprAnswer, OneLineAnswer, OneVerdict};
+ghost use Rattle.basic_tree.specs.AnswerLaws.{LevelsAreSettled, OneExprAnswer, OneLineAnswer, OneBytesAnswer, OneVerdict};
 ghost use Rattle.basic_tree.specs.GrammarPlaces.{OneTree, OneLine, SpellingGivesBack};
 ghost use Rattle.basic_tree.specs.LineVerdicts.{LinesAreJudged};
 ghost use Rattle.basic_tree.specs.TokenLaws.{TokensAreSlices, BlanksMoveTokens, BlanksSeparateTokens, LongestIsTaken};
@@ -58,6 +58,11 @@ pub fn expressions_have_one_answer()
 /// Words are one line, or refused at one place for one cause.
 pub fn lines_have_one_answer()
     ensures { OneLineAnswer }
+{}
+
+/// Bytes spell one line, or are refused at one place for one cause.
+pub fn bytes_have_one_answer()
+    ensures { OneBytesAnswer }
 {}
 
 /// The bytes of a line have one verdict: all judges by the grammar agree.
