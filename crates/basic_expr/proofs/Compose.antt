@@ -17,10 +17,10 @@ use Rattle.basic_tree.specs.Trees.{Tree, Trees, FunctionOf, Literal, Quoted, Var
 use Rattle.basic_tree.specs.TreeViews.{tree_of}
 use Rattle.basic_tree.specs.GrammarTables.{arguments_of, gives_text}
 use Rattle.basic_tree.specs.GrammarWords.{function_of, is_same_sign}
-use Rattle.basic_tree.specs.GrammarStack.{Action, Arguments, Close, Collect, Do, Expect, Level, MakeCall, MakeComparison, MakeElement, MakeFunction, MakeParenthesized, More, MoreArguments, Opening, SecondSubscript, Several, Subscripts, Symbol, Term, Values, loosest, made, others, with_last}
-use Rattle.basic_tree.specs.GrammarStarts.{Start, Chain, arguments_expected, function_start, more_expected, rank_of, relations, side, takes}
-use Rattle.basic_tree.specs.GrammarMachine.{begun}
-use Rattle.basic_tree.specs.GrammarRun.{TooDeep, Wrong, moved, run, turn, turned}
+use Rattle.basic_tree.specs.MachineStack.{Action, Arguments, Close, Collect, Do, Expect, Level, MakeCall, MakeComparison, MakeElement, MakeFunction, MakeParenthesized, More, MoreArguments, Opening, SecondSubscript, Several, Subscripts, Symbol, Term, Values, loosest, made, others, with_last}
+use Rattle.basic_tree.specs.MachineStarts.{Start, Chain, arguments_expected, function_start, more_expected, rank_of, relations, side, takes}
+use Rattle.basic_tree.specs.MachineMoves.{begun}
+use Rattle.basic_tree.specs.MachineRun.{TooDeep, Wrong, moved, run, turn, turned}
 use Rattle.basic_tree.proofs.MachineSteps.{run_chain, run_relations, run_do, run_close}
 use Rattle.basic_expr.specs.declared.failures.Failure.{Failure}
 use Rattle.basic_expr.specs.declared.failures.Failure.TheVariants as failure

@@ -1,7 +1,7 @@
 -- What passes the test for a word is that word.
 use Rattle.std.proofs.Common.{◌≡◌, ◌||◌, true, refl, sym, ap}
 use Rattle.basic_tree.specs.declared.tokens.Keyword.TheVariants as keyword
-use Rattle.basic_tree.specs.GrammarForms.{is_known, key_begins}
+use Rattle.basic_tree.specs.MachineForms.{is_known, key_begins}
 use Rattle.basic_tree.specs.GrammarWords.{function_of, is_same_keyword}
 use Rattle.basic_tree.specs.declared.tokens.Keyword.{Keyword}
 use Rattle.basic_tree.specs.SpellingWords.{Word, Key, Punctuation, Named, FnNamed, Number, Quotation, Item}

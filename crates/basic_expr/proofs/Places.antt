@@ -4,8 +4,8 @@ use Rattle.basic_tree.specs.declared.kinds.Want.{Want}
 use Rattle.basic_tree.specs.SpellingWords.{Word, most_levels}
 use Rattle.basic_tree.specs.Trees.{Tree}
 use Rattle.basic_tree.specs.GrammarPlaces.{IsRead}
-use Rattle.basic_tree.specs.GrammarStack.{Term, Values, Symbol, Level, loosest}
-use Rattle.basic_tree.specs.GrammarRun.{run}
+use Rattle.basic_tree.specs.MachineStack.{Term, Values, Symbol, Level, loosest}
+use Rattle.basic_tree.specs.MachineRun.{run}
 use Rattle.basic_tree.proofs.MachinePasses.{left}
 use Rattle.basic_tree.proofs.BetweenLemmas.{stops_behind}
 use Rattle.basic_tree.proofs.ExpressionPlaces.{expression_read, expression_wrong, expression_deep}

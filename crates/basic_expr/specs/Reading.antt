@@ -21,10 +21,10 @@ use Rattle.basic_tree.specs.Trees.{Tree, Trees, NoTrees, AndTrees, Negative, Pos
 use Rattle.basic_tree.specs.TreeViews.{tree_of}
 use Rattle.basic_tree.specs.GrammarTables.{arguments_of, gives_text, joins_texts, operator_level}
 use Rattle.basic_tree.specs.GrammarWords.{function_of, is_same_sign, is_same_keyword}
-use Rattle.basic_tree.specs.GrammarStack.{Action, Close, Do, Exponent, Level, MakeComparison, MakeFunction, MakeNegative, MakeNot, MakeOperation, MakePositive, More, MoreRelations, SecondSubscript, Several, Subscripts, Symbol, Term, Value, Values}
-use Rattle.basic_tree.specs.GrammarStarts.{arguments_expected, takes}
-use Rattle.basic_tree.specs.GrammarMachine.{right_of}
-use Rattle.basic_tree.specs.GrammarRun.{TooDeep, Wrong, run}
+use Rattle.basic_tree.specs.MachineStack.{Action, Close, Do, Exponent, Level, MakeComparison, MakeFunction, MakeNegative, MakeNot, MakeOperation, MakePositive, More, MoreRelations, SecondSubscript, Several, Subscripts, Symbol, Term, Value, Values}
+use Rattle.basic_tree.specs.MachineStarts.{arguments_expected, takes}
+use Rattle.basic_tree.specs.MachineMoves.{right_of}
+use Rattle.basic_tree.specs.MachineRun.{TooDeep, Wrong, run}
 
 -- ---- symbols
 

@@ -3,9 +3,9 @@
 ghost use Rattle.std.specs.Prelude.{◌≡◌, ◌≤◌, ◌<◌, ◌+◌, ◌∷◌, [], length, drop, IfOk};
 ghost use Rattle.basic_expr.specs.Reading.{Ends, EndsFrom, IsChain, IsPrefixed, ReadsAll, ReadsAt, ReadsSecond, Stands, begins_atom, function_expected, prefixed, second_tree, trees_in};
 ghost use Rattle.basic_expr.specs.Views.{as_word, most_words};
-ghost use Rattle.basic_tree.specs.GrammarMachine.{right_of};
-ghost use Rattle.basic_tree.specs.GrammarStack.{Arguments, Exponent, Level, Several, Subscripts, loosest};
-ghost use Rattle.basic_tree.specs.GrammarStarts.{Chain, rank_of, takes};
+ghost use Rattle.basic_tree.specs.MachineMoves.{right_of};
+ghost use Rattle.basic_tree.specs.MachineStack.{Arguments, Exponent, Level, Several, Subscripts, loosest};
+ghost use Rattle.basic_tree.specs.MachineStarts.{Chain, rank_of, takes};
 ghost use Rattle.basic_tree.specs.SpellingExpressions.{is_text};
 ghost use Rattle.basic_tree.specs.SpellingWords.{Punctuation};
 ghost use Rattle.basic_tree.specs.TreeViews.{tree_of};

@@ -3,8 +3,8 @@
 ghost use Rattle.std.specs.Prelude.{◌≡◌, ◌≤◌, ◌<◌, ◌+◌, ◌∷◌, [], drop, length, ◌-◌, MatchBool};
 ghost use Rattle.basic_expr.specs.Views.{as_word, most_words};
 ghost use Rattle.basic_expr.specs.Reading.{First, IsPrefixed, IsRightLevel, OperatorAt, goes_on, PrefixAt, ReadsSign, RelationAt, Stands, always, exponents, is_key, is_sign, number_atom, signed_level, takes_number};
-ghost use Rattle.basic_tree.specs.GrammarStack.{Level, Exponent};
-ghost use Rattle.basic_tree.specs.GrammarForms.{begins_value, is_known, key_begins};
+ghost use Rattle.basic_tree.specs.MachineStack.{Level, Exponent};
+ghost use Rattle.basic_tree.specs.MachineForms.{begins_value, is_known, key_begins};
 ghost use Rattle.basic_tree.specs.GrammarWords.{function_of, operator_of, relation_of, is_same_sign};
 ghost use Rattle.basic_tree.specs.SpellingWords.{Punctuation, Key as KeyWord};
 ghost use Rattle.basic_tree.specs.declared.kinds.Want.TheVariants.{Number};

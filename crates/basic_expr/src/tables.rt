@@ -3,7 +3,7 @@
 ghost use Rattle.std.specs.Prelude.{◌≡◌, ◌≤◌, ◌<◌, ◌+◌, ◌∷◌, [], drop, length, MatchOption, None, Some};
 ghost use Rattle.basic_tree.specs.GrammarTables.{operator_level, joins_texts, arguments_of, gives_text};
 ghost use Rattle.basic_tree.specs.GrammarWords.{sign_operator, key_operator, sign_relation, function_of, sign_number};
-ghost use Rattle.basic_tree.specs.GrammarStarts.{takes, side};
+ghost use Rattle.basic_tree.specs.MachineStarts.{takes, side};
 ghost use Rattle.basic_expr.specs.Reading.{takes_relations};
 ghost use Rattle.basic_tree.specs.SpellingExpressions.{want_of};
 

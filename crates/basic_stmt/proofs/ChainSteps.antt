@@ -10,9 +10,9 @@ use Rattle.basic_tree.specs.SpellingWords.{Word, Punctuation, words}
 use Rattle.basic_tree.specs.SpellingExpressions.{steps_of}
 use Rattle.basic_tree.specs.SpellingParts.{first_word, is_name, last_word, may_follow}
 use Rattle.basic_tree.specs.Trees.{Tree}
-use Rattle.basic_tree.specs.GrammarStack.{Term, Values, Symbol, Level, loosest}
-use Rattle.basic_tree.specs.GrammarForms.{begins_value, chains}
-use Rattle.basic_tree.specs.GrammarRun.{run}
+use Rattle.basic_tree.specs.MachineStack.{Term, Values, Symbol, Level, loosest}
+use Rattle.basic_tree.specs.MachineForms.{begins_value, chains}
+use Rattle.basic_tree.specs.MachineRun.{run}
 use Rattle.basic_tree.proofs.ExpressionPlaces.{last_taken}
 use Rattle.basic_tree.proofs.FormSteps.{expr_if, expr_if_not}
 use Rattle.basic_stmt.specs.Following.{EndsBefore, NothingFollows, NumberFollows, follows}

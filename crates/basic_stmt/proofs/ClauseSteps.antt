@@ -10,12 +10,12 @@ use Rattle.basic_tree.specs.declared.kinds.Want.TheVariants as want
 use Rattle.basic_tree.specs.SpellingWords.{Word, Key, Number}
 use Rattle.basic_tree.specs.SpellingStatements.{is_if, wants_else, else_wants_else, clause_wants_else}
 use Rattle.basic_tree.specs.Trees.{Tree, ClauseTree, LineClause, StatementClause, ElseTree, NoElse, Else, StatementTree, IfThen, IfGoto}
-use Rattle.basic_tree.specs.GrammarStack.{Value, Values, Stated, Symbol, Go, Form, IfKey, TakeKey, ExprOf, LiteralIn, ClauseIn, AwaitClause, Modifiers, Close, Do, AddStatement, OneStatement, LineNumber, within}
-use Rattle.basic_tree.specs.GrammarForms.{says, else_form}
-use Rattle.basic_tree.specs.GrammarSentences as sentences
-use Rattle.basic_tree.specs.GrammarSentences.{Sentence, key_sentence, sentence_of, if_form}
-use Rattle.basic_tree.specs.GrammarMachine.{behind_class}
-use Rattle.basic_tree.specs.GrammarRun.{Halt, Wrong, TooDeep, run}
+use Rattle.basic_tree.specs.MachineStack.{Value, Values, Stated, Symbol, Go, Form, IfKey, TakeKey, ExprOf, LiteralIn, ClauseIn, AwaitClause, Modifiers, Close, Do, AddStatement, OneStatement, LineNumber, within}
+use Rattle.basic_tree.specs.MachineForms.{says, else_form}
+use Rattle.basic_tree.specs.MachineSentences as sentences
+use Rattle.basic_tree.specs.MachineSentences.{Sentence, key_sentence, sentence_of, if_form}
+use Rattle.basic_tree.specs.MachineMoves.{behind_class}
+use Rattle.basic_tree.specs.MachineRun.{Halt, Wrong, TooDeep, run}
 use Rattle.basic_tree.proofs.MachineSteps.{run_close}
 use Rattle.basic_tree.proofs.MachineStops.{finished}
 use Rattle.basic_tree.proofs.FormSteps.{run_made, if_key_opens, literal_taken}

@@ -9,9 +9,9 @@ use Rattle.basic_tree.specs.SpellingWords.{Word, Key}
 use Rattle.basic_tree.specs.declared.statements.Statement.{Statement}
 use Rattle.basic_tree.specs.StatementViews.{statement_of}
 use Rattle.basic_tree.specs.Trees.{StatementTree, Modified, ModifierTree}
-use Rattle.basic_tree.specs.GrammarStack.{Values, Stated, Modifying, Modify, Symbol, Go, Form, TakeKey, Modifiers, Close, Do}
-use Rattle.basic_tree.specs.GrammarSentences.{key_modifier, modifier_of}
-use Rattle.basic_tree.specs.GrammarRun.{Halt, TooDeep, run}
+use Rattle.basic_tree.specs.MachineStack.{Values, Stated, Modifying, Modify, Symbol, Go, Form, TakeKey, Modifiers, Close, Do}
+use Rattle.basic_tree.specs.MachineSentences.{key_modifier, modifier_of}
+use Rattle.basic_tree.specs.MachineRun.{Halt, TooDeep, run}
 use Rattle.basic_tree.proofs.MachineSteps.{run_do, run_close}
 use Rattle.basic_tree.proofs.FormSteps.{key_opened, run_made}
 use Rattle.basic_tree.proofs.FormWords.{key_is_same}

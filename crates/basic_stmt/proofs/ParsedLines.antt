@@ -17,11 +17,11 @@ use Rattle.basic_tree.specs.SpellingWords.{Word, Punctuation, words_of, most_lev
 use Rattle.basic_tree.specs.SpellingStatements.{statements_of, line_statements}
 use Rattle.basic_tree.specs.Trees.{StatementTree, LineTree}
 use Rattle.basic_tree.specs.StatementViews.{statement_of, line_of}
-use Rattle.basic_tree.specs.GrammarStack.{Values, Stated, Parsed, AddStatement, OneStatement, MoreStatements}
-use Rattle.basic_tree.specs.GrammarSentences.{if_form}
+use Rattle.basic_tree.specs.MachineStack.{Values, Stated, Parsed, AddStatement, OneStatement, MoreStatements}
+use Rattle.basic_tree.specs.MachineSentences.{if_form}
 use Rattle.basic_tree.specs.GrammarPlaces.{IsReadLine, RefusesLine}
-use Rattle.basic_tree.specs.GrammarJudge.{line_symbols, line_values}
-use Rattle.basic_tree.specs.GrammarRun.{Wrong, TooDeep, run}
+use Rattle.basic_tree.specs.MachineJudge.{line_symbols, line_values}
+use Rattle.basic_tree.specs.MachineRun.{Wrong, TooDeep, run}
 use Rattle.basic_tree.proofs.MachineSteps.{run_do}
 use Rattle.basic_tree.proofs.LineSteps as steps
 use Rattle.basic_tree.proofs.LinePlaces.{line_read, line_wrong, line_stops, line_deep}

@@ -7,9 +7,9 @@ use Rattle.basic_tree.specs.declared.names.Name.{Name}
 use Rattle.basic_tree.specs.declared.tokens.Sign.TheVariants as sign
 use Rattle.basic_tree.specs.SpellingWords.{Word, Punctuation, Named, FnNamed, Number, Quotation}
 use Rattle.basic_tree.specs.SpellingWords.{Item as ItemOf}
-use Rattle.basic_tree.specs.GrammarStarts.{takes}
-use Rattle.basic_tree.specs.GrammarStack.{Values, Symbol, Go, Form, TakeSign, TakeClosing, IfSign, NameIn, FnNameIn, LiteralIn, LiteralIf, QuotedIf, ItemIn, MoreItems, Limit, within}
-use Rattle.basic_tree.specs.GrammarRun.{Halt, Wrong, TooDeep, run}
+use Rattle.basic_tree.specs.MachineStarts.{takes}
+use Rattle.basic_tree.specs.MachineStack.{Values, Symbol, Go, Form, TakeSign, TakeClosing, IfSign, NameIn, FnNameIn, LiteralIn, LiteralIf, QuotedIf, ItemIn, MoreItems, Limit, within}
+use Rattle.basic_tree.specs.MachineRun.{Halt, Wrong, TooDeep, run}
 use Rattle.basic_tree.proofs.FormSteps.{name_taken, fn_name_taken, literal_taken, literal_if, item_taken, item_added, quoted_if, sign_opened, closing_sign_taken, if_sign_opens}
 use Rattle.basic_stmt.specs.Reading.{Leads, Halts, named, fn_named, number, is_name, is_fn_name, is_number, is_quotation, is_item, NameAt, FnNameAt, NumberAt, IfLiteral, IfQuoted, ItemAt, IfOpens}
 

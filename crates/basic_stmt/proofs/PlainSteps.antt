@@ -4,9 +4,9 @@ use Rattle.basic_expr.specs.declared.failures.Failure.{Failure}
 use Rattle.basic_tree.specs.declared.tokens.Keyword.{Keyword}
 use Rattle.basic_tree.specs.SpellingWords.{Word, Key}
 use Rattle.basic_tree.specs.Trees.{StatementTree}
-use Rattle.basic_tree.specs.GrammarStack.{Stated, Form}
-use Rattle.basic_tree.specs.GrammarSentences as sentences
-use Rattle.basic_tree.specs.GrammarSentences.{Sentence, key_sentence, sentence_of}
+use Rattle.basic_tree.specs.MachineStack.{Stated, Form}
+use Rattle.basic_tree.specs.MachineSentences as sentences
+use Rattle.basic_tree.specs.MachineSentences.{Sentence, key_sentence, sentence_of}
 use Rattle.basic_stmt.specs.Reading.{Gives, Halts}
 use Rattle.basic_stmt.specs.Structure.{GivesPlain, HaltsPlain, is_choice}
 use Rattle.basic_stmt.specs.Families.{GivesAs, GivesIn, HaltsAs, HaltsIn}

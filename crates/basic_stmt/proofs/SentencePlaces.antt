@@ -3,9 +3,9 @@ use Rattle.std.proofs.Common.{◌≡◌, ℕ, false, List, [], ◌∷◌, drop, 
 use Rattle.basic_expr.specs.Reading.{First}
 use Rattle.basic_tree.specs.SpellingWords.{Word, Number}
 use Rattle.basic_tree.specs.Trees.{ClauseTree}
-use Rattle.basic_tree.specs.GrammarStack.{Values, Parsed, Symbol, Go, Form, ClauseIn}
-use Rattle.basic_tree.specs.GrammarSentences.{Sentence, sentence_of}
-use Rattle.basic_tree.specs.GrammarRun.{Halt, Wrong, run}
+use Rattle.basic_tree.specs.MachineStack.{Values, Parsed, Symbol, Go, Form, ClauseIn}
+use Rattle.basic_tree.specs.MachineSentences.{Sentence, sentence_of}
+use Rattle.basic_tree.specs.MachineRun.{Halt, Wrong, run}
 use Rattle.basic_tree.proofs.LineSteps as steps
 use Rattle.basic_stmt.specs.Structure.{Nothing, SentenceAt, class_as, class_in, classes, is_line_number}
 use Rattle.basic_stmt.specs.declared.sentences.Class.{Class}

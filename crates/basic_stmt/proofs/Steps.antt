@@ -9,8 +9,8 @@ use Rattle.basic_tree.specs.declared.tokens.Sign.{Sign}
 use Rattle.basic_tree.specs.declared.kinds.Want.{Want}
 use Rattle.basic_tree.specs.SpellingWords.{Word, Key, Punctuation}
 use Rattle.basic_tree.specs.Trees.{Tree}
-use Rattle.basic_tree.specs.GrammarStack.{Values, Term, Symbol, Level, Go, Await, Form, IfKey, IfSign, TakeKey, TakeSign, ExprOf, loosest}
-use Rattle.basic_tree.specs.GrammarRun.{Halt, Wrong, run}
+use Rattle.basic_tree.specs.MachineStack.{Values, Term, Symbol, Level, Go, Await, Form, IfKey, IfSign, TakeKey, TakeSign, ExprOf, loosest}
+use Rattle.basic_tree.specs.MachineRun.{Halt, Wrong, run}
 use Rattle.basic_tree.proofs.FormSteps.{run_made, run_await, run_expr, key_taken, sign_taken, if_key, if_sign}
 use Rattle.basic_stmt.specs.Reading.{IsPlaced, Leads, Halts, TakesKey, SkipsKey, TakesSign, SkipsSign}
 

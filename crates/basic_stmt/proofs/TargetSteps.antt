@@ -9,9 +9,9 @@ use Rattle.basic_tree.specs.SpellingWords.{Word, Named}
 use Rattle.basic_tree.specs.SpellingPieces.{is_target}
 use Rattle.basic_tree.specs.Trees.{Tree}
 use Rattle.basic_tree.specs.GrammarPlaces.{between}
-use Rattle.basic_tree.specs.GrammarStarts.{takes}
-use Rattle.basic_tree.specs.GrammarStack.{Values, Term, top, Symbol, Subscripts, Go, Await, Form, TargetOf}
-use Rattle.basic_tree.specs.GrammarRun.{Halt, Wrong, run}
+use Rattle.basic_tree.specs.MachineStarts.{takes}
+use Rattle.basic_tree.specs.MachineStack.{Values, Term, top, Symbol, Subscripts, Go, Await, Form, TargetOf}
+use Rattle.basic_tree.specs.MachineRun.{Halt, Wrong, run}
 use Rattle.basic_tree.proofs.BetweenLemmas.{cut_between}
 use Rattle.basic_tree.proofs.FormBack.{led_target}
 use Rattle.basic_tree.proofs.FormSteps.{run_await, target_taken}

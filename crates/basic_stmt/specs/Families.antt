@@ -5,9 +5,9 @@ use Rattle.basic_tree.specs.declared.tokens.Keyword.{Keyword}
 use Rattle.basic_tree.specs.declared.tokens.Keyword.TheVariants as keyword
 use Rattle.basic_tree.specs.SpellingWords.{Word}
 use Rattle.basic_tree.specs.Trees.{StatementTree}
-use Rattle.basic_tree.specs.GrammarStack.{Stated, Form}
-use Rattle.basic_tree.specs.GrammarSentences as sentences
-use Rattle.basic_tree.specs.GrammarSentences.{Sentence}
+use Rattle.basic_tree.specs.MachineStack.{Stated, Form}
+use Rattle.basic_tree.specs.MachineSentences as sentences
+use Rattle.basic_tree.specs.MachineSentences.{Sentence}
 use Rattle.basic_stmt.specs.Reading.{Gives, Halts}
 
 -- ---- what is read

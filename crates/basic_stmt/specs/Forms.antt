@@ -6,11 +6,11 @@ use Rattle.basic_tree.specs.declared.kinds.Want.TheVariants as want
 use Rattle.basic_tree.specs.Trees.{FnEnd, Read, Restore, Goto, Gosub, Return, Resume, Stop, End, Sleep, Close, Get, Put, Unlock, Kill, Rename}
 use Rattle.std.specs.Prelude.{ℕ, List, Some, None}
 use Rattle.basic_tree.specs.declared.parts.Separator.TheVariants as separator
-use Rattle.basic_tree.specs.GrammarSentences.{input_targets}
+use Rattle.basic_tree.specs.MachineSentences.{input_targets}
 use Rattle.basic_tree.specs.Trees.{Tree, OnGoto, OnGosub, OnErrorGoto, DimFile, InputLine}
 use Rattle.basic_tree.specs.declared.parts.OpenFor.TheVariants as purpose
-use Rattle.basic_tree.specs.GrammarStack.{Form, TakeKey, TakeSign, IfKey, IfSign, ExprOf, NameIn, LiteralIn, LiteralIf, LineNumber, Bound, Targets, Channels, Lines, FileShapes}
-use Rattle.basic_tree.specs.GrammarForms.{list_form, targets_in, channels_in, lines_in, files_in, says, number_option, targets_form, file_form}
+use Rattle.basic_tree.specs.MachineStack.{Form, TakeKey, TakeSign, IfKey, IfSign, ExprOf, NameIn, LiteralIn, LiteralIf, LineNumber, Bound, Targets, Channels, Lines, FileShapes}
+use Rattle.basic_tree.specs.MachineForms.{list_form, targets_in, channels_in, lines_in, files_in, says, number_option, targets_form, file_form}
 
 abbrev pub fn_end_form : Form
 fn_end_form = TakeKey false keyword.FnEnd (says FnEnd)

@@ -7,9 +7,9 @@ use Rattle.basic_tree.specs.declared.parts.PrintItem.{PrintItem}
 use Rattle.basic_tree.specs.SpellingWords.{Word}
 use Rattle.basic_tree.specs.Trees.{Tree, PrintedTree, PrintItemTree, PrintChannelTree, Value, Print}
 use Rattle.basic_tree.specs.TreeViews.{item_of, printed_of}
-use Rattle.basic_tree.specs.GrammarStack.{Stated, Form, TakeSign, TakeClosing, IfSign, ExprOf, MorePrinted}
-use Rattle.basic_tree.specs.GrammarForms.{says, printed_form}
-use Rattle.basic_tree.specs.GrammarMachine.{tab_form}
+use Rattle.basic_tree.specs.MachineStack.{Stated, Form, TakeSign, TakeClosing, IfSign, ExprOf, MorePrinted}
+use Rattle.basic_tree.specs.MachineForms.{says, printed_form}
+use Rattle.basic_tree.specs.MachineMoves.{tab_form}
 use Rattle.basic_stmt.specs.Reading.{Leads, Gives}
 use Rattle.basic_stmt.specs.declared.printing.Part.{Part}
 use Rattle.basic_stmt.specs.declared.printing.Part.TheVariants as part

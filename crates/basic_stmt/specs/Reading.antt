@@ -9,10 +9,10 @@ use Rattle.basic_tree.specs.declared.names.Name.{Name}
 use Rattle.basic_tree.specs.SpellingWords.{Word, Named, FnNamed, Number, Quotation}
 use Rattle.basic_tree.specs.SpellingWords.{Item as ItemOf}
 use Rattle.basic_expr.specs.Reading.{First, Stands}
-use Rattle.basic_tree.specs.GrammarStack.{Value, Values, Symbol, Go, Form, IfKey, IfSign, TakeKey, TakeSign, LiteralIf, QuotedIf, ItemIn, MoreItems, Item, Sequence, MoreOf}
-use Rattle.basic_tree.specs.GrammarForms.{has_room, item_form}
-use Rattle.basic_tree.specs.GrammarStack.{Limit, LineNumber, Bound, Size}
-use Rattle.basic_tree.specs.GrammarRun.{Halt, Wrong, TooDeep, run}
+use Rattle.basic_tree.specs.MachineStack.{Value, Values, Symbol, Go, Form, IfKey, IfSign, TakeKey, TakeSign, LiteralIf, QuotedIf, ItemIn, MoreItems, Item, Sequence, MoreOf}
+use Rattle.basic_tree.specs.MachineForms.{has_room, item_form}
+use Rattle.basic_tree.specs.MachineStack.{Limit, LineNumber, Bound, Size}
+use Rattle.basic_tree.specs.MachineRun.{Halt, Wrong, TooDeep, run}
 use Rattle.basic_stmt.specs.declared.literals.Literal.{Literal}
 use Rattle.basic_stmt.specs.declared.literals.Literal.TheVariants as literal
 

@@ -12,12 +12,12 @@ use Rattle.basic_tree.specs.SpellingWords.{Word, Key, Number, most_levels}
 use Rattle.basic_tree.specs.SpellingStatements.{clause_wants_else, statements_of}
 use Rattle.basic_tree.specs.Trees.{Tree, ClauseTree, LineClause, ElseTree, NoElse, Else, StatementTree, IfThen, IfGoto, If, Unless, While, Until, ForModifier}
 use Rattle.basic_tree.specs.StatementViews.{statement_of, clause_of}
-use Rattle.basic_tree.specs.GrammarStack.{Value, Values, Stated, Parsed, Modifying, Symbol, Go, Form, Made, IfKey, TakeKey, ExprOf, LiteralIn, ClauseIn, AwaitClause, Modifiers, Close, Do, AddStatement, OneStatement, MoreStatements, LineNumber, within}
-use Rattle.basic_tree.specs.GrammarForms.{says, range_form, else_form}
-use Rattle.basic_tree.specs.GrammarSentences as sentences
-use Rattle.basic_tree.specs.GrammarSentences.{Sentence, modifier_of, sentence_of}
-use Rattle.basic_tree.specs.GrammarJudge.{line_symbols, line_values}
-use Rattle.basic_tree.specs.GrammarRun.{Halt, run}
+use Rattle.basic_tree.specs.MachineStack.{Value, Values, Stated, Parsed, Modifying, Symbol, Go, Form, Made, IfKey, TakeKey, ExprOf, LiteralIn, ClauseIn, AwaitClause, Modifiers, Close, Do, AddStatement, OneStatement, MoreStatements, LineNumber, within}
+use Rattle.basic_tree.specs.MachineForms.{says, range_form, else_form}
+use Rattle.basic_tree.specs.MachineSentences as sentences
+use Rattle.basic_tree.specs.MachineSentences.{Sentence, modifier_of, sentence_of}
+use Rattle.basic_tree.specs.MachineJudge.{line_symbols, line_values}
+use Rattle.basic_tree.specs.MachineRun.{Halt, run}
 use Rattle.basic_stmt.specs.Reading.{halt_at, Leads, Gives, Halts}
 use Rattle.basic_stmt.specs.declared.sentences.Class.{Class}
 use Rattle.basic_stmt.specs.declared.sentences.Class.TheVariants as class

@@ -2,8 +2,8 @@
 
 ghost use Rattle.std.specs.Prelude.{◌≡◌, ◌≤◌, length, true, false, IfOk, IfErr};
 ghost use Rattle.basic_tree.specs.StatementViews.{statement_of};
-ghost use Rattle.basic_tree.specs.GrammarStack.{Stated};
-ghost use Rattle.basic_tree.specs.GrammarForms.{targets_form};
+ghost use Rattle.basic_tree.specs.MachineStack.{Stated};
+ghost use Rattle.basic_tree.specs.MachineForms.{targets_form};
 ghost use Rattle.basic_stmt.specs.Forms.{let_form};
 ghost use Rattle.basic_stmt.specs.Reading.{Behind, Gives, Halts, IsPlaced};
 

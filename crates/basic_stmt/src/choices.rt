@@ -7,9 +7,9 @@ ghost use Rattle.basic_tree.specs.SpellingStatements.{wants_else, else_wants_els
 ghost use Rattle.basic_tree.specs.Trees.{ClauseTree, ElseTree, IfThen, IfGoto, StatementClause};
 ghost use Rattle.basic_tree.specs.TreeViews.{tree_of};
 ghost use Rattle.basic_tree.specs.StatementViews.{statement_of, clause_of};
-ghost use Rattle.basic_tree.specs.GrammarStack.{ClauseIn, Form, OneStatement, Stated as States};
-ghost use Rattle.basic_tree.specs.GrammarForms.{else_form};
-ghost use Rattle.basic_tree.specs.GrammarSentences.{if_form};
+ghost use Rattle.basic_tree.specs.MachineStack.{ClauseIn, Form, OneStatement, Stated as States};
+ghost use Rattle.basic_tree.specs.MachineForms.{else_form};
+ghost use Rattle.basic_tree.specs.MachineSentences.{if_form};
 ghost use Rattle.basic_stmt.specs.Reading.{Behind, From, Gives, Halts, IsPlaced, Leads, SkipsKey};
 ghost use Rattle.basic_stmt.specs.Structure.{IsLineNumber, LeadsOut, line_in, NoLineNumber, OpensKey, SentenceAt, StatesClause, StatesLine, StopsAt, StopsClause, else_tree, goto_form, then_form};
 ghost use Rattle.basic_stmt.specs.declared.sentences.Class.TheVariants.{Simple};

@@ -2,8 +2,8 @@
 
 ghost use Rattle.std.specs.Prelude.{◌≡◌, ℕ, ◌+◌, ◌<◌, ◌≤◌, Bool, Option, length, IfOk, IfErr};
 ghost use Rattle.basic_tree.specs.declared.parts.Shape.{Shape};
-ghost use Rattle.basic_tree.specs.GrammarStack.{Form, Targets, Shapes, FileShapes, Parameters, Lines, Channels, FieldParts, ShapeItem, FileItem, NameItem, LineItem};
-ghost use Rattle.basic_tree.specs.GrammarForms.{shape_form, size_form};
+ghost use Rattle.basic_tree.specs.MachineStack.{Form, Targets, Shapes, FileShapes, Parameters, Lines, Channels, FieldParts, ShapeItem, FileItem, NameItem, LineItem};
+ghost use Rattle.basic_tree.specs.MachineForms.{shape_form, size_form};
 ghost use Rattle.basic_stmt.specs.Items.{target_item, channel_item, part_item};
 ghost use Rattle.basic_stmt.specs.Reading.{Behind, From, Halts, IsPlaced, Leads};
 

@@ -6,9 +6,9 @@ ghost use Rattle.basic_tree.specs.declared.kinds.Want.TheVariants.{Number};
 ghost use Rattle.basic_tree.specs.Trees.{Tree};
 ghost use Rattle.basic_tree.specs.TreeViews.{tree_of};
 ghost use Rattle.basic_tree.specs.StatementViews.{statement_of};
-ghost use Rattle.basic_tree.specs.GrammarStack.{ExprOf, Form, Stated};
-ghost use Rattle.basic_tree.specs.GrammarForms.{number_option, mode_form, cluster_form, options_form, channel_form, file_form};
-ghost use Rattle.basic_tree.specs.GrammarSentences.{open_form, field_form};
+ghost use Rattle.basic_tree.specs.MachineStack.{ExprOf, Form, Stated};
+ghost use Rattle.basic_tree.specs.MachineForms.{number_option, mode_form, cluster_form, options_form, channel_form, file_form};
+ghost use Rattle.basic_tree.specs.MachineSentences.{open_form, field_form};
 ghost use Rattle.basic_stmt.specs.Forms.{get_form, put_form, unlock_form, close_form, open_for_form};
 ghost use Rattle.basic_stmt.specs.Reading.{Behind, From, Gives, Halts, IsPlaced, Leads};
 

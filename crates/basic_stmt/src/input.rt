@@ -3,8 +3,8 @@
 ghost use Rattle.std.specs.Prelude.{◌≡◌, ℕ, false, ◌+◌, ◌<◌, ◌≤◌, length, option_map, IfOk, IfErr};
 ghost use Rattle.basic_tree.specs.TreeViews.{tree_of, prompt_of};
 ghost use Rattle.basic_tree.specs.StatementViews.{statement_of};
-ghost use Rattle.basic_tree.specs.GrammarStack.{Stated};
-ghost use Rattle.basic_tree.specs.GrammarSentences.{input_form, input_targets};
+ghost use Rattle.basic_tree.specs.MachineStack.{Stated};
+ghost use Rattle.basic_tree.specs.MachineSentences.{input_form, input_targets};
 ghost use Rattle.basic_stmt.specs.Forms.{input_line_form, input_channel_form, input_prompt_form};
 ghost use Rattle.basic_stmt.specs.Reading.{Behind, Gives, Halts, IsPlaced};
 

@@ -3,8 +3,8 @@
 ghost use Rattle.std.specs.Prelude.{◌≡◌, ℕ, true, false, ◌+◌, ◌<◌, ◌≤◌, List, [], ◌∷◌, length, IfOk, IfErr};
 ghost use Rattle.basic_expr.specs.Views.{most_words};
 ghost use Rattle.basic_tree.specs.StatementViews.{statement_of};
-ghost use Rattle.basic_tree.specs.GrammarStack.{Form, ItemIn, MoreItems, Stated};
-ghost use Rattle.basic_tree.specs.GrammarSentences.{data_form};
+ghost use Rattle.basic_tree.specs.MachineStack.{Form, ItemIn, MoreItems, Stated};
+ghost use Rattle.basic_tree.specs.MachineSentences.{data_form};
 ghost use Rattle.basic_stmt.specs.Reading.{Behind, Gives, Halts, IsPlaced, ItemAt, Leads};
 
 use crate::names::text_of;

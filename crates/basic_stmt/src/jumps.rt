@@ -5,9 +5,9 @@ ghost use Rattle.basic_tree.specs.declared.names.Name.{Name};
 ghost use Rattle.basic_tree.specs.Trees.{Tree};
 ghost use Rattle.basic_tree.specs.TreeViews.{tree_of};
 ghost use Rattle.basic_tree.specs.StatementViews.{statement_of};
-ghost use Rattle.basic_tree.specs.GrammarStack.{Form, Stated};
-ghost use Rattle.basic_tree.specs.GrammarForms.{range_form};
-ghost use Rattle.basic_tree.specs.GrammarSentences.{for_form, go_form, on_form};
+ghost use Rattle.basic_tree.specs.MachineStack.{Form, Stated};
+ghost use Rattle.basic_tree.specs.MachineForms.{range_form};
+ghost use Rattle.basic_tree.specs.MachineSentences.{for_form, go_form, on_form};
 ghost use Rattle.basic_stmt.specs.Forms.{goto_form, gosub_form, resume_form, on_key_form, on_error_form};
 ghost use Rattle.basic_stmt.specs.Reading.{Behind, Gives, Halts, IsPlaced, Leads};
 

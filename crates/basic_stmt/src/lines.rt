@@ -9,7 +9,7 @@ ghost use Rattle.basic_tree.specs.Trees.{LineTree};
 ghost use Rattle.basic_tree.specs.LineVerdicts.{Spells, Refuses};
 ghost use Rattle.basic_tree.specs.SpellingWords.{most_levels};
 ghost use Rattle.basic_tree.specs.StatementViews.{statement_of};
-ghost use Rattle.basic_tree.specs.GrammarStack.{OneStatement};
+ghost use Rattle.basic_tree.specs.MachineStack.{OneStatement};
 ghost use Rattle.basic_stmt.specs.Parsing.{Parses, Reads};
 ghost use Rattle.basic_stmt.specs.Reading.{Behind, From, IsPlaced};
 ghost use Rattle.basic_stmt.specs.Structure.{IsPlace, LineEnds, LineStops, SentenceAt, StatesLine, StopsAt, in_list};

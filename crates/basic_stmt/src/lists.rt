@@ -3,8 +3,8 @@
 ghost use Rattle.std.specs.Prelude.{◌≡◌, ℕ, ◌+◌, ◌<◌, ◌≤◌, List, [], ◌∷◌, length, map, IfOk, IfErr, MatchBool};
 ghost use Rattle.basic_expr.specs.Views.{most_words};
 ghost use Rattle.basic_tree.specs.declared.kinds.Want.{Want};
-ghost use Rattle.basic_tree.specs.GrammarStack.{Form, Item, MoreOf, Sequence};
-ghost use Rattle.basic_tree.specs.GrammarForms.{has_room, item_form, list_form};
+ghost use Rattle.basic_tree.specs.MachineStack.{Form, Item, MoreOf, Sequence};
+ghost use Rattle.basic_tree.specs.MachineForms.{has_room, item_form, list_form};
 ghost use Rattle.basic_stmt.specs.Reading.{AddsNone, AddsOne, Behind, From, Halts, IsPlaced, Leads};
 
 use basic_expr::{Failure, Words, next_is_sign};

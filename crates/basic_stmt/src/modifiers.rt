@@ -8,7 +8,7 @@ ghost use Rattle.basic_tree.specs.SpellingStatements.{wants_else};
 ghost use Rattle.basic_tree.specs.Trees.{Modified};
 ghost use Rattle.basic_tree.specs.TreeViews.{modifier_of};
 ghost use Rattle.basic_tree.specs.StatementViews.{statement_of};
-ghost use Rattle.basic_tree.specs.GrammarStack.{Modifying as Modifies_by};
+ghost use Rattle.basic_tree.specs.MachineStack.{Modifying as Modifies_by};
 ghost use Rattle.basic_expr.specs.declared.failures.Failure.TheVariants.{NoMemory};
 ghost use Rattle.basic_stmt.specs.Reading.{Behind, From, Gives, Halts, IsPlaced};
 ghost use Rattle.basic_stmt.specs.Structure.{Modifies, NoModifier, StopsModifying, kind_in, kind_of, key_as, modifier_form};

@@ -2,7 +2,7 @@
 
 ghost use Rattle.std.specs.Prelude.{◌≡◌, ℕ, ◌+◌, ◌<◌, ◌≤◌, length, IfOk, IfErr};
 ghost use Rattle.basic_expr.specs.Views.{as_word, most_words};
-ghost use Rattle.basic_tree.specs.GrammarStack.{Form, NameIn, FnNameIn, LiteralIn, within};
+ghost use Rattle.basic_tree.specs.MachineStack.{Form, NameIn, FnNameIn, LiteralIn, within};
 ghost use Rattle.basic_tree.specs.declared.names.Name.{Name};
 ghost use Rattle.basic_stmt.specs.Reading.{Behind, FnNameAt, Halts, IfLiteral, IfQuoted, IsPlaced, Leads, NameAt, NumberAt, fn_named, limit_of, named, number};
 

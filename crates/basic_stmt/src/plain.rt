@@ -2,7 +2,7 @@
 
 ghost use Rattle.std.specs.Prelude.{◌≡◌, ◌≤◌, false, length, IfOk, IfErr};
 ghost use Rattle.basic_tree.specs.StatementViews.{statement_of};
-ghost use Rattle.basic_tree.specs.GrammarSentences.{key_sentence};
+ghost use Rattle.basic_tree.specs.MachineSentences.{key_sentence};
 ghost use Rattle.basic_stmt.specs.Families.{GivesAs, HaltsAs, is_lone, is_jump, is_file, is_value};
 ghost use Rattle.basic_stmt.specs.Reading.{Behind, IsPlaced};
 ghost use Rattle.basic_stmt.specs.Structure.{GivesPlain, HaltsPlain};

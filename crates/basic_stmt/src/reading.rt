@@ -4,7 +4,7 @@ ghost use Rattle.std.specs.Prelude.{◌≡◌, ℕ, true, false, ◌+◌, ◌-�
 ghost use Rattle.basic_expr.specs.Views.{most_words};
 ghost use Rattle.basic_tree.specs.Trees.{Tree};
 ghost use Rattle.basic_tree.specs.TreeViews.{tree_of};
-ghost use Rattle.basic_tree.specs.GrammarStack.{Form, ExprOf, TakeKey, TakeSign, TakeClosing, IfSign};
+ghost use Rattle.basic_tree.specs.MachineStack.{Form, ExprOf, TakeKey, TakeSign, TakeClosing, IfSign};
 ghost use Rattle.basic_tree.specs.declared.tokens.Sign.TheVariants.{Opening};
 ghost use Rattle.basic_stmt.specs.Reading.{Behind, Halts, IfOpens, IsPlaced, Leads, SkipsKey, SkipsSign, TakesKey, TakesSign};
 

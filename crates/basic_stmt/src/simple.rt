@@ -2,8 +2,8 @@
 
 ghost use Rattle.std.specs.Prelude.{◌≡◌, ℕ, ◌+◌, ◌<◌, ◌≤◌, length, IfOk, IfErr};
 ghost use Rattle.basic_tree.specs.StatementViews.{statement_of};
-ghost use Rattle.basic_tree.specs.GrammarStack.{Stated};
-ghost use Rattle.basic_tree.specs.GrammarSentences.{next_form, lset_form, rset_form};
+ghost use Rattle.basic_tree.specs.MachineStack.{Stated};
+ghost use Rattle.basic_tree.specs.MachineSentences.{next_form, lset_form, rset_form};
 ghost use Rattle.basic_stmt.specs.Forms.{fn_end_form, restore_form, return_form, stop_form, end_form, sleep_form, kill_form, rename_form};
 ghost use Rattle.basic_stmt.specs.Reading.{Behind, Gives, Halts, IsPlaced};
 

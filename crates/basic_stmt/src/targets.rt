@@ -5,7 +5,7 @@ ghost use Rattle.basic_tree.specs.SpellingPieces.{is_target};
 ghost use Rattle.basic_tree.specs.SpellingExpressions.{is_text};
 ghost use Rattle.basic_tree.specs.Trees.{Tree};
 ghost use Rattle.basic_tree.specs.TreeViews.{tree_of, target_of};
-ghost use Rattle.basic_tree.specs.GrammarStack.{Form, TargetOf};
+ghost use Rattle.basic_tree.specs.MachineStack.{Form, TargetOf};
 ghost use Rattle.basic_stmt.specs.Reading.{Behind, Halts, IsPlaced, Leads};
 
 use crate::names::next_name;

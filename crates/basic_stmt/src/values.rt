@@ -5,9 +5,9 @@ ghost use Rattle.basic_tree.specs.Trees.{Tree};
 ghost use Rattle.basic_tree.specs.TreeViews.{tree_of};
 ghost use Rattle.basic_tree.specs.StatementViews.{statement_of};
 ghost use Rattle.basic_tree.specs.SpellingExpressions.{want_of};
-ghost use Rattle.basic_tree.specs.GrammarStack.{Form, Stated};
-ghost use Rattle.basic_tree.specs.GrammarForms.{value_form};
-ghost use Rattle.basic_tree.specs.GrammarSentences.{result_form, dim_form, def_form};
+ghost use Rattle.basic_tree.specs.MachineStack.{Form, Stated};
+ghost use Rattle.basic_tree.specs.MachineForms.{value_form};
+ghost use Rattle.basic_tree.specs.MachineSentences.{result_form, dim_form, def_form};
 ghost use Rattle.basic_stmt.specs.Forms.{read_form, dim_file_form};
 ghost use Rattle.basic_stmt.specs.Reading.{Behind, From, Gives, Halts, IsPlaced, Leads};
 

@@ -4,8 +4,8 @@ use Rattle.std.proofs.lemmas.List.{take-append-drop, drop-drop, take_more, get_o
 use Rattle.std.proofs.Math.Seq.{drop-cons}
 use Rattle.basic_tree.specs.SpellingWords.{Word, Number}
 use Rattle.basic_tree.specs.GrammarPlaces.{between}
-use Rattle.basic_tree.specs.GrammarStack.{Values, Symbol}
-use Rattle.basic_tree.specs.GrammarRun.{run}
+use Rattle.basic_tree.specs.MachineStack.{Values, Symbol}
+use Rattle.basic_tree.specs.MachineRun.{run}
 use Rattle.basic_tree.proofs.MachinePasses.{left, left_short}
 
 -- the words from a place on, cut at a later one

@@ -6,8 +6,8 @@ use Rattle.basic_tree.specs.SpellingWords.{Word, Number, Step, Opens, words, mos
 use Rattle.basic_tree.specs.Trees.{Tree}
 use Rattle.basic_tree.specs.SpellingExpressions.{steps_of, IsExpr}
 use Rattle.basic_tree.specs.GrammarPlaces.{IsFlatTo, between, Begins, IsLimit, IsRead, IsWrong, IsDeep}
-use Rattle.basic_tree.specs.GrammarStack.{Term, Values, top, Symbol, Level, loosest}
-use Rattle.basic_tree.specs.GrammarRun.{Wrong, TooDeep, Outcome, run}
+use Rattle.basic_tree.specs.MachineStack.{Term, Values, top, Symbol, Level, loosest}
+use Rattle.basic_tree.specs.MachineRun.{Wrong, TooDeep, Outcome, run}
 use Rattle.basic_tree.proofs.MachineSpelled.{Spelled}
 use Rattle.basic_tree.proofs.MachineLeads.{words_append}
 use Rattle.basic_tree.proofs.MachineComplete.{depth_of}

@@ -15,10 +15,10 @@ use Rattle.basic_tree.specs.SpellingExpressions.{is_text}
 use Rattle.std.specs.Prelude.{nat_lt}
 use Rattle.basic_tree.specs.GrammarTables.{operator_level, joins_texts, arguments_of, gives_text, sign_level}
 use Rattle.basic_tree.specs.GrammarWords.{operator_of, relation_of, function_of, is_same_sign}
-use Rattle.basic_tree.specs.GrammarStack.{Values, top, Action, Symbol, Level, More, MoreRelations, Exponent, Expect, Opening, Close, Do, Subscripts, SecondSubscript, Arguments, MoreArguments}
-use Rattle.basic_tree.specs.GrammarStarts.{Start, behind, takes, more_expected, arguments_expected, function_start, atom, signed, negated, side, relations, Rank, Signs, Relations, Nots, Chain, rank_of, ranked, start}
-use Rattle.basic_tree.specs.GrammarMachine.{Move, Takes, Skips, Closes, Refuses, begun, right_of, joined, more_of, no_relation, related, move}
-use Rattle.basic_tree.specs.GrammarRun.{Turn, Next, Ended, Stuck, Deep, entered, moved, turn}
+use Rattle.basic_tree.specs.MachineStack.{Values, top, Action, Symbol, Level, More, MoreRelations, Exponent, Expect, Opening, Close, Do, Subscripts, SecondSubscript, Arguments, MoreArguments}
+use Rattle.basic_tree.specs.MachineStarts.{Start, behind, takes, more_expected, arguments_expected, function_start, atom, signed, negated, side, relations, Rank, Signs, Relations, Nots, Chain, rank_of, ranked, start}
+use Rattle.basic_tree.specs.MachineMoves.{Move, Takes, Skips, Closes, Refuses, begun, right_of, joined, more_of, no_relation, related, move}
+use Rattle.basic_tree.specs.MachineRun.{Turn, Next, Ended, Stuck, Deep, entered, moved, turn}
 
 -- ---- the symbols of expressions
 

@@ -14,8 +14,8 @@ use Rattle.basic_tree.specs.SpellingExpressions.{is_text, want_of}
 use Rattle.basic_tree.specs.SpellingPieces.{Piece, Expression, Holds, ArePieces, key, sign_of, number, closing, target, optional, after_commas, many, perhaps}
 use Rattle.basic_tree.specs.SpellingParts.{name, value, option_of}
 use Rattle.basic_tree.specs.SpellingStatements.{pieces_of}
-use Rattle.basic_tree.specs.GrammarStack.{Value, Stated, TargetItem, NameItem, Targets, Parameters, Form, TakeSign, TakeClosing, ExprOf}
-use Rattle.basic_tree.specs.GrammarForms.{says, list_form, targets_in, names_in, targets_form, value_form, opens, options_form, file_form}
+use Rattle.basic_tree.specs.MachineStack.{Value, Stated, TargetItem, NameItem, Targets, Parameters, Form, TakeSign, TakeClosing, ExprOf}
+use Rattle.basic_tree.specs.MachineForms.{says, list_form, targets_in, names_in, targets_form, value_form, opens, options_form, file_form}
 use Rattle.basic_tree.proofs.FormReads.{Reads, stopping, absent}
 use Rattle.basic_tree.proofs.FormParts.{read_made, read_holds, read_key, read_sign, read_if_key, read_if_sign, read_not_key, read_not_sign, read_if_opening, read_closing, read_expr, read_target, read_fn_name}
 use Rattle.basic_tree.proofs.PieceLists.{pieces_split}

@@ -17,10 +17,10 @@ use Rattle.basic_tree.specs.declared.expressions.Operator.{Operator}
 use Rattle.basic_tree.specs.declared.expressions.Operator.TheVariants as operator
 use Rattle.basic_tree.specs.GrammarTables.{operator_level, operator_word, relation_sign}
 use Rattle.basic_tree.specs.GrammarWords.{is_same_sign, keyword_number, is_same_keyword}
-use Rattle.basic_tree.specs.GrammarStack.{Value, Values, Limit, within, Form, ExprOf, ExprIf, TargetOf, NameIn, FnNameIn, Symbol, Subscripts, Go, Await, loosest}
-use Rattle.basic_tree.specs.GrammarStarts.{Start, takes, start}
-use Rattle.basic_tree.specs.GrammarMachine.{Move, Takes, Skips, Refuses, begun, then_also, take_key, take_sign, expression, expression_if, target, name_in, fn_name_in, literal_in, quoted_if, item_in}
-use Rattle.basic_tree.specs.GrammarMachine.{Closes as Ends}
+use Rattle.basic_tree.specs.MachineStack.{Value, Values, Limit, within, Form, ExprOf, ExprIf, TargetOf, NameIn, FnNameIn, Symbol, Subscripts, Go, Await, loosest}
+use Rattle.basic_tree.specs.MachineStarts.{Start, takes, start}
+use Rattle.basic_tree.specs.MachineMoves.{Move, Takes, Skips, Refuses, begun, then_also, take_key, take_sign, expression, expression_if, target, name_in, fn_name_in, literal_in, quoted_if, item_in}
+use Rattle.basic_tree.specs.MachineMoves.{Closes as Ends}
 use Rattle.basic_tree.proofs.MachineReads.{taken, passes_first, Reads}
 use Rattle.basic_tree.proofs.MachineSpelled.{Spelled}
 use Rattle.basic_tree.proofs.MachineBack.{TakesBack, StartBack, start_back, MoveBack, same_sign}

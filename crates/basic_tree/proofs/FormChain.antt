@@ -10,9 +10,9 @@ use Rattle.basic_tree.specs.SpellingPieces.{Piece, Expression, Holds, IsPiece, A
 use Rattle.basic_tree.specs.SpellingParts.{first_word, last_word, is_name, may_follow}
 use Rattle.basic_tree.specs.SpellingStatements.{pieces_of}
 use Rattle.basic_tree.specs.GrammarWords.{operator_of, relation_of}
-use Rattle.basic_tree.specs.GrammarStack.{Value, Go, Await, Form, ExprOf, ExprIf}
-use Rattle.basic_tree.specs.GrammarForms.{begins_value, chains}
-use Rattle.basic_tree.specs.GrammarRun.{run}
+use Rattle.basic_tree.specs.MachineStack.{Value, Go, Await, Form, ExprOf, ExprIf}
+use Rattle.basic_tree.specs.MachineForms.{begins_value, chains}
+use Rattle.basic_tree.specs.MachineRun.{run}
 use Rattle.basic_tree.proofs.MachineSteps.{First, is_operator_at, is_relation, is_opening}
 use Rattle.basic_tree.proofs.MachineLeads.{Follows, ends_bare, words_append, words_parts}
 use Rattle.basic_tree.proofs.MachineComplete.{depth_of, whole}

@@ -8,9 +8,9 @@ use Rattle.basic_tree.specs.Trees.{StatementTree}
 use Rattle.basic_tree.specs.SpellingPieces.{pieces_steps, ArePieces}
 use Rattle.basic_tree.specs.SpellingParts.{modifier}
 use Rattle.basic_tree.specs.SpellingStatements.{is_if, is_head, closings, pieces_of}
-use Rattle.basic_tree.specs.GrammarStack.{Value, Values, Stated, Modifying, Symbol, Go, Form}
-use Rattle.basic_tree.specs.GrammarSentences.{Class, Choice, Head, Simple}
-use Rattle.basic_tree.specs.GrammarRun.{run}
+use Rattle.basic_tree.specs.MachineStack.{Value, Values, Stated, Modifying, Symbol, Go, Form}
+use Rattle.basic_tree.specs.MachineSentences.{Class, Choice, Head, Simple}
+use Rattle.basic_tree.specs.MachineRun.{run}
 
 -- what may stand behind a statement or a clause: a separator, a modifier, or an ELSE where one may follow
 abbrev pub key_ends : Bool → Keyword → Bool

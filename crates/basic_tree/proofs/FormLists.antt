@@ -10,8 +10,8 @@ use Rattle.basic_tree.specs.SpellingWords.{Punctuation}
 use Rattle.basic_tree.specs.Trees.{Tree, CloseChannelTree, FieldPartTree}
 use Rattle.basic_tree.specs.SpellingPieces.{Piece, ArePieces, sign_of, line, target, optional, after_commas, many}
 use Rattle.basic_tree.specs.SpellingParts.{shape, file_shape, element_size, name, close_channel, field_part}
-use Rattle.basic_tree.specs.GrammarStack.{Value, Item, TargetItem, ShapeItem, FileItem, NameItem, LineItem, ChannelItem, FieldItem, Sequence, Targets, Shapes, FileShapes, Parameters, Lines, Channels, FieldParts, Form, MoreOf}
-use Rattle.basic_tree.specs.GrammarForms.{item_form, shape_form, size_form, has_room, list_form, targets_in, shapes_in, files_in, names_in, lines_in, channels_in, parts_in}
+use Rattle.basic_tree.specs.MachineStack.{Value, Item, TargetItem, ShapeItem, FileItem, NameItem, LineItem, ChannelItem, FieldItem, Sequence, Targets, Shapes, FileShapes, Parameters, Lines, Channels, FieldParts, Form, MoreOf}
+use Rattle.basic_tree.specs.MachineForms.{item_form, shape_form, size_form, has_room, list_form, targets_in, shapes_in, files_in, names_in, lines_in, channels_in, parts_in}
 use Rattle.basic_tree.proofs.PieceLists.{pieces_append, pieces_split}
 use Rattle.basic_tree.proofs.FormReads.{Reads, stopping, absent}
 use Rattle.basic_tree.proofs.FormParts.{read_holds, read_key, read_if_sign, read_not_sign, read_opening, read_closing, read_expr, read_target, read_name, read_literal, read_one_more, read_no_more}

@@ -13,10 +13,10 @@ use Rattle.basic_tree.specs.Trees.{Tree, Variable, Element, PrintItemTree, Print
 use Rattle.basic_tree.specs.Trees.{Value as ValueOf}
 use Rattle.basic_tree.specs.SpellingExpressions.{steps_of}
 use Rattle.basic_tree.specs.SpellingPieces.{Piece, Fixed, Expression, NameOf, LiteralOf, Holds, pieces_steps, IsPiece, ArePieces, key, sign_of, closing, is_target}
-use Rattle.basic_tree.specs.GrammarStack.{Value, Values, Term, Stated, Symbol, Go, Await, Item, Sequence, Limit, within, Form, Made, TakeKey, TakeSign, TakeClosing, IfKey, IfSign, ExprOf, TargetOf, NameIn, FnNameIn, LiteralIn, LiteralIf, QuotedIf, ItemIn, MoreItems, MoreOf, MorePrinted}
-use Rattle.basic_tree.specs.GrammarForms.{begins_value, key_begins, item_form, has_room, printed_form}
-use Rattle.basic_tree.specs.GrammarMachine.{tab_form}
-use Rattle.basic_tree.specs.GrammarRun.{run}
+use Rattle.basic_tree.specs.MachineStack.{Value, Values, Term, Stated, Symbol, Go, Await, Item, Sequence, Limit, within, Form, Made, TakeKey, TakeSign, TakeClosing, IfKey, IfSign, ExprOf, TargetOf, NameIn, FnNameIn, LiteralIn, LiteralIf, QuotedIf, ItemIn, MoreItems, MoreOf, MorePrinted}
+use Rattle.basic_tree.specs.MachineForms.{begins_value, key_begins, item_form, has_room, printed_form}
+use Rattle.basic_tree.specs.MachineMoves.{tab_form}
+use Rattle.basic_tree.specs.MachineRun.{run}
 use Rattle.basic_tree.proofs.MachineSteps.{First, is_opening}
 use Rattle.basic_tree.proofs.MachineLeads.{Parted, words_parts}
 use Rattle.basic_tree.proofs.MachineComplete.{depth_of, whole, takes_kind}

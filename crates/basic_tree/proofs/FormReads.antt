@@ -12,9 +12,9 @@ use Rattle.basic_tree.specs.SpellingExpressions.{steps_of, IsTree}
 use Rattle.basic_tree.specs.SpellingPieces.{Piece, Fixed, Expression, NameOf, LiteralOf, Holds, pieces_steps, ArePieces}
 use Rattle.basic_tree.specs.GrammarTables.{function_keyword}
 use Rattle.basic_tree.specs.GrammarWords.{operator_of, relation_of}
-use Rattle.basic_tree.specs.GrammarStack.{Value, Values, Symbol, Go, Form}
-use Rattle.basic_tree.specs.GrammarForms.{begins_value, key_begins}
-use Rattle.basic_tree.specs.GrammarRun.{run}
+use Rattle.basic_tree.specs.MachineStack.{Value, Values, Symbol, Go, Form}
+use Rattle.basic_tree.specs.MachineForms.{begins_value, key_begins}
+use Rattle.basic_tree.specs.MachineRun.{run}
 use Rattle.basic_tree.proofs.MachineSteps.{First, is_operator_at, is_relation, is_opening}
 use Rattle.basic_tree.proofs.MachineLeads.{Follows, Parted, words_parts}
 use Rattle.basic_tree.proofs.MachineComplete.{small}

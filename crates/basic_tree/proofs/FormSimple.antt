@@ -8,10 +8,10 @@ use Rattle.basic_tree.specs.Trees.{Tree, ModifierTree, If, Unless, While, Until,
 use Rattle.basic_tree.specs.SpellingPieces.{Piece, pieces_steps, ArePieces, opening}
 use Rattle.basic_tree.specs.SpellingParts.{modifier, range}
 use Rattle.basic_tree.specs.SpellingStatements.{pieces_of}
-use Rattle.basic_tree.specs.GrammarStack.{Value, Values, Stated, Modifying, Symbol, Go, Form, Made, TakeKey}
-use Rattle.basic_tree.specs.GrammarForms.{says, range_form}
-use Rattle.basic_tree.specs.GrammarSentences.{Sentence, sentence_of, modifier_of}
-use Rattle.basic_tree.specs.GrammarRun.{run}
+use Rattle.basic_tree.specs.MachineStack.{Value, Values, Stated, Modifying, Symbol, Go, Form, Made, TakeKey}
+use Rattle.basic_tree.specs.MachineForms.{says, range_form}
+use Rattle.basic_tree.specs.MachineSentences.{Sentence, sentence_of, modifier_of}
+use Rattle.basic_tree.specs.MachineRun.{run}
 use Rattle.basic_tree.proofs.FormLeads.{Ending, OfClass, Leads}
 use Rattle.basic_tree.proofs.FormSteps.{key_opened}
 use Rattle.basic_tree.proofs.FormReads.{Reads, reads_leads}

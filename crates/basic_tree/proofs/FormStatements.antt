@@ -16,9 +16,9 @@ use Rattle.basic_tree.specs.Trees.{Value as ValueOf}
 use Rattle.basic_tree.specs.SpellingPieces.{Piece, Fixed, ArePieces, line, target, optional, each, many}
 use Rattle.basic_tree.specs.SpellingParts.{shape, file_shape, printed, print_item, close_channel, field_part}
 use Rattle.basic_tree.specs.SpellingStatements.{pieces_of}
-use Rattle.basic_tree.specs.GrammarStack.{Value, Stated, TargetItem, ShapeItem, FileItem, LineItem, ChannelItem, FieldItem, Targets, Shapes, FileShapes, Lines, Channels, FieldParts, MoreItems, MorePrinted}
-use Rattle.basic_tree.specs.GrammarForms.{says, targets_in, shapes_in, files_in, lines_in, channels_in, parts_in}
-use Rattle.basic_tree.specs.GrammarSentences.{input_targets}
+use Rattle.basic_tree.specs.MachineStack.{Value, Stated, TargetItem, ShapeItem, FileItem, LineItem, ChannelItem, FieldItem, Targets, Shapes, FileShapes, Lines, Channels, FieldParts, MoreItems, MorePrinted}
+use Rattle.basic_tree.specs.MachineForms.{says, targets_in, shapes_in, files_in, lines_in, channels_in, parts_in}
+use Rattle.basic_tree.specs.MachineSentences.{input_targets}
 use Rattle.basic_tree.proofs.FormReads.{Reads, stopping, absent}
 use Rattle.basic_tree.proofs.FormParts.{read_made, read_holds, read_key, read_sign, read_if_key, read_if_sign, read_not_key, read_not_sign, read_opening, read_closing, read_expr, read_name, read_literal, read_quoted, read_unquoted, read_item, read_item_added, read_no_items, read_tab, read_value, read_nothing}
 use Rattle.basic_tree.proofs.PieceLists.{pieces_split}

@@ -10,11 +10,11 @@ use Rattle.basic_tree.specs.declared.kinds.Want.TheVariants as want
 use Rattle.basic_tree.specs.SpellingWords.{Word, Key, Punctuation, Named, FnNamed, Number, Quotation}
 use Rattle.basic_tree.specs.SpellingWords.{Item as ItemOf}
 use Rattle.basic_tree.specs.Trees.{Tree, PrintItemTree, PrintChannelTree, Value as ValueOf, Print}
-use Rattle.basic_tree.specs.GrammarStack.{Value, Values, Term, Stated, Symbol, Level, Subscripts, Go, Await, Item, Sequence, Limit, within, Form, Made, TakeKey, TakeSign, TakeClosing, IfKey, IfSign, ExprOf, ExprIf, TargetOf, NameIn, FnNameIn, LiteralIn, LiteralIf, QuotedIf, ItemIn, MoreItems, MoreOf, MorePrinted, loosest}
-use Rattle.basic_tree.specs.GrammarForms.{begins_value, item_form, has_room, printed_form}
-use Rattle.basic_tree.specs.GrammarStarts.{Start, takes, start}
-use Rattle.basic_tree.specs.GrammarMachine.{tab_form, begun, then_also}
-use Rattle.basic_tree.specs.GrammarRun.{Turn, moved, turn, turned, run}
+use Rattle.basic_tree.specs.MachineStack.{Value, Values, Term, Stated, Symbol, Level, Subscripts, Go, Await, Item, Sequence, Limit, within, Form, Made, TakeKey, TakeSign, TakeClosing, IfKey, IfSign, ExprOf, ExprIf, TargetOf, NameIn, FnNameIn, LiteralIn, LiteralIf, QuotedIf, ItemIn, MoreItems, MoreOf, MorePrinted, loosest}
+use Rattle.basic_tree.specs.MachineForms.{begins_value, item_form, has_room, printed_form}
+use Rattle.basic_tree.specs.MachineStarts.{Start, takes, start}
+use Rattle.basic_tree.specs.MachineMoves.{tab_form, begun, then_also}
+use Rattle.basic_tree.specs.MachineRun.{Turn, moved, turn, turned, run}
 use Rattle.basic_tree.proofs.MachineSteps.{First}
 use Rattle.basic_tree.proofs.FormWords.{key_is_same, sign_is_same, is_word, is_number, is_quotation, is_item}
 

@@ -9,10 +9,10 @@ use Rattle.basic_tree.specs.Trees.{Tree, ClauseTree, LineClause, StatementClause
 use Rattle.basic_tree.specs.SpellingExpressions.{steps_of, Fits, IsTree}
 use Rattle.basic_tree.specs.SpellingPieces.{Holds, pieces_steps, ArePieces, closing}
 use Rattle.basic_tree.specs.SpellingStatements.{is_head, else_wants_else, clause_wants_else, has_else, closings, pieces_of, clause_pieces, else_pieces}
-use Rattle.basic_tree.specs.GrammarStack.{Values, Stated, Symbol, Go, Await, AwaitClause, Close, Form, ExprOf, IfKey, ClauseIn, LiteralIn, TakeKey, LineNumber, within}
-use Rattle.basic_tree.specs.GrammarForms.{else_form, says}
-use Rattle.basic_tree.specs.GrammarSentences.{Choice, if_form}
-use Rattle.basic_tree.specs.GrammarRun.{run}
+use Rattle.basic_tree.specs.MachineStack.{Values, Stated, Symbol, Go, Await, AwaitClause, Close, Form, ExprOf, IfKey, ClauseIn, LiteralIn, TakeKey, LineNumber, within}
+use Rattle.basic_tree.specs.MachineForms.{else_form, says}
+use Rattle.basic_tree.specs.MachineSentences.{Choice, if_form}
+use Rattle.basic_tree.specs.MachineRun.{run}
 use Rattle.basic_tree.proofs.MachineSteps.{run_close}
 use Rattle.basic_tree.proofs.MachineLeads.{Follows, Parted, words_parts}
 use Rattle.basic_tree.proofs.MachineComplete.{depth_of, whole}

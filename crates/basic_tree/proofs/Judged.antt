@@ -5,14 +5,14 @@ use Rattle.basic_tree.specs.SpellingWords.{Word, words_of, most_levels}
 use Rattle.basic_tree.specs.Trees.{ClauseTree, StatementClause, LineTree}
 use Rattle.basic_tree.specs.SpellingExpressions.{is_text}
 use Rattle.basic_tree.specs.Tokens.{Lexeme, Reading, tokens_of}
-use Rattle.basic_tree.specs.GrammarStack.{Values, top, stated, below, Form, IfKey, IfSign, ExprIf, LiteralIf, QuotedIf, MoreItems, MoreOf, ClauseIn, Symbol, MoreRelations, Go, Await, AwaitClause}
-use Rattle.basic_tree.specs.GrammarMachine.{Move, Takes, Skips, Refuses, no_relation, clause_move, form_move_with, move}
-use Rattle.basic_tree.specs.GrammarMachine.{Closes as Ends}
-use Rattle.basic_tree.specs.GrammarRun.{Turn, Next, Ended, Stuck, Deep, moved, turn, Wrong, TooDeep, Outcome, turned, run}
+use Rattle.basic_tree.specs.MachineStack.{Values, top, stated, below, Form, IfKey, IfSign, ExprIf, LiteralIf, QuotedIf, MoreItems, MoreOf, ClauseIn, Symbol, MoreRelations, Go, Await, AwaitClause}
+use Rattle.basic_tree.specs.MachineMoves.{Move, Takes, Skips, Refuses, no_relation, clause_move, form_move_with, move}
+use Rattle.basic_tree.specs.MachineMoves.{Closes as Ends}
+use Rattle.basic_tree.specs.MachineRun.{Turn, Next, Ended, Stuck, Deep, moved, turn, Wrong, TooDeep, Outcome, turned, run}
 use Rattle.basic_tree.specs.LineVerdicts.{SpelledBy, RefusedBy, Verdict, HasTree, RefusedFor, IsJudged, Judges, LinesAreJudged}
 use Rattle.basic_tree.specs.GrammarPlaces.{IsReadLine, RefusesLine}
 use Rattle.basic_tree.specs.declared.tokens.Refusal.{Refusal}
-use Rattle.basic_tree.specs.GrammarJudge.{line_symbols, line_values, outcome_verdict, verdict_of, reading_verdict, judge_of}
+use Rattle.basic_tree.specs.MachineJudge.{line_symbols, line_values, outcome_verdict, verdict_of, reading_verdict, judge_of}
 use Rattle.basic_tree.proofs.MachinePasses.{left}
 use Rattle.basic_tree.proofs.MachineStops.{finished}
 use Rattle.basic_tree.proofs.LinePlaces.{line_read, line_wrong, line_stops, line_deep}

@@ -8,9 +8,9 @@ use Rattle.basic_tree.specs.SpellingWords.{Word, Step, Plain, Opens, Closes, wor
 use Rattle.basic_tree.specs.Trees.{Tree, LineTree}
 use Rattle.basic_tree.specs.SpellingExpressions.{steps_of, IsExpr}
 use Rattle.basic_tree.specs.SpellingStatements.{line_steps, IsLine}
-use Rattle.basic_tree.specs.GrammarStack.{Term, Values, top, Symbol, Level, loosest}
-use Rattle.basic_tree.specs.GrammarRun.{run}
-use Rattle.basic_tree.specs.GrammarJudge.{line_symbols, line_values}
+use Rattle.basic_tree.specs.MachineStack.{Term, Values, top, Symbol, Level, loosest}
+use Rattle.basic_tree.specs.MachineRun.{run}
+use Rattle.basic_tree.specs.MachineJudge.{line_symbols, line_values}
 use Rattle.basic_tree.proofs.MachineSpelled.{Spelled}
 use Rattle.basic_tree.proofs.MachineComplete.{depth_of}
 use Rattle.basic_tree.proofs.MachineForms.{taken_whole}

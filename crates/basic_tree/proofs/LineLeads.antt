@@ -8,9 +8,9 @@ use Rattle.basic_tree.specs.Trees.{ModifierTree, StatementTree, Modified}
 use Rattle.basic_tree.specs.SpellingPieces.{Piece, pieces_steps, ArePieces}
 use Rattle.basic_tree.specs.SpellingParts.{modifier}
 use Rattle.basic_tree.specs.SpellingStatements.{is_if, is_head, wants_else, closings, pieces_of}
-use Rattle.basic_tree.specs.GrammarStack.{Value, Stated, Modifying, Modify, Symbol, Go, Do, Close, Modifiers, Form}
-use Rattle.basic_tree.specs.GrammarSentences.{Class, Choice, Head, Simple, Sentence, sentence_of, key_modifier, modifier_of}
-use Rattle.basic_tree.specs.GrammarRun.{run}
+use Rattle.basic_tree.specs.MachineStack.{Value, Stated, Modifying, Modify, Symbol, Go, Do, Close, Modifiers, Form}
+use Rattle.basic_tree.specs.MachineSentences.{Class, Choice, Head, Simple, Sentence, sentence_of, key_modifier, modifier_of}
+use Rattle.basic_tree.specs.MachineRun.{run}
 use Rattle.basic_tree.proofs.PieceLists.{steps_append, pieces_split}
 use Rattle.basic_tree.proofs.FormLeads.{key_ends, word_ends, Ending, OfClass}
 use Rattle.basic_tree.proofs.MachineSteps.{run_do, run_close}

@@ -5,8 +5,8 @@ use Rattle.basic_tree.specs.SpellingWords.{Word, Number, Step, Opens, words, mos
 use Rattle.basic_tree.specs.Trees.{LineTree}
 use Rattle.basic_tree.specs.SpellingStatements.{line_steps, IsLine}
 use Rattle.basic_tree.specs.GrammarPlaces.{IsFlatTo, BeginsLine, IsWrongLine, IsDeepLine, IsReadLine, OneLine}
-use Rattle.basic_tree.specs.GrammarStack.{Values, Symbol}
-use Rattle.basic_tree.specs.GrammarRun.{Wrong, TooDeep, Outcome, run}
+use Rattle.basic_tree.specs.MachineStack.{Values, Symbol}
+use Rattle.basic_tree.specs.MachineRun.{Wrong, TooDeep, Outcome, run}
 use Rattle.basic_tree.proofs.MachineSpelled.{Spelled}
 use Rattle.basic_tree.proofs.MachineLeads.{words_append}
 use Rattle.basic_tree.proofs.MachinePasses.{left}

@@ -5,9 +5,9 @@ use Rattle.basic_tree.specs.SpellingWords.{Word, Step, words}
 use Rattle.basic_tree.specs.Trees.{LineTree, StatementTree}
 use Rattle.basic_tree.specs.SpellingPieces.{pieces_steps, each}
 use Rattle.basic_tree.specs.SpellingStatements.{line_steps, IsLine}
-use Rattle.basic_tree.specs.GrammarStack.{Values, Parsed, Symbol}
-use Rattle.basic_tree.specs.GrammarRun.{Turn, Next, Ended, Stuck, Deep, turn, Wrong, turned, run}
-use Rattle.basic_tree.specs.GrammarJudge.{line_symbols, line_values}
+use Rattle.basic_tree.specs.MachineStack.{Values, Parsed, Symbol}
+use Rattle.basic_tree.specs.MachineRun.{Turn, Next, Ended, Stuck, Deep, turn, Wrong, turned, run}
+use Rattle.basic_tree.specs.MachineJudge.{line_symbols, line_values}
 use Rattle.basic_tree.proofs.MachineReads.{place_pieces, separated}
 use Rattle.basic_tree.proofs.MachineSpelled.{Spelled}
 use Rattle.basic_tree.proofs.MachinePasses.{left}

@@ -5,11 +5,11 @@ use Rattle.basic_tree.specs.declared.tokens.Keyword.TheVariants as keyword
 use Rattle.basic_tree.specs.declared.tokens.Sign.TheVariants as sign
 use Rattle.basic_tree.specs.SpellingWords.{Word, Key, Punctuation, Named, FnNamed, Number}
 use Rattle.basic_tree.specs.Trees.{ClauseTree, LineClause, StatementClause, StatementTree}
-use Rattle.basic_tree.specs.GrammarStack.{Values, Stated, Parsed, Modify, Symbol, Go, AwaitClause, Modifiers, OneStatement, MoreStatements, Close, Do, Form, TakeKey, TargetOf, FnNameIn, ClauseIn, LineNumber, within, with_statement}
-use Rattle.basic_tree.specs.GrammarStarts.{takes}
-use Rattle.basic_tree.specs.GrammarSentences.{Class, Choice, Head, Simple, Sentence, key_sentence, sentence_of, key_modifier, modifier_of}
-use Rattle.basic_tree.specs.GrammarMachine.{Move, Takes, Skips, Closes, Refuses, then_also, form_move_with, form_move, no_clause, behind_clause, clause_sentence, clause_move, behind_class, modified}
-use Rattle.basic_tree.specs.GrammarRun.{Turn, moved, turn, turned, run, Wrong}
+use Rattle.basic_tree.specs.MachineStack.{Values, Stated, Parsed, Modify, Symbol, Go, AwaitClause, Modifiers, OneStatement, MoreStatements, Close, Do, Form, TakeKey, TargetOf, FnNameIn, ClauseIn, LineNumber, within, with_statement}
+use Rattle.basic_tree.specs.MachineStarts.{takes}
+use Rattle.basic_tree.specs.MachineSentences.{Class, Choice, Head, Simple, Sentence, key_sentence, sentence_of, key_modifier, modifier_of}
+use Rattle.basic_tree.specs.MachineMoves.{Move, Takes, Skips, Closes, Refuses, then_also, form_move_with, form_move, no_clause, behind_clause, clause_sentence, clause_move, behind_class, modified}
+use Rattle.basic_tree.specs.MachineRun.{Turn, moved, turn, turned, run, Wrong}
 use Rattle.basic_tree.proofs.MachineSteps.{run_close}
 
 -- ---- what a sentence's form does at its word: it takes the word or refuses it

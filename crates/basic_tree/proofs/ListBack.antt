@@ -13,9 +13,9 @@ use Rattle.basic_tree.specs.Trees.{PrintedTree, Value as ValueOf, Tab, PrintItem
 use Rattle.basic_tree.specs.SpellingExpressions.{mark, steps_of}
 use Rattle.basic_tree.specs.SpellingPieces.{Piece, pieces_steps, ArePieces}
 use Rattle.basic_tree.specs.SpellingParts.{shape, element_size, printed, print_item, separator_piece}
-use Rattle.basic_tree.specs.GrammarStack.{Value, Stated, Values, Item, TargetItem, ShapeItem, FileItem, NameItem, LineItem, ChannelItem, FieldItem, Sequence, Targets, Shapes, FileShapes, Parameters, Lines, Channels, FieldParts, Form, Made, TakeKey, TakeSign, TakeClosing, IfKey, IfSign, ExprOf, ExprIf, TargetOf, NameIn, FnNameIn, LiteralIn, LiteralIf, QuotedIf, ItemIn, MoreItems, MoreOf, MorePrinted, ClauseIn, Close, Go}
-use Rattle.basic_tree.specs.GrammarForms.{begins_value, has_room, item_form, shape_form, size_form, printed_form}
-use Rattle.basic_tree.specs.GrammarMachine.{Move, Takes, Skips, Refuses, expression, expression_if, more_of_list, tab_form, more_printed, form_move_with}
+use Rattle.basic_tree.specs.MachineStack.{Value, Stated, Values, Item, TargetItem, ShapeItem, FileItem, NameItem, LineItem, ChannelItem, FieldItem, Sequence, Targets, Shapes, FileShapes, Parameters, Lines, Channels, FieldParts, Form, Made, TakeKey, TakeSign, TakeClosing, IfKey, IfSign, ExprOf, ExprIf, TargetOf, NameIn, FnNameIn, LiteralIn, LiteralIf, QuotedIf, ItemIn, MoreItems, MoreOf, MorePrinted, ClauseIn, Close, Go}
+use Rattle.basic_tree.specs.MachineForms.{begins_value, has_room, item_form, shape_form, size_form, printed_form}
+use Rattle.basic_tree.specs.MachineMoves.{Move, Takes, Skips, Refuses, expression, expression_if, more_of_list, tab_form, more_printed, form_move_with}
 use Rattle.basic_tree.proofs.PieceLists.{steps_append, pieces_append}
 use Rattle.basic_tree.proofs.MachineReads.{item_pieces, Belongs, items_steps, print_pieces, Reads}
 use Rattle.basic_tree.proofs.MachineBack.{TakesBack, MoveBack}

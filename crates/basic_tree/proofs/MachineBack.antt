@@ -15,10 +15,10 @@ use Rattle.basic_tree.specs.Trees.{Tree, Literal, Quoted, FunctionOf, Parenthesi
 use Rattle.basic_tree.specs.SpellingExpressions.{mark, steps_of, list_steps, more_steps, is_text, Fits, level_of, Fill, IsTree, AreTrees}
 use Rattle.basic_tree.specs.GrammarTables.{sign_level, relation_level, not_level, operator_word, relation_sign, function_keyword, arguments_of, gives_text}
 use Rattle.basic_tree.specs.GrammarWords.{operator_of, relation_of, function_of, sign_number, is_same_sign}
-use Rattle.basic_tree.specs.GrammarStack.{Term, Several, Values, with_last, made, others, Action, MakeFunction, MakeNegative, MakePositive, MakeNot, Symbol, Level, More, MoreRelations, Close, Do, Subscripts, Arguments}
-use Rattle.basic_tree.specs.GrammarMachine.{Move, Takes, Skips, Refuses}
-use Rattle.basic_tree.specs.GrammarMachine.{Closes as Ends}
-use Rattle.basic_tree.specs.GrammarStarts.{Start, starts, behind, if_takes, more_expected, arguments_expected, function_start, atom, prefixed, signed, negated, side, relations, Rank, Signs, Relations, Nots, Chain, rank_of, ranked, start}
+use Rattle.basic_tree.specs.MachineStack.{Term, Several, Values, with_last, made, others, Action, MakeFunction, MakeNegative, MakePositive, MakeNot, Symbol, Level, More, MoreRelations, Close, Do, Subscripts, Arguments}
+use Rattle.basic_tree.specs.MachineMoves.{Move, Takes, Skips, Refuses}
+use Rattle.basic_tree.specs.MachineMoves.{Closes as Ends}
+use Rattle.basic_tree.specs.MachineStarts.{Start, starts, behind, if_takes, more_expected, arguments_expected, function_start, atom, prefixed, signed, negated, side, relations, Rank, Signs, Relations, Nots, Chain, rank_of, ranked, start}
 use Rattle.basic_tree.proofs.MachineSpelled.{Fine, Kept, joined_trees, Spelled}
 pub use Rattle.basic_tree.proofs.MachineReads.{taken}
 

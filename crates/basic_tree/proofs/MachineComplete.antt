@@ -13,9 +13,9 @@ use Rattle.basic_tree.specs.Trees.{Tree, Literal, Quoted, Variable, Element, Fun
 use Rattle.basic_tree.specs.SpellingExpressions.{steps_of, list_steps, more_steps, is_text, want_of, Fits, level_of, Fill, AreSubscripts, IsTree, AreTrees}
 use Rattle.basic_tree.specs.GrammarTables.{operator_level, function_keyword}
 use Rattle.basic_tree.specs.GrammarWords.{function_of}
-use Rattle.basic_tree.specs.GrammarStack.{Term, Several, Values, with_last, Collect, MakeFunction, Symbol, Level, Expect, Close, Do, SecondSubscript, MoreArguments, loosest}
-use Rattle.basic_tree.specs.GrammarStarts.{takes, more_expected, arguments_expected}
-use Rattle.basic_tree.specs.GrammarRun.{run}
+use Rattle.basic_tree.specs.MachineStack.{Term, Several, Values, with_last, Collect, MakeFunction, Symbol, Level, Expect, Close, Do, SecondSubscript, MoreArguments, loosest}
+use Rattle.basic_tree.specs.MachineStarts.{takes, more_expected, arguments_expected}
+use Rattle.basic_tree.specs.MachineRun.{run}
 use Rattle.basic_tree.proofs.MachineSpelled.{joined_trees}
 use Rattle.basic_tree.proofs.MachineBack.{joined-with_last}
 use Rattle.basic_tree.proofs.MachineMoves.{joined-nil}

@@ -13,8 +13,8 @@ use Rattle.basic_tree.specs.Words.{keywords, signs}
 use Rattle.basic_tree.specs.Tokens.{Reading, letter_front, digit_front, quote_front, sign_front, front_of, items_from, tokens_from, tokens_of}
 use Rattle.basic_tree.specs.SpellingWords.{Word, Key, Punctuation, Number, words_of, most_levels}
 use Rattle.basic_tree.specs.Trees.{Literal, Variable, FunctionOf, Call, Negative, Not, Operation, Comparison, NoTrees, AndTrees}
-use Rattle.basic_tree.specs.GrammarStack.{Term, Level, loosest}
-use Rattle.basic_tree.specs.GrammarRun.{Wrong, TooDeep, Outcome, run}
+use Rattle.basic_tree.specs.MachineStack.{Term, Level, loosest}
+use Rattle.basic_tree.specs.MachineRun.{Wrong, TooDeep, Outcome, run}
 
 -- the words of a line's bytes; none where the line is refused
 abbrev words_in : Reading → List Word

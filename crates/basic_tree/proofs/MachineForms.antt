@@ -10,8 +10,8 @@ use Rattle.basic_tree.specs.SpellingWords.{Word, Punctuation, Closes, words}
 use Rattle.basic_tree.specs.Trees.{Tree, Literal, Quoted, Variable, Element, FunctionOf, Call, Parenthesized, Negative, Positive, Not, Operation, Comparison, Trees, NoTrees, AndTrees}
 use Rattle.basic_tree.specs.SpellingExpressions.{steps_of, more_steps, mark, Fits, level_of, AreSubscripts, Fill, IsTree, AreTrees, IsExpr}
 use Rattle.basic_tree.specs.GrammarTables.{arguments_of, gives_text}
-use Rattle.basic_tree.specs.GrammarStack.{Term, Several, Collect, MakeParenthesized, MakeElement, MakeCall, MakeNegative, MakePositive, MakeNot, Level, Exponent, Expect, Close, Do, MoreArguments, loosest}
-use Rattle.basic_tree.specs.GrammarRun.{run}
+use Rattle.basic_tree.specs.MachineStack.{Term, Several, Collect, MakeParenthesized, MakeElement, MakeCall, MakeNegative, MakePositive, MakeNot, Level, Exponent, Expect, Close, Do, MoreArguments, loosest}
+use Rattle.basic_tree.specs.MachineRun.{run}
 use Rattle.basic_tree.proofs.MachineSteps.{run_do, run_close, no_subscripts, no_arguments}
 use Rattle.basic_tree.proofs.MachineLeads.{Leads, at_level, words_parts}
 use Rattle.basic_tree.proofs.MachineComplete.{depth_of, opened, list_depth, whole, closing_follows, AllLead, one_of_list, closing_taken, arguments_lead, subscripts_lead, more_arguments_lead, takes_kind, small, known_function}

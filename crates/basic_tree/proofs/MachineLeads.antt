@@ -10,9 +10,9 @@ use Rattle.basic_tree.specs.SpellingWords.{Word, Key, Step, Plain, Opens, Closes
 use Rattle.basic_tree.specs.Trees.{Tree, Literal, Quoted, Variable, Element, FunctionOf, Call, Parenthesized, Negative, Positive, Not, Operation, Comparison, NoTrees, AndTrees}
 use Rattle.basic_tree.specs.SpellingExpressions.{steps_of, Fits, level_of, IsTree}
 use Rattle.basic_tree.specs.GrammarTables.{operator_level, sign_level, not_level, function_keyword}
-use Rattle.basic_tree.specs.GrammarStack.{Term, Values, Symbol, Level, More}
-use Rattle.basic_tree.specs.GrammarStarts.{side, relations, Rank, Signs, Relations, Nots, Chain, rank_of}
-use Rattle.basic_tree.specs.GrammarRun.{run}
+use Rattle.basic_tree.specs.MachineStack.{Term, Values, Symbol, Level, More}
+use Rattle.basic_tree.specs.MachineStarts.{side, relations, Rank, Signs, Relations, Nots, Chain, rank_of}
+use Rattle.basic_tree.specs.MachineRun.{run}
 use Rattle.basic_tree.proofs.MachineBack.{RankFact, rank_fact}
 use Rattle.basic_tree.proofs.MachineSteps.{is_plus_or_minus, is_not, First, run_chain, run_relations, run_signs, run_nots, continues, NoMore, no_operator, no_relations, is_opening}
 

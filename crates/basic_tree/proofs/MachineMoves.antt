@@ -14,12 +14,12 @@ use Rattle.basic_tree.specs.Trees.{Tree, Variable, Element, Call, Negative, Posi
 use Rattle.basic_tree.specs.SpellingExpressions.{mark, steps_of, more_steps, is_text, Fits, want_of, level_of, is_exponent, IsRight, AreSubscripts, IsTree}
 use Rattle.basic_tree.specs.GrammarTables.{sign_level, relation_level, operator_level, operator_word, joins_texts, relation_sign}
 use Rattle.basic_tree.specs.GrammarWords.{operator_of, relation_of, is_same_sign}
-use Rattle.basic_tree.specs.GrammarStack.{Term, Several, Values, top, several, below, kept, kept_several, made, others, Action, MakeOperation, MakeComparison, Symbol, Level, More, MoreRelations, Exponent, Expect, Opening, Close, Do, Subscripts, SecondSubscript, Arguments, MoreArguments, Go, Await, AwaitClause, Modifiers, OneStatement, MoreStatements}
+use Rattle.basic_tree.specs.MachineStack.{Term, Several, Values, top, several, below, kept, kept_several, made, others, Action, MakeOperation, MakeComparison, Symbol, Level, More, MoreRelations, Exponent, Expect, Opening, Close, Do, Subscripts, SecondSubscript, Arguments, MoreArguments, Go, Await, AwaitClause, Modifiers, OneStatement, MoreStatements}
 use Rattle.basic_tree.proofs.SentenceBack.{go_back, await_back, await_clause_back, modifiers_back, one_statement_back, more_statements_back}
-use Rattle.basic_tree.specs.GrammarStarts.{Start, atom, signed, start}
-use Rattle.basic_tree.specs.GrammarMachine.{Takes, Skips, Refuses, begun, right_of, joined, more_of, no_relation, related, expect, open_list, subscripts, second_subscript, arguments, more_arguments, move}
-use Rattle.basic_tree.specs.GrammarStack.{with_last}
-use Rattle.basic_tree.specs.GrammarMachine.{Closes as Ends}
+use Rattle.basic_tree.specs.MachineStarts.{Start, atom, signed, start}
+use Rattle.basic_tree.specs.MachineMoves.{Takes, Skips, Refuses, begun, right_of, joined, more_of, no_relation, related, expect, open_list, subscripts, second_subscript, arguments, more_arguments, move}
+use Rattle.basic_tree.specs.MachineStack.{with_last}
+use Rattle.basic_tree.specs.MachineMoves.{Closes as Ends}
 use Rattle.basic_tree.proofs.MachineSpelled.{IsSecond, joined_trees, Spelled, as_is}
 pub use Rattle.basic_tree.proofs.MachineBack.{MoveBack, same_sign}
 use Rattle.basic_tree.proofs.MachineBack.{TakesBack, StartBack, joined-with_last, start_back, atom_back, operator_back, relation_back}

@@ -1,10 +1,10 @@
 -- What the machine does where it passes words: the steps it passed, and how many levels are left.
 use Rattle.std.proofs.Common.{◌≡◌, ℕ, zero, suc, ◌+◌, ◌≤◌, Bool, true, false, List, [], ◌∷◌, ◌++◌, length, Option, Some, None, Ok, Err, refl, sym, ap, ◌∙◌, subst, arith, length-append}
 use Rattle.basic_tree.specs.SpellingWords.{Word, Step, Plain, Opens, Closes, words}
-use Rattle.basic_tree.specs.GrammarStack.{Values, Symbol}
-use Rattle.basic_tree.specs.GrammarMachine.{Move, Takes, Skips, Refuses, move}
-use Rattle.basic_tree.specs.GrammarMachine.{Closes as Ends}
-use Rattle.basic_tree.specs.GrammarRun.{Turn, Next, Ended, Stuck, Deep, entered, moved, turn, Halt, Wrong, TooDeep, Outcome, turned, run}
+use Rattle.basic_tree.specs.MachineStack.{Values, Symbol}
+use Rattle.basic_tree.specs.MachineMoves.{Move, Takes, Skips, Refuses, move}
+use Rattle.basic_tree.specs.MachineMoves.{Closes as Ends}
+use Rattle.basic_tree.specs.MachineRun.{Turn, Next, Ended, Stuck, Deep, entered, moved, turn, Halt, Wrong, TooDeep, Outcome, turned, run}
 use Rattle.basic_tree.proofs.MachineSpelled.{Spelled}
 use Rattle.basic_tree.proofs.MachineBack.{taken}
 use Rattle.basic_tree.proofs.MachineTurns.{ends, before, TurnBack, turn_back}

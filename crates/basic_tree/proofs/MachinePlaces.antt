@@ -5,8 +5,8 @@ use Rattle.basic_tree.specs.declared.kinds.Want.{Want}
 use Rattle.basic_tree.specs.SpellingWords.{Word, words, most_levels}
 use Rattle.basic_tree.specs.SpellingExpressions.{steps_of, IsExpr}
 use Rattle.basic_tree.specs.GrammarPlaces.{Begins}
-use Rattle.basic_tree.specs.GrammarStack.{Term, Values, top, Symbol, Level, loosest}
-use Rattle.basic_tree.specs.GrammarRun.{Turn, Next, Ended, Stuck, Deep, turn, Wrong, TooDeep, Outcome, turned, run}
+use Rattle.basic_tree.specs.MachineStack.{Term, Values, top, Symbol, Level, loosest}
+use Rattle.basic_tree.specs.MachineRun.{Turn, Next, Ended, Stuck, Deep, turn, Wrong, TooDeep, Outcome, turned, run}
 use Rattle.basic_tree.proofs.MachineSpelled.{Spelled, fill}
 use Rattle.basic_tree.proofs.MachineLeads.{words_append}
 use Rattle.basic_tree.proofs.MachineComplete.{depth_of}

@@ -9,8 +9,8 @@ use Rattle.basic_tree.specs.SpellingExpressions.{mark, steps_of, Fits, IsTree}
 use Rattle.basic_tree.specs.SpellingPieces.{Piece, Expression, Holds, pieces_steps, ArePieces, is_target, line, optional, each, sign_of}
 use Rattle.basic_tree.specs.SpellingParts.{shape, file_shape, printed, print_item, name, modifier, close_channel, field_part, first_word}
 use Rattle.basic_tree.specs.SpellingStatements.{clause_pieces, statement_pieces}
-use Rattle.basic_tree.specs.GrammarStack.{Value, Stated, Item, TargetItem, ShapeItem, FileItem, NameItem, LineItem, ChannelItem, FieldItem, Sequence, Targets, Shapes, FileShapes, Parameters, Lines, Channels, FieldParts, within, Form, Made, TakeKey, TakeSign, TakeClosing, IfKey, IfSign, ExprOf, ExprIf, TargetOf, NameIn, FnNameIn, LiteralIn, LiteralIf, QuotedIf, ItemIn, MoreItems, MoreOf, MorePrinted, ClauseIn}
-use Rattle.basic_tree.specs.GrammarForms.{has_room}
+use Rattle.basic_tree.specs.MachineStack.{Value, Stated, Item, TargetItem, ShapeItem, FileItem, NameItem, LineItem, ChannelItem, FieldItem, Sequence, Targets, Shapes, FileShapes, Parameters, Lines, Channels, FieldParts, within, Form, Made, TakeKey, TakeSign, TakeClosing, IfKey, IfSign, ExprOf, ExprIf, TargetOf, NameIn, FnNameIn, LiteralIn, LiteralIf, QuotedIf, ItemIn, MoreItems, MoreOf, MorePrinted, ClauseIn}
+use Rattle.basic_tree.specs.MachineForms.{has_room}
 
 -- a word that opens a level or does not
 abbrev pub taken : Bool → Word → Step

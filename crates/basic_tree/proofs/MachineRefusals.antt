@@ -7,9 +7,9 @@ use Rattle.basic_tree.specs.SpellingWords.{Word, Punctuation, most_levels}
 use Rattle.basic_tree.specs.SpellingExpressions.{is_text}
 use Rattle.basic_tree.specs.GrammarTables.{operator_level, joins_texts}
 use Rattle.basic_tree.specs.GrammarWords.{operator_of, relation_of}
-use Rattle.basic_tree.specs.GrammarStack.{Values, top, kept, Symbol}
-use Rattle.basic_tree.specs.GrammarMachine.{Move, Takes, Skips, Closes, Refuses, joined, more_of, no_relation, related, move}
-use Rattle.basic_tree.specs.GrammarRun.{Turn, Next, Ended, Stuck, Deep, entered, moved, turn, Wrong, turned, run}
+use Rattle.basic_tree.specs.MachineStack.{Values, top, kept, Symbol}
+use Rattle.basic_tree.specs.MachineMoves.{Move, Takes, Skips, Closes, Refuses, joined, more_of, no_relation, related, move}
+use Rattle.basic_tree.specs.MachineRun.{Turn, Next, Ended, Stuck, Deep, entered, moved, turn, Wrong, turned, run}
 use Rattle.basic_tree.proofs.MachinePasses.{left, left_short, Further, turn_more}
 use Rattle.basic_tree.proofs.MachineStops.{TakesWhole}
 use Rattle.basic_tree.proofs.ExpressionSymbols.{InExpressions, ALevel, AMore, AMoreRelations, AnExponent, AnExpect, AnOpening, AClose, ADo, ASubscripts, ASecondSubscript, AnArguments, AMoreArguments, AllInExpressions, TurnsIn, turn_in}

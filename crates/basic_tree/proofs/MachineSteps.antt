@@ -12,10 +12,10 @@ use Rattle.basic_tree.specs.Trees.{Tree, Variable, Call, NoTrees}
 use Rattle.basic_tree.specs.SpellingExpressions.{is_text, Fits}
 use Rattle.basic_tree.specs.GrammarTables.{operator_level}
 use Rattle.basic_tree.specs.GrammarWords.{operator_of, relation_of}
-use Rattle.basic_tree.specs.GrammarStack.{Term, Values, made, others, Action, Symbol, Level, More, MoreRelations, Close, Do, Subscripts, Arguments}
-use Rattle.basic_tree.specs.GrammarStarts.{Start, behind, side, relations, Rank, Signs, Relations, Nots, Chain, rank_of, ranked, start}
-use Rattle.basic_tree.specs.GrammarMachine.{Skips, begun, more_of, no_relation, related}
-use Rattle.basic_tree.specs.GrammarRun.{Turn, moved, turn, turned, run}
+use Rattle.basic_tree.specs.MachineStack.{Term, Values, made, others, Action, Symbol, Level, More, MoreRelations, Close, Do, Subscripts, Arguments}
+use Rattle.basic_tree.specs.MachineStarts.{Start, behind, side, relations, Rank, Signs, Relations, Nots, Chain, rank_of, ranked, start}
+use Rattle.basic_tree.specs.MachineMoves.{Skips, begun, more_of, no_relation, related}
+use Rattle.basic_tree.specs.MachineRun.{Turn, moved, turn, turned, run}
 
 -- ---- how a level begins
 

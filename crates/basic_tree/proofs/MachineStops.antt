@@ -4,8 +4,8 @@ use Rattle.std.specs.Prelude.{nat_lt, position}
 use Rattle.std.proofs.lemmas.List.{append-nil}
 use Rattle.basic_tree.specs.SpellingWords.{Word, Step, Plain, Opens, Closes, words, levels, most_levels, too_deep}
 use Rattle.basic_tree.specs.GrammarPlaces.{IsFlatTo}
-use Rattle.basic_tree.specs.GrammarStack.{Values, Symbol}
-use Rattle.basic_tree.specs.GrammarRun.{Turn, Next, Ended, Stuck, Deep, turn, Wrong, TooDeep, turned, run}
+use Rattle.basic_tree.specs.MachineStack.{Values, Symbol}
+use Rattle.basic_tree.specs.MachineRun.{Turn, Next, Ended, Stuck, Deep, turn, Wrong, TooDeep, turned, run}
 use Rattle.basic_tree.proofs.MachineSpelled.{Spelled, fill}
 use Rattle.basic_tree.proofs.MachineLeads.{words_append}
 use Rattle.basic_tree.proofs.MachineTurns.{ends, TurnBack, turn_back}

@@ -11,10 +11,10 @@ use Rattle.basic_tree.specs.SpellingWords.{Word, Punctuation, Plain, Closes, wor
 use Rattle.basic_tree.specs.Trees.{Tree, Operation, Comparison}
 use Rattle.basic_tree.specs.SpellingExpressions.{steps_of, mark, is_text, want_of, Fits, level_of, is_exponent, IsRight, IsTree}
 use Rattle.basic_tree.specs.GrammarTables.{operator_level, operator_word, joins_texts, relation_sign}
-use Rattle.basic_tree.specs.GrammarStack.{Term, Values, MakeOperation, MakeComparison, Symbol, Level, More, Exponent, Do}
-use Rattle.basic_tree.specs.GrammarStarts.{side, relations}
-use Rattle.basic_tree.specs.GrammarMachine.{right_of}
-use Rattle.basic_tree.specs.GrammarRun.{run}
+use Rattle.basic_tree.specs.MachineStack.{Term, Values, MakeOperation, MakeComparison, Symbol, Level, More, Exponent, Do}
+use Rattle.basic_tree.specs.MachineStarts.{side, relations}
+use Rattle.basic_tree.specs.MachineMoves.{right_of}
+use Rattle.basic_tree.specs.MachineRun.{run}
 use Rattle.basic_tree.proofs.MachineSteps.{First, is_opening, is_plus_or_minus, run_do}
 use Rattle.basic_tree.proofs.MachineLeads.{Follows, Parted, Leads, more_at, first_at, operand, at_level, words_parts, no_sign_first}
 use Rattle.basic_tree.proofs.MachineComplete.{fits_want}

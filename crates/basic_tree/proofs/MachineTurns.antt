@@ -1,10 +1,10 @@
 -- What a turn of the whole stack took is spelled so, and how many levels it left.
 use Rattle.std.proofs.Common.{◌≡◌, ◌+◌, ℕ, zero, suc, Bool, true, false, List, [], ◌∷◌, ◌++◌, Option, Some, None, refl, arith}
 use Rattle.basic_tree.specs.SpellingWords.{Word, Step, Opens, Closes}
-use Rattle.basic_tree.specs.GrammarStack.{Values, Symbol}
-use Rattle.basic_tree.specs.GrammarMachine.{Move, Takes, Skips, Refuses, move}
-use Rattle.basic_tree.specs.GrammarMachine.{Closes as Ends}
-use Rattle.basic_tree.specs.GrammarRun.{Turn, Next, Ended, Stuck, Deep, entered, moved, turn}
+use Rattle.basic_tree.specs.MachineStack.{Values, Symbol}
+use Rattle.basic_tree.specs.MachineMoves.{Move, Takes, Skips, Refuses, move}
+use Rattle.basic_tree.specs.MachineMoves.{Closes as Ends}
+use Rattle.basic_tree.specs.MachineRun.{Turn, Next, Ended, Stuck, Deep, entered, moved, turn}
 use Rattle.basic_tree.proofs.MachineSpelled.{Spelled}
 use Rattle.basic_tree.proofs.MachineBack.{taken, TakesBack}
 use Rattle.basic_tree.proofs.MachineMoves.{MoveBack, move_back}

@@ -7,10 +7,10 @@ use Rattle.basic_tree.specs.SpellingWords.{Word, Key, Punctuation, words}
 use Rattle.basic_tree.specs.Trees.{StatementTree, LineTree}
 use Rattle.basic_tree.specs.SpellingPieces.{Piece, pieces_steps, ArePieces, each}
 use Rattle.basic_tree.specs.SpellingStatements.{wants_else, closings, pieces_of, statement_pieces, line_pieces, line_steps}
-use Rattle.basic_tree.specs.GrammarStack.{Values, Stated, Parsed, parsed, AddStatement, Symbol, Go, Do, OneStatement, MoreStatements}
-use Rattle.basic_tree.specs.GrammarSentences.{Class, Choice, Head, Simple}
-use Rattle.basic_tree.specs.GrammarMachine.{behind_class}
-use Rattle.basic_tree.specs.GrammarRun.{Outcome, run}
+use Rattle.basic_tree.specs.MachineStack.{Values, Stated, Parsed, parsed, AddStatement, Symbol, Go, Do, OneStatement, MoreStatements}
+use Rattle.basic_tree.specs.MachineSentences.{Class, Choice, Head, Simple}
+use Rattle.basic_tree.specs.MachineMoves.{behind_class}
+use Rattle.basic_tree.specs.MachineRun.{Outcome, run}
 use Rattle.basic_tree.specs.GrammarPlaces.{OneLine}
 use Rattle.basic_tree.proofs.PieceLists.{steps_append}
 use Rattle.basic_tree.proofs.MachineReads.{place_pieces, separated}

@@ -6,8 +6,8 @@ use Rattle.basic_tree.specs.SpellingWords.{Word}
 use Rattle.basic_tree.specs.Trees.{Tree, Literal}
 use Rattle.basic_tree.specs.SpellingExpressions.{IsExpr}
 use Rattle.basic_tree.specs.GrammarPlaces.{OneTree}
-use Rattle.basic_tree.specs.GrammarStack.{top}
-use Rattle.basic_tree.specs.GrammarRun.{Outcome}
+use Rattle.basic_tree.specs.MachineStack.{top}
+use Rattle.basic_tree.specs.MachineRun.{Outcome}
 use Rattle.basic_tree.proofs.MachineComplete.{depth_of}
 use Rattle.basic_tree.proofs.MachineForms.{taken_whole}
 

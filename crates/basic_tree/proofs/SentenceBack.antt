@@ -8,10 +8,10 @@ use Rattle.basic_tree.specs.SpellingExpressions.{mark}
 use Rattle.basic_tree.specs.SpellingPieces.{pieces_steps, ArePieces, each}
 use Rattle.basic_tree.specs.SpellingParts.{modifier}
 use Rattle.basic_tree.specs.SpellingStatements.{is_if, is_head, closings, pieces_of, statement_pieces}
-use Rattle.basic_tree.specs.GrammarStack.{Value, Stated, Modifying, Parsed, Values, top, stated, parsed, below, kept_stated, kept_parsed, with_statement, LineNumber, within, Form, ClauseIn, AddStatement, Modify, Symbol, Close, Do, Go, Await, AwaitClause, Modifiers, OneStatement, MoreStatements}
-use Rattle.basic_tree.specs.GrammarSentences.{Class, Choice, Head, Simple, Sentence, sentence_of, modifier_of}
-use Rattle.basic_tree.specs.GrammarMachine.{Move, Takes, Skips, Refuses, then_also, no_clause, behind_clause, clause_sentence, clause_move, form_move_with, form_move, behind_class, statement_move, one_statement, modified, modifiers, more_statements}
-use Rattle.basic_tree.specs.GrammarMachine.{Closes as Ends}
+use Rattle.basic_tree.specs.MachineStack.{Value, Stated, Modifying, Parsed, Values, top, stated, parsed, below, kept_stated, kept_parsed, with_statement, LineNumber, within, Form, ClauseIn, AddStatement, Modify, Symbol, Close, Do, Go, Await, AwaitClause, Modifiers, OneStatement, MoreStatements}
+use Rattle.basic_tree.specs.MachineSentences.{Class, Choice, Head, Simple, Sentence, sentence_of, modifier_of}
+use Rattle.basic_tree.specs.MachineMoves.{Move, Takes, Skips, Refuses, then_also, no_clause, behind_clause, clause_sentence, clause_move, form_move_with, form_move, behind_class, statement_move, one_statement, modified, modifiers, more_statements}
+use Rattle.basic_tree.specs.MachineMoves.{Closes as Ends}
 use Rattle.basic_tree.proofs.MachineReads.{taken, Reads, modifiers_steps, AreModifiers, modified_by, place_pieces, separated}
 use Rattle.basic_tree.proofs.FormLeads.{Says, Modifies}
 use Rattle.basic_tree.proofs.MachineSpelled.{Spelled}

@@ -14,9 +14,9 @@ use Rattle.basic_tree.specs.SpellingExpressions.{is_text, Fits, want_of}
 use Rattle.basic_tree.specs.SpellingPieces.{target, many, after_commas, optional, sign_of, closing}
 use Rattle.basic_tree.specs.SpellingParts.{shape, file_shape, value, is_parted, kind_of_first, name, element_size}
 use Rattle.basic_tree.specs.SpellingStatements.{has_else, clause_wants_else, clause_pieces, else_pieces}
-use Rattle.basic_tree.specs.GrammarStack.{Value, Stated, TargetItem, ShapeItem, FileItem, NameItem, Shapes, FileShapes, Form, TakeKey, MoreOf}
-use Rattle.basic_tree.specs.GrammarForms.{shape_form, size_form, targets_in, shapes_in, files_in, names_in, says, else_form, targets_form, value_form}
-use Rattle.basic_tree.specs.GrammarSentences.{Choice, Head, Simple, if_form, dim_form, def_form, print_form, input_targets, input_form}
+use Rattle.basic_tree.specs.MachineStack.{Value, Stated, TargetItem, ShapeItem, FileItem, NameItem, Shapes, FileShapes, Form, TakeKey, MoreOf}
+use Rattle.basic_tree.specs.MachineForms.{shape_form, size_form, targets_in, shapes_in, files_in, names_in, says, else_form, targets_form, value_form}
+use Rattle.basic_tree.specs.MachineSentences.{Choice, Head, Simple, if_form, dim_form, def_form, print_form, input_targets, input_form}
 use Rattle.basic_tree.proofs.MachineReads.{Reads, items_steps}
 use Rattle.basic_tree.proofs.SoundPieces.{Spells, ended, fixed, expression, name_of, literal, holds, joined, only, listed, regrouped, Starts, one_behind, said, Sound}
 use Rattle.basic_tree.proofs.SoundLists.{targets_spelled, shapes_spelled, files_spelled, names_spelled, few_names}

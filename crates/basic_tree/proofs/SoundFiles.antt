@@ -11,9 +11,9 @@ use Rattle.basic_tree.specs.Trees.{Tree, StatementTree, Open, Close, Get, Put, U
 use Rattle.basic_tree.specs.SpellingExpressions.{steps_of}
 use Rattle.basic_tree.specs.SpellingPieces.{Piece, key, number, sign_of, perhaps}
 use Rattle.basic_tree.specs.SpellingParts.{option_of, first_word, last_word, may_follow}
-use Rattle.basic_tree.specs.GrammarStack.{Value, Stated, ChannelItem, FieldItem, Channels, TakeKey, TakeSign, ExprOf}
-use Rattle.basic_tree.specs.GrammarForms.{chains, begins_value, list_form, channels_in, parts_in, says, number_option, cluster_form, options_form, file_form}
-use Rattle.basic_tree.specs.GrammarSentences.{Simple, chain_form, open_form, field_form}
+use Rattle.basic_tree.specs.MachineStack.{Value, Stated, ChannelItem, FieldItem, Channels, TakeKey, TakeSign, ExprOf}
+use Rattle.basic_tree.specs.MachineForms.{chains, begins_value, list_form, channels_in, parts_in, says, number_option, cluster_form, options_form, file_form}
+use Rattle.basic_tree.specs.MachineSentences.{Simple, chain_form, open_form, field_form}
 use Rattle.basic_tree.proofs.GapLemmas.{second_of}
 use Rattle.basic_tree.proofs.MachineReads.{Reads, items_steps, passes_first}
 use Rattle.basic_tree.proofs.SoundPieces.{Spells, ended, fixed, expression, name_of, holds, only, said, Sound}

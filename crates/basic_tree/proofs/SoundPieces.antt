@@ -9,8 +9,8 @@ use Rattle.basic_tree.specs.SpellingExpressions.{steps_of, Fits, IsTree}
 use Rattle.basic_tree.specs.SpellingPieces.{Piece, Fixed, Expression, NameOf, LiteralOf, Holds, pieces_steps, ArePieces}
 use Rattle.basic_tree.specs.SpellingParts.{modifier}
 use Rattle.basic_tree.specs.SpellingStatements.{closings, pieces_of}
-use Rattle.basic_tree.specs.GrammarStack.{Value, Stated, Modifying, Form}
-use Rattle.basic_tree.specs.GrammarSentences.{Class}
+use Rattle.basic_tree.specs.MachineStack.{Value, Stated, Modifying, Form}
+use Rattle.basic_tree.specs.MachineSentences.{Class}
 use Rattle.basic_tree.proofs.PieceLists.{steps_append, pieces_append}
 use Rattle.basic_tree.proofs.MachineReads.{Reads}
 use Rattle.basic_tree.proofs.FormLeads.{OfClass, Says, Modifies}

@@ -3,9 +3,9 @@ use Rattle.std.proofs.Common.{◌≡◌, false, List, Some, subst}
 use Rattle.basic_tree.specs.declared.tokens.Keyword.{Keyword}
 use Rattle.basic_tree.specs.declared.tokens.Keyword.TheVariants as keyword
 use Rattle.basic_tree.specs.SpellingWords.{Word, Key, Named, FnNamed, Step}
-use Rattle.basic_tree.specs.GrammarStack.{Value, Form}
-use Rattle.basic_tree.specs.GrammarForms.{targets_form}
-use Rattle.basic_tree.specs.GrammarSentences.{Sentence, Simple, key_sentence, sentence_of, result_form, key_modifier, modifier_of}
+use Rattle.basic_tree.specs.MachineStack.{Value, Form}
+use Rattle.basic_tree.specs.MachineForms.{targets_form}
+use Rattle.basic_tree.specs.MachineSentences.{Sentence, Simple, key_sentence, sentence_of, result_form, key_modifier, modifier_of}
 use Rattle.basic_tree.proofs.MachineReads.{Reads}
 use Rattle.basic_tree.proofs.FormLeads.{Says, Modifies}
 use Rattle.basic_tree.proofs.SoundPieces.{Sound}

@@ -8,9 +8,9 @@ use Rattle.basic_tree.specs.SpellingWords.{Item as ItemOf}
 use Rattle.basic_tree.specs.Trees.{Tree, If, Unless, While, Until, ForModifier, For, Next, FnEnd, Data, Result, Read, Restore, Goto, Gosub, Return, OnGoto, OnGosub, OnErrorGoto, Resume, Stop, End, Sleep, Lset, Rset, Kill, Rename}
 use Rattle.basic_tree.specs.SpellingPieces.{Fixed, each}
 use Rattle.basic_tree.specs.SpellingParts.{range}
-use Rattle.basic_tree.specs.GrammarStack.{Value, Stated, Modifying, TargetItem, LineItem, Targets, LineNumber, Bound, Made, TakeKey, ExprOf, LiteralIn, LiteralIf}
-use Rattle.basic_tree.specs.GrammarForms.{list_form, targets_in, lines_in, says, range_form}
-use Rattle.basic_tree.specs.GrammarSentences.{Head, Simple, for_form, next_form, data_form, result_form, go_form, on_form, lset_form, rset_form}
+use Rattle.basic_tree.specs.MachineStack.{Value, Stated, Modifying, TargetItem, LineItem, Targets, LineNumber, Bound, Made, TakeKey, ExprOf, LiteralIn, LiteralIf}
+use Rattle.basic_tree.specs.MachineForms.{list_form, targets_in, lines_in, says, range_form}
+use Rattle.basic_tree.specs.MachineSentences.{Head, Simple, for_form, next_form, data_form, result_form, go_form, on_form, lset_form, rset_form}
 use Rattle.basic_tree.proofs.MachineReads.{Reads, data_steps, items_steps}
 use Rattle.basic_tree.proofs.FormLeads.{Modifies}
 use Rattle.basic_tree.proofs.SoundPieces.{Spells, ended, fixed, expression, name_of, literal, holds, only, said, modifying_said, Sound}

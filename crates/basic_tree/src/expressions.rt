@@ -4,7 +4,7 @@ use crate::names::Name;
 use basic_values::Text;
 
 /// The operators between two expressions, but for the relations.
-#[derive(Clone, Copy, Debug, PartialEq, Eq, Hash)]
+#[derive(Clone, Copy, Debug, PartialEq, Eq)]
 pub enum Operator {
     /// `^` or `**`.
     Power,
@@ -20,7 +20,7 @@ pub enum Operator {
 }
 
 /// The relations between two numbers or two texts.
-#[derive(Clone, Copy, Debug, PartialEq, Eq, Hash)]
+#[derive(Clone, Copy, Debug, PartialEq, Eq)]
 pub enum Relation {
     Equal,
     /// `==`, of texts that are the same byte by byte.
@@ -33,7 +33,7 @@ pub enum Relation {
 }
 
 /// The functions of the language.
-#[derive(Clone, Copy, Debug, PartialEq, Eq, Hash)]
+#[derive(Clone, Copy, Debug, PartialEq, Eq)]
 pub enum Function {
     Len,
     Ascii,
@@ -61,7 +61,7 @@ pub enum Function {
 }
 
 /// An expression.
-#[derive(Debug, Drop)]
+#[derive(Drop)]
 pub enum Expr {
     /// A number from 0 to 32767.
     Literal(u16),

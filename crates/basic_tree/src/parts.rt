@@ -5,7 +5,7 @@ use crate::names::Name;
 use basic_values::Text;
 
 /// A variable or an element of an array, to which a value is given.
-#[derive(Debug, Drop)]
+#[derive(Drop)]
 pub enum Target {
     Variable(Name),
     Element {
@@ -16,7 +16,7 @@ pub enum Target {
 }
 
 /// An array of DIM and its greatest subscripts.
-#[derive(Clone, Copy, Debug, PartialEq, Eq, Hash)]
+#[derive(Clone, Copy, Debug, PartialEq, Eq)]
 pub struct Shape {
     pub name: Name,
     pub first: u16,
@@ -24,56 +24,56 @@ pub struct Shape {
 }
 
 /// An array of `DIM #`. A text array may have the size of its elements in bytes.
-#[derive(Clone, Copy, Debug, PartialEq, Eq, Hash)]
+#[derive(Clone, Copy, Debug, PartialEq, Eq)]
 pub struct FileShape {
     pub shape: Shape,
     pub size: Option<u16>,
 }
 
 /// The channel of PRINT. A comma stands behind it where items follow, and may stand where none do.
-#[derive(Debug, Drop)]
+#[derive(Drop)]
 pub struct PrintChannel {
     pub number: Expr,
     pub comma: bool,
 }
 
 /// What PRINT writes: a value, or `TAB` of a column.
-#[derive(Debug, Drop)]
+#[derive(Drop)]
 pub enum Printed {
     Value(Expr),
     Tab(Expr),
 }
 
 /// What stands behind an item of PRINT, or behind the prompt of INPUT.
-#[derive(Clone, Copy, Debug, PartialEq, Eq, Hash)]
+#[derive(Clone, Copy, Debug, PartialEq, Eq)]
 pub enum Separator {
     Comma,
     Semicolon,
 }
 
 /// An item of PRINT and the separator behind it.
-#[derive(Debug, Drop)]
+#[derive(Drop)]
 pub struct PrintItem {
     pub printed: Printed,
     pub separator: Separator,
 }
 
 /// The text that INPUT writes first, and the separator behind it.
-#[derive(Debug, Drop)]
+#[derive(Drop)]
 pub struct Prompt {
     pub text: Text,
     pub separator: Separator,
 }
 
 /// The line at which CHAIN begins the program, behind the word LINE or without it.
-#[derive(Debug, Drop)]
+#[derive(Drop)]
 pub struct ChainLine {
     pub word: bool,
     pub number: Expr,
 }
 
 /// How OPEN opens its file.
-#[derive(Clone, Copy, Debug, PartialEq, Eq, Hash)]
+#[derive(Clone, Copy, Debug, PartialEq, Eq)]
 pub enum OpenFor {
     Input,
     Output,
@@ -81,21 +81,21 @@ pub enum OpenFor {
 }
 
 /// A channel of CLOSE, behind `#` or without it.
-#[derive(Debug, Drop)]
+#[derive(Drop)]
 pub struct CloseChannel {
     pub hash: bool,
     pub number: Expr,
 }
 
 /// A part of FIELD: so many bytes, and the variable that names them.
-#[derive(Debug, Drop)]
+#[derive(Drop)]
 pub struct FieldPart {
     pub width: Expr,
     pub name: Name,
 }
 
 /// What stands behind a statement and changes whether or how often it runs.
-#[derive(Debug, Drop)]
+#[derive(Drop)]
 pub enum Modifier {
     If(Expr),
     Unless(Expr),

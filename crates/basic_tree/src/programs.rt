@@ -4,13 +4,13 @@ use crate::statements::Statement;
 use std::collections::BTreeMap;
 
 /// A line: its statements in order. Where nothing stands between two separators there is none.
-#[derive(Debug, Drop)]
+#[derive(Drop)]
 pub struct Line {
     pub statements: Vec<Statement>,
 }
 
 /// A program: its lines by their numbers, from 1 to 32767.
-#[derive(Debug, Drop)]
+#[derive(Drop)]
 pub struct Program {
     pub lines: BTreeMap<u16, Line>,
 }

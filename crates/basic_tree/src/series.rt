@@ -5,7 +5,7 @@ ghost use Rattle.std.specs.Prelude.{◌≡◌};
 use std::marker::Model;
 
 /// Parts of a statement, in the order of the text.
-#[derive(Debug, Drop)]
+#[derive(Drop)]
 pub struct Series<T> {
     items: Vec<T>,
 }

@@ -12,7 +12,7 @@ use basic_values::Text;
 
 /// What an IF runs: the line of this number, or a statement.
 #[cycle(statements)]
-#[derive(Debug, Drop)]
+#[derive(Drop)]
 pub enum Clause {
     Line(u16),
     Statement(Box<Statement>),
@@ -20,7 +20,7 @@ pub enum Clause {
 
 /// A statement.
 #[cycle(statements)]
-#[derive(Debug, Drop)]
+#[derive(Drop)]
 pub enum Statement {
     /// IF .. THEN, and perhaps ELSE.
     IfThen {

@@ -1,7 +1,7 @@
 //! Tokens: the words of a line, and why a line has none.
 
 /// The words of the grammar and the names of the functions. Some words are spelled in two ways.
-#[derive(Clone, Copy, Debug, PartialEq, Eq, Hash)]
+#[derive(Clone, Copy, Debug, PartialEq, Eq)]
 pub enum Keyword {
     Abs,
     And,
@@ -86,7 +86,7 @@ pub enum Keyword {
 }
 
 /// The signs of the grammar.
-#[derive(Clone, Copy, Debug, PartialEq, Eq, Hash)]
+#[derive(Clone, Copy, Debug, PartialEq, Eq)]
 pub enum Sign {
     Plus,
     Minus,
@@ -113,7 +113,7 @@ pub enum Sign {
 }
 
 /// The sorts of tokens.
-#[derive(Clone, Copy, Debug, PartialEq, Eq, Hash)]
+#[derive(Clone, Copy, Debug, PartialEq, Eq)]
 pub enum TokenKind {
     Keyword,
     /// `FN`, a letter and perhaps a digit, and `%` or `$`.
@@ -130,7 +130,7 @@ pub enum TokenKind {
 }
 
 /// Why a line is refused.
-#[derive(Clone, Copy, Debug, PartialEq, Eq, Hash)]
+#[derive(Clone, Copy, Debug, PartialEq, Eq)]
 pub enum Cause {
     /// A name without `%` or `$`.
     FloatingName,
@@ -149,14 +149,14 @@ pub enum Cause {
 }
 
 /// The first place that is refused, and why. The scanner counts bytes, the parser tokens, both from 0.
-#[derive(Clone, Copy, Debug, PartialEq, Eq, Hash)]
+#[derive(Clone, Copy, Debug, PartialEq, Eq)]
 pub struct Refusal {
     pub place: u16,
     pub cause: Cause,
 }
 
 /// What stands at the front of the rest of a line.
-#[derive(Clone, Copy, Debug, PartialEq, Eq, Hash)]
+#[derive(Clone, Copy, Debug, PartialEq, Eq)]
 pub enum Front {
     /// A space or a tab.
     Blank,

@@ -8,7 +8,7 @@ use std::fmt;
 use std::marker::Model;
 
 /// The number of an error of the manual's table, from 1 to 70 where a program can meet it.
-#[derive(Clone, Copy, Debug, PartialEq, Eq, PartialOrd, Ord, Hash)]
+#[derive(Clone, Copy, Debug, PartialEq, Eq, PartialOrd, Ord)]
 pub struct Fault(u8);
 
 impl Model for Fault {
@@ -38,7 +38,7 @@ impl Fault {
 }
 
 /// Why a job's program stops without a chance to trap it.
-#[derive(Clone, Copy, Debug, PartialEq, Eq, Hash)]
+#[derive(Clone, Copy, Debug, PartialEq, Eq)]
 pub enum Halt {
     /// A RETURN without a GOSUB before it.
     NoGosub,
@@ -53,7 +53,7 @@ pub enum Halt {
 }
 
 /// Memory ran out. It is the one answer that no rule ties to a cause.
-#[derive(Clone, Copy, Debug, PartialEq, Eq, Hash)]
+#[derive(Clone, Copy, Debug, PartialEq, Eq)]
 pub struct NoMemory;
 
 impl fmt::Display for NoMemory {
@@ -77,7 +77,7 @@ impl<T: Drop> From<AllocFailed<T>> for NoMemory {
 }
 
 /// A refusal with its cause, or no memory.
-#[derive(Clone, Copy, Debug, PartialEq, Eq, Hash)]
+#[derive(Clone, Copy, Debug, PartialEq, Eq)]
 pub enum Trouble<F> {
     Refused(F),
     NoMemory,
@@ -94,7 +94,7 @@ impl<F> From<NoMemory> for Trouble<F> {
 }
 
 /// What ends a statement before its time.
-#[derive(Clone, Copy, Debug, PartialEq, Eq, Hash)]
+#[derive(Clone, Copy, Debug, PartialEq, Eq)]
 pub enum Stop {
     Fault(Fault),
     Halt(Halt),

@@ -8,7 +8,7 @@ use itoa::Buffer;
 use std::marker::Model;
 
 /// A whole number from -32768 to 32767. Its arithmetic keeps the low 16 bits.
-#[derive(Clone, Copy, Debug, PartialEq, Eq, PartialOrd, Ord, Hash)]
+#[derive(Clone, Copy, Debug, PartialEq, Eq, PartialOrd, Ord)]
 pub struct Int(i16);
 
 impl Model for Int {

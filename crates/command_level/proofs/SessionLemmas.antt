@@ -5,7 +5,7 @@ use Rattle.monitor_calls.specs.declared.names.Account.{Account}
 use Rattle.monitor_calls.specs.declared.calls.Request.{Request}
 use Rattle.monitor_calls.specs.declared.calls.Request.TheVariants as request
 use Rattle.monitor_calls.specs.declared.calls.Reply.{Reply}
-use Rattle.basic_tree.specs.GrammarJudge.{judge_of}
+use Rattle.basic_tree.specs.MachineJudge.{judge_of}
 use Rattle.basic_tree.proofs.Judged.{judge_of_judges}
 use Rattle.job_model.specs.Job.{Job, job_of, Gives, Breaks, Break, Ended, Gone, Waiting, ◌then◌, asked_by}
 use Rattle.job_model.specs.Asking.{counts_as}

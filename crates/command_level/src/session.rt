@@ -3,7 +3,7 @@
 ghost use Rattle.std.specs.Prelude.{◌≡◌, ◌≤◌, ℕ, List, length, IfOk, OnOk, OnErr};
 ghost use Rattle.monitor_calls.specs.Pairs.{Pair, requests, replies, Grew};
 ghost use Rattle.monitor_calls.specs.declared.calls.Request.TheVariants as request;
-ghost use Rattle.basic_tree.specs.GrammarJudge.{judge_of};
+ghost use Rattle.basic_tree.specs.MachineJudge.{judge_of};
 ghost use Rattle.basic_tree.specs.LineVerdicts.{HasTree};
 ghost use Rattle.job_model.specs.Commands.{print_of};
 ghost use Rattle.job_model.specs.Asking.{counts_as};

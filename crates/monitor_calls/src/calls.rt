@@ -69,7 +69,7 @@ impl Reply {
 }
 
 /// One call of a history: which job asked what, and the reply.
-#[derive(Debug, Drop)]
+#[derive(Drop)]
 pub struct Entry {
     /// The job's number, from 0.
     pub job: u32,

@@ -9,7 +9,7 @@ use arrayvec::ArrayVec;
 use std::marker::Model;
 
 /// A project number and a programmer number, the manual's `[p,n]`.
-#[derive(Clone, Copy, Debug, PartialEq, Eq, PartialOrd, Ord, Hash)]
+#[derive(Clone, Copy, Debug, PartialEq, Eq)]
 pub struct Account {
     pub project: u8,
     pub programmer: u8,
@@ -76,7 +76,7 @@ impl Short {
 }
 
 /// The name of a terminal: 1 to 8 capital letters and digits.
-#[derive(Debug, Drop)]
+#[derive(Drop)]
 pub struct TerminalName {
     bytes: ArrayVec<u8, 8>,
 }

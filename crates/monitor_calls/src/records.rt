@@ -6,7 +6,7 @@ use crate::calls::Entry;
 use std::marker::Model;
 
 /// The bytes that a terminal was given.
-#[derive(Debug, Drop)]
+#[derive(Drop)]
 pub struct Screen2 {
     bytes: Vec<u8>,
 }
@@ -35,7 +35,7 @@ impl Screen2 {
 }
 
 /// The calls of a run, in the order in which the monitor answered them.
-#[derive(Debug, Drop)]
+#[derive(Drop)]
 pub struct RunRecord {
     pub history: Vec<Entry>,
 }

@@ -11,7 +11,7 @@ use std::alloc::Global;
 use std::marker::Model;
 
 /// A port that keeps its log, and replies from a list; behind the list's end it replies Expired, to Logout Done.
-#[derive(Debug, Drop)]
+#[derive(Drop)]
 pub struct ScriptPort {
     log: Vec<(Request, Reply)>,
     replies: Vec<Reply>,

@@ -7,7 +7,7 @@ ghost use Rattle.monitor_calls.specs.Volumes.{same_account, has_account, are_apa
 use crate::names::{Account, Short, is_capitals_or_digits};
 
 /// An account with its password, 1 to 6 capital letters and digits, and its call limit, 1 to 16,384.
-#[derive(Clone, Copy, Debug)]
+#[derive(Clone, Copy)]
 pub struct AccountEntry {
     pub account: Account,
     pub password: Short,
@@ -15,7 +15,7 @@ pub struct AccountEntry {
 }
 
 /// A disk's blocks of 512 bytes, and the accounts in their order.
-#[derive(Debug, Drop)]
+#[derive(Drop)]
 pub struct Volume {
     pub blocks: u16,
     pub accounts: Vec<AccountEntry>,

@@ -3,11 +3,11 @@ use Rattle.std.proofs.lemmas.Result.{err_from_is_err_and}
 use Rattle.basic_tree.specs.declared.tokens.Sign.TheVariants.{Closing, Comma}
 use Rattle.basic_tree.specs.declared.kinds.Want.TheVariants as want
 use Rattle.basic_tree.specs.declared.expressions.Expr.{Expr}
-use Rattle.basic_tree.specs.GrammarStack.{Arguments, Close, Collect, Do, Expect, Exponent, Level, MakeCall, MakeComparison, MakeElement, MakeFunction, MakeOperation, MakeParenthesized, More, MoreArguments, SecondSubscript, Several, Subscripts, Term, loosest}
-use Rattle.basic_tree.specs.GrammarStarts.{relations, takes}
+use Rattle.basic_tree.specs.MachineStack.{Arguments, Close, Collect, Do, Expect, Exponent, Level, MakeCall, MakeComparison, MakeElement, MakeFunction, MakeOperation, MakeParenthesized, More, MoreArguments, SecondSubscript, Several, Subscripts, Term, loosest}
+use Rattle.basic_tree.specs.MachineStarts.{relations, takes}
 use Rattle.basic_tree.specs.GrammarTables.{arguments_of, gives_text}
 use Rattle.basic_tree.specs.GrammarWords.{function_of}
-use Rattle.basic_tree.specs.GrammarRun.{run}
+use Rattle.basic_tree.specs.MachineRun.{run}
 use Rattle.basic_tree.specs.SpellingExpressions.{is_text, want_of}
 use Rattle.basic_tree.specs.Trees.{AndTrees, Call, FunctionOf, NoTrees, Quoted}
 use Rattle.basic_tree.specs.TreeViews.{tree_of}

@@ -1,6 +1,6 @@
 use Rattle.std.proofs.Common.{◌≤◌, ◌<◌, ◌+◌, ◌*◌, ◌-◌, [], ◌∷◌, ◌++◌, length, drop}
-use Rattle.basic_tree.specs.GrammarStack.{Arguments, Close, Do, Expect, Level, MakeCall, MakeFunction, More, MoreArguments, Several}
-use Rattle.basic_tree.specs.GrammarStarts.{more_expected, relations}
+use Rattle.basic_tree.specs.MachineStack.{Arguments, Close, Do, Expect, Level, MakeCall, MakeFunction, More, MoreArguments, Several}
+use Rattle.basic_tree.specs.MachineStarts.{more_expected, relations}
 use Rattle.basic_tree.specs.GrammarTables.{arguments_of}
 use Rattle.basic_tree.specs.Trees.{NoTrees}
 use Rattle.basic_tree.specs.declared.tokens.Sign.TheVariants.{Closing}

@@ -1,6 +1,6 @@
 use Rattle.std.proofs.Common.{rules, ◌∙◌, Some}
 use Rattle.basic_tree.specs.TreeViews.{tree_of}
-use Rattle.basic_tree.specs.GrammarForms.{mode_form}
+use Rattle.basic_tree.specs.MachineForms.{mode_form}
 use Rattle.basic_stmt.proofs.Steps.{if_err}
 use Rattle.basic_stmt.proofs.files.cluster_and_mode.Goals as goal
 

@@ -1,6 +1,6 @@
 use Rattle.std.proofs.Common.{◌∙◌, Some, None}
-use Rattle.basic_tree.specs.GrammarStack.{TakeSign}
-use Rattle.basic_tree.specs.GrammarSentences.{input_targets}
+use Rattle.basic_tree.specs.MachineStack.{TakeSign}
+use Rattle.basic_tree.specs.MachineSentences.{input_targets}
 use Rattle.basic_tree.specs.declared.tokens.Sign.TheVariants.{Comma}
 use Rattle.std.proofs.Common.{false}
 use Rattle.basic_stmt.proofs.Steps.{if_err_map}

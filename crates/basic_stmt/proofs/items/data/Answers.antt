@@ -1,6 +1,6 @@
 use Rattle.std.proofs.Common.{rules, ◌∙◌}
 use Rattle.basic_tree.specs.Trees.{Data}
-use Rattle.basic_tree.specs.GrammarForms.{says}
+use Rattle.basic_tree.specs.MachineForms.{says}
 use Rattle.basic_tree.proofs.FormSteps.{run_made}
 use Rattle.basic_stmt.proofs.Steps.{if_err}
 use Rattle.basic_stmt.proofs.items.data.Goals as goal

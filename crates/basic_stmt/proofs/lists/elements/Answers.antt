@@ -1,5 +1,5 @@
 use Rattle.std.proofs.Common.{rules, ◌∙◌, [], ◌∷◌}
-use Rattle.basic_tree.specs.GrammarStack.{MoreOf}
+use Rattle.basic_tree.specs.MachineStack.{MoreOf}
 use Rattle.basic_stmt.proofs.Steps.{if_err}
 use Rattle.basic_stmt.proofs.lists.elements.Goals as goal
 

@@ -2,8 +2,8 @@ use Rattle.std.proofs.Common.{◌∙◌, ◌+◌, ℕ, List, Option, arith, rule
 use Rattle.basic_expr.specs.declared.failures.Failure.{Failure}
 use Rattle.basic_tree.specs.SpellingWords.{Word}
 use Rattle.basic_tree.specs.Trees.{Tree, PrintItemTree, PrintChannelTree, Tab}
-use Rattle.basic_tree.specs.GrammarStack.{Form, MorePrinted}
-use Rattle.basic_tree.specs.GrammarForms.{printed_form}
+use Rattle.basic_tree.specs.MachineStack.{Form, MorePrinted}
+use Rattle.basic_tree.specs.MachineForms.{printed_form}
 use Rattle.basic_stmt.specs.Reading.{Halts}
 use Rattle.basic_stmt.specs.Prints.{TakesTab, column_form}
 use Rattle.basic_stmt.proofs.Steps.{if_err}

@@ -1,6 +1,6 @@
 use Rattle.std.proofs.Common.{◌∙◌}
-use Rattle.basic_tree.specs.GrammarForms.{value_form, names_in}
-use Rattle.basic_tree.specs.GrammarStack.{TakeClosing}
+use Rattle.basic_tree.specs.MachineForms.{value_form, names_in}
+use Rattle.basic_tree.specs.MachineStack.{TakeClosing}
 use Rattle.basic_stmt.proofs.ListSteps.{names_same}
 use Rattle.basic_stmt.proofs.Steps.{if_err_map}
 use Rattle.basic_stmt.proofs.values.def.Goals as goal

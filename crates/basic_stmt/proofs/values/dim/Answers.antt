@@ -1,6 +1,6 @@
 use Rattle.std.proofs.Common.{rules, ◌∙◌, false}
 use Rattle.basic_tree.specs.Trees.{Dim}
-use Rattle.basic_tree.specs.GrammarForms.{says, shapes_in}
+use Rattle.basic_tree.specs.MachineForms.{says, shapes_in}
 use Rattle.basic_tree.proofs.FormSteps.{run_made}
 use Rattle.basic_stmt.proofs.ListSteps.{shapes_same}
 use Rattle.basic_stmt.proofs.Steps.{if_err}

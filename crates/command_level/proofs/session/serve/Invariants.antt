@@ -1,5 +1,5 @@
 use Rattle.std.proofs.Common.{◌≡◌, drop}
-use Rattle.basic_tree.specs.GrammarJudge.{judge_of}
+use Rattle.basic_tree.specs.MachineJudge.{judge_of}
 use Rattle.job_model.specs.Follow.{Does}
 use Rattle.job_model.specs.Talk.{session, opening}
 use Rattle.command_level.specs.Seen.{seen}

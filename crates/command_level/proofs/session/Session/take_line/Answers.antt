@@ -1,5 +1,5 @@
 use Rattle.std.proofs.Common.{append-nil, sym}
-use Rattle.basic_tree.specs.GrammarJudge.{judge_of}
+use Rattle.basic_tree.specs.MachineJudge.{judge_of}
 use Rattle.job_model.proofs.Follows.{not_begun, starts_from}
 use Rattle.job_model.proofs.Grows.{line_grows}
 use Rattle.job_model.specs.Talk.{line_acts, visitor_acts, user_acts}

@@ -1,5 +1,5 @@
 use Rattle.std.proofs.Common.{ap}
-use Rattle.basic_tree.specs.GrammarJudge.{judge_of}
+use Rattle.basic_tree.specs.MachineJudge.{judge_of}
 use Rattle.job_model.proofs.Follows.{starts_from}
 use Rattle.job_model.specs.Job.{job_of}
 use Rattle.job_model.specs.Talk.{user_acts, log_out}

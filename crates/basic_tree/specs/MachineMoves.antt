@@ -1,4 +1,4 @@
--- What each expected symbol does with the word that follows, or at the end.
+-- What each expected symbol does with the word that follows, or at the end. No promise speaks of it: it carries proofs alone.
 use Rattle.std.specs.Prelude.{ℕ, ◌||◌, ◌&&◌, ◌==◌, not, List, [], ◌∷◌, ◌++◌, Bool, true, false, cond, Option, Some, None, option_and_then}
 use Rattle.basic_tree.specs.declared.names.Name.{Name}
 use Rattle.basic_tree.specs.declared.tokens.Keyword.{Keyword}
@@ -16,10 +16,10 @@ use Rattle.basic_tree.specs.Trees.{Tree, Variable, Call, NoTrees, Value, Tab, Pr
 use Rattle.basic_tree.specs.GrammarTables.{sign_level, not_level, operator_level, joins_texts}
 use Rattle.basic_tree.specs.GrammarWords.{operator_of, relation_of, is_same_sign, is_same_keyword}
 use Rattle.basic_tree.specs.SpellingExpressions.{is_text, want_of}
-use Rattle.basic_tree.specs.GrammarStack.{AddStatement, Arguments, Await, AwaitClause, ClauseIn, Close, Collect, Do, Expect, Exponent, ExprIf, ExprOf, FnNameIn, Form, Go, IfKey, IfSign, Item, ItemIn, Level, Limit, LineNumber, LiteralIf, LiteralIn, Made, MakeCall, MakeComparison, MakeElement, MakeOperation, Modifiers, Modify, More, MoreArguments, MoreItems, MoreOf, MorePrinted, MoreRelations, MoreStatements, NameIn, OneStatement, Opening, QuotedIf, SecondSubscript, Sequence, Several, Stated, Subscripts, Symbol, TakeClosing, TakeKey, TakeSign, TargetOf, Term, Values, below, kept, kept_parsed, kept_several, kept_stated, loosest, made, others, stated, top, with_statement, within}
-use Rattle.basic_tree.specs.GrammarForms.{begins_value, item_form, has_room, printed_form}
-use Rattle.basic_tree.specs.GrammarSentences.{Class, Choice, Head, Simple, Sentence, sentence_of, modifier_of}
-use Rattle.basic_tree.specs.GrammarStarts.{Start, takes, atom, signed, start}
+use Rattle.basic_tree.specs.MachineStack.{AddStatement, Arguments, Await, AwaitClause, ClauseIn, Close, Collect, Do, Expect, Exponent, ExprIf, ExprOf, FnNameIn, Form, Go, IfKey, IfSign, Item, ItemIn, Level, Limit, LineNumber, LiteralIf, LiteralIn, Made, MakeCall, MakeComparison, MakeElement, MakeOperation, Modifiers, Modify, More, MoreArguments, MoreItems, MoreOf, MorePrinted, MoreRelations, MoreStatements, NameIn, OneStatement, Opening, QuotedIf, SecondSubscript, Sequence, Several, Stated, Subscripts, Symbol, TakeClosing, TakeKey, TakeSign, TargetOf, Term, Values, below, kept, kept_parsed, kept_several, kept_stated, loosest, made, others, stated, top, with_statement, within}
+use Rattle.basic_tree.specs.MachineForms.{begins_value, item_form, has_room, printed_form}
+use Rattle.basic_tree.specs.MachineSentences.{Class, Choice, Head, Simple, Sentence, sentence_of, modifier_of}
+use Rattle.basic_tree.specs.MachineStarts.{Start, takes, atom, signed, start}
 
 -- ---- what a symbol does where a word follows, or the end
 

@@ -1,4 +1,4 @@
--- How an expression of a level begins with a word, and what is expected behind it.
+-- How an expression of a level begins with a word, and what is expected behind it. No promise speaks of it: it carries proofs alone.
 use Rattle.std.specs.Prelude.{ℕ, zero, suc, ◌==◌, nat_lt, not, if◌then◌else◌, List, [], ◌∷◌, ◌++◌, Bool, true, false, cond, Option, Some, None}
 use Rattle.basic_tree.specs.declared.tokens.Keyword.TheVariants as keyword
 use Rattle.basic_tree.specs.declared.tokens.Sign.TheVariants as sign
@@ -9,7 +9,7 @@ use Rattle.basic_tree.specs.SpellingWords.{Word, Key, Punctuation, Named, FnName
 use Rattle.basic_tree.specs.Trees.{Literal, Quoted, NoTrees}
 use Rattle.basic_tree.specs.GrammarTables.{sign_level, relation_level, not_level, arguments_of, gives_text}
 use Rattle.basic_tree.specs.GrammarWords.{function_of}
-use Rattle.basic_tree.specs.GrammarStack.{Action, Arguments, Close, Collect, Do, Expect, Level, MakeFunction, MakeNegative, MakeNot, MakeParenthesized, MakePositive, More, MoreRelations, Opening, Several, Subscripts, Symbol, Term, Values, loosest}
+use Rattle.basic_tree.specs.MachineStack.{Action, Arguments, Close, Collect, Do, Expect, Level, MakeFunction, MakeNegative, MakeNot, MakeParenthesized, MakePositive, More, MoreRelations, Opening, Several, Subscripts, Symbol, Term, Values, loosest}
 
 -- ---- how an expression begins
 

@@ -1,4 +1,4 @@
--- The forms of statements: what each expects word by word, and the tree that it makes.
+-- The forms of statements: what each expects word by word, and the tree that it makes. No promise speaks of it: it carries proofs alone.
 use Rattle.std.specs.Prelude.{ℕ, ◌&&◌, nat_lt, Bool, true, false, List, [], ◌∷◌, ◌++◌, length, Option, Some, None}
 use Rattle.basic_tree.specs.declared.names.Name.{Name}
 use Rattle.basic_tree.specs.declared.tokens.Keyword.{Keyword}
@@ -15,7 +15,7 @@ use Rattle.basic_tree.specs.Trees.{Tree, PrintedTree, PrintItemTree, PrintChanne
 use Rattle.basic_tree.specs.SpellingExpressions.{steps_of, is_text, want_of}
 use Rattle.basic_tree.specs.SpellingParts.{last_word, may_follow}
 use Rattle.basic_tree.specs.GrammarWords.{function_of}
-use Rattle.basic_tree.specs.GrammarStack.{Stated, Item, TargetItem, ShapeItem, FileItem, NameItem, LineItem, ChannelItem, FieldItem, Sequence, Targets, Shapes, FileShapes, Parameters, Lines, Channels, FieldParts, LineNumber, Bound, Size, Form, Made, TakeKey, TakeSign, TakeClosing, IfKey, IfSign, ExprOf, TargetOf, NameIn, LiteralIn, MoreOf, MorePrinted, ClauseIn}
+use Rattle.basic_tree.specs.MachineStack.{Stated, Item, TargetItem, ShapeItem, FileItem, NameItem, LineItem, ChannelItem, FieldItem, Sequence, Targets, Shapes, FileShapes, Parameters, Lines, Channels, FieldParts, LineNumber, Bound, Size, Form, Made, TakeKey, TakeSign, TakeClosing, IfKey, IfSign, ExprOf, TargetOf, NameIn, LiteralIn, MoreOf, MorePrinted, ClauseIn}
 
 -- ---- tests of words
 

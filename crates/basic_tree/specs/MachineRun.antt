@@ -1,8 +1,8 @@
--- The machine's steps over the words: structural on the words, with the levels of nesting that are left.
+-- The machine's steps over the words: structural on the words, with the levels of nesting that are left. No promise speaks of it: it carries proofs alone.
 use Rattle.std.specs.Prelude.{ℕ, zero, suc, List, [], ◌∷◌, ◌++◌, Bool, true, false, Option, Some, None, Result, Ok, Err}
 use Rattle.basic_tree.specs.SpellingWords.{Word}
-use Rattle.basic_tree.specs.GrammarStack.{Values, Symbol}
-use Rattle.basic_tree.specs.GrammarMachine.{Move, Takes, Skips, Closes, Refuses, move}
+use Rattle.basic_tree.specs.MachineStack.{Values, Symbol}
+use Rattle.basic_tree.specs.MachineMoves.{Move, Takes, Skips, Closes, Refuses, move}
 
 -- a move of the topmost symbol, and of those below it until a word is taken
 pub data Turn : Type 0 where

@@ -1,10 +1,10 @@
--- The machine's verdict on a line.
+-- The machine's verdict on a line. No promise speaks of it: it carries proofs alone.
 use Rattle.std.specs.Prelude.{List, [], ◌∷◌, Ok, Err}
 use Rattle.basic_tree.specs.declared.tokens.Cause.TheVariants as cause
 use Rattle.basic_tree.specs.Tokens.{Reading, tokens_of}
 use Rattle.basic_tree.specs.SpellingWords.{Word, words_of, most_levels}
-use Rattle.basic_tree.specs.GrammarStack.{Values, Parsed, Symbol, OneStatement, MoreStatements}
-use Rattle.basic_tree.specs.GrammarRun.{Wrong, TooDeep, Outcome, run}
+use Rattle.basic_tree.specs.MachineStack.{Values, Parsed, Symbol, OneStatement, MoreStatements}
+use Rattle.basic_tree.specs.MachineRun.{Wrong, TooDeep, Outcome, run}
 use Rattle.basic_tree.specs.LineVerdicts.{Verdict, HasTree, RefusedFor, Judge}
 
 -- what is expected of a line, and the statements at its start

@@ -1,4 +1,4 @@
--- What is still expected behind the words so far: a stack of symbols, and the trees made so far.
+-- What is still expected behind the words so far: a stack of symbols, and the trees made so far. No promise speaks of it: it carries proofs alone.
 use Rattle.std.specs.Prelude.{ℕ, List, [], ◌∷◌, ◌++◌, ◌&&◌, nat_lt, Bool, Option, Some}
 use Rattle.std.specs.Int.{is_power_of_two}
 use Rattle.basic_tree.specs.declared.names.Name.{Name}

@@ -1,4 +1,4 @@
--- With which word each statement begins, and its form.
+-- With which word each statement begins, and its form. No promise speaks of it: it carries proofs alone.
 use Rattle.std.specs.Prelude.{true, false, [], ◌∷◌, Option, Some, None}
 use Rattle.basic_tree.specs.declared.tokens.Keyword.{Keyword}
 use Rattle.basic_tree.specs.declared.tokens.Keyword.TheVariants as keyword
@@ -10,8 +10,8 @@ use Rattle.basic_tree.specs.SpellingWords.{Word, Key, Named, FnNamed}
 use Rattle.basic_tree.specs.Trees.{Tree, PromptTree, If, Unless, While, Until, ForModifier, IfThen, IfGoto, For, Next, FnEnd, Data, Dim, DimFile, Result, Print, Input, InputLine, Read, Restore, Goto, Gosub, Return, OnGoto, OnGosub, OnErrorGoto, Resume, Stop, End, Chain, Sleep, Get, Put, Unlock, Field, Close, Lset, Rset, Kill, Rename}
 use Rattle.basic_tree.specs.SpellingExpressions.{want_of}
 use Rattle.basic_tree.specs.SpellingStatements.{clause_wants_else}
-use Rattle.basic_tree.specs.GrammarStack.{Modifying, Targets, Shapes, FileShapes, Parameters, Lines, Channels, FieldParts, LineNumber, Bound, Form, Made, TakeKey, TakeSign, TakeClosing, IfKey, IfSign, ExprOf, ExprIf, NameIn, FnNameIn, LiteralIn, LiteralIf, QuotedIf, ItemIn, MoreItems, MorePrinted, ClauseIn}
-use Rattle.basic_tree.specs.GrammarForms.{chains, list_form, targets_in, shapes_in, files_in, names_in, lines_in, channels_in, parts_in, says, range_form, else_form, targets_form, value_form, number_option, file_form}
+use Rattle.basic_tree.specs.MachineStack.{Modifying, Targets, Shapes, FileShapes, Parameters, Lines, Channels, FieldParts, LineNumber, Bound, Form, Made, TakeKey, TakeSign, TakeClosing, IfKey, IfSign, ExprOf, ExprIf, NameIn, FnNameIn, LiteralIn, LiteralIf, QuotedIf, ItemIn, MoreItems, MorePrinted, ClauseIn}
+use Rattle.basic_tree.specs.MachineForms.{chains, list_form, targets_in, shapes_in, files_in, names_in, lines_in, channels_in, parts_in, says, range_form, else_form, targets_form, value_form, number_option, file_form}
 
 -- ---- statements that stand by themselves
 
