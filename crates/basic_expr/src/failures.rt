@@ -68,7 +68,7 @@ impl From<NoMemory> for Failure {
 }
 
 /// An expression, whether it gives a text, and the place behind it.
-#[derive(Debug, Drop)]
+#[derive(Drop)]
 pub struct Found {
     pub tree: Expr,
     pub text: bool,

@@ -23,7 +23,7 @@ use basic_tree::{Clause, Expr, Keyword, Statement, Want};
 use std::alloc::Global;
 
 /// A statement, whether an ELSE behind it would be its own, and the place behind it.
-#[derive(Debug, Drop)]
+#[derive(Drop)]
 pub(crate) struct Stated {
     pub statement: Statement,
     pub takes_else: bool,
@@ -31,7 +31,7 @@ pub(crate) struct Stated {
 }
 
 /// A clause, whether an ELSE behind it would be its own, and the place behind it.
-#[derive(Debug, Drop)]
+#[derive(Drop)]
 pub(crate) struct ClauseRead {
     pub clause: Clause,
     pub takes_else: bool,
@@ -39,7 +39,7 @@ pub(crate) struct ClauseRead {
 }
 
 /// What stands behind the clause before it: ELSE and a clause, or nothing; whether an ELSE behind it would be its own; and the place behind it.
-#[derive(Debug, Drop)]
+#[derive(Drop)]
 pub(crate) struct Otherwise {
     pub clause: Option<Clause>,
     pub takes_else: bool,

@@ -158,7 +158,7 @@ fn recorded(
 }
 
 /// The options of OPEN.
-#[derive(Debug, Drop)]
+#[derive(Drop)]
 struct OpenOptions {
     record_size: Option<Expr>,
     cluster_size: Option<Expr>,

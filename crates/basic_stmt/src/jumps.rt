@@ -20,7 +20,7 @@ use basic_tree::{Expr, Keyword, Name, Series, Sign, Statement, Want};
 use std::alloc::Global;
 
 /// The variable of a loop and the values that it takes: from a start to a limit, perhaps by a step.
-#[derive(Debug, Drop)]
+#[derive(Drop)]
 pub(crate) struct LoopRange {
     pub variable: Name,
     pub start: Expr,

@@ -20,14 +20,14 @@ use basic_tree::{
 use std::alloc::Global;
 
 /// A part of PRINT: an item with its separator, or what comes last, if anything does.
-#[derive(Debug, Drop)]
+#[derive(Drop)]
 pub(crate) enum Part {
     Item(PrintItem),
     Last(Option<Printed>),
 }
 
 /// The items of PRINT, what comes last, and the place behind.
-#[derive(Debug, Drop)]
+#[derive(Drop)]
 struct Printing {
     items: Series<PrintItem>,
     last: Option<Printed>,

@@ -13,7 +13,7 @@ use std::alloc::Global;
 use std::marker::Model;
 
 /// The accounts, the disk's blocks and the jobs, of which what is good at the opening stays good.
-#[derive(Debug, Drop)]
+#[derive(Drop)]
 pub struct Monitor {
     parts: Parts,
 }

@@ -25,7 +25,7 @@ const NOBODY: Job = Job {
     calls: 0,
 };
 
-#[derive(Debug, Drop)]
+#[derive(Drop)]
 pub(crate) struct Parts {
     accounts: Vec<AccountEntry>,
     blocks: u16,

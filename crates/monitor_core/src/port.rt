@@ -15,7 +15,7 @@ use std::alloc::Global;
 use std::marker::Model;
 
 /// A port for one job over one monitor, which keeps its calls.
-#[derive(Debug, Drop)]
+#[derive(Drop)]
 pub struct PlainPort {
     opening: Opening,
     monitor: Monitor,

@@ -15,14 +15,14 @@ use monitor_calls::{Account, AccountEntry, Short, TerminalName, Volume};
 use std::alloc::{AllocError, AllocFailed, Global};
 
 /// A terminal, and the keys that are pressed at it, line by line.
-#[derive(Debug, Drop)]
+#[derive(Drop)]
 pub struct Terminal {
     pub name: TerminalName,
     pub keys: Vec<KeyLine>,
 }
 
 /// The volume of a run, and its terminals in their order.
-#[derive(Debug, Drop)]
+#[derive(Drop)]
 pub struct Deck {
     pub volume: Volume,
     pub terminals: Vec<Terminal>,

@@ -9,7 +9,7 @@ use itoa::Buffer;
 use monitor_calls::RunRecord;
 
 /// How a call of the program ends.
-#[derive(Debug, Drop)]
+#[derive(Drop)]
 pub enum Outcome {
     /// The deck was run and its report was written.
     Ok(RunRecord),

@@ -46,7 +46,7 @@ impl<'a, P: Pacer> Port for PacedPort<'a, P> {
 }
 
 /// What a run leaves: the screens in the order of the terminals, and the monitor's calls.
-#[derive(Debug, Drop)]
+#[derive(Drop)]
 pub(crate) struct Ran {
     pub(crate) screens: Vec<Screen2>,
     pub(crate) record: RunRecord,
