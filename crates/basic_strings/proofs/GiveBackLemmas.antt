@@ -1,7 +1,8 @@
 -- What was written is read back.
-use Rattle.std.proofs.Common.{◌≡◌, ℕ, zero, suc, ◌+◌, ◌-◌, ◌*◌, ◌/◌, ◌%◌, ◌<◌, ◌≤◌, true, false, cond, List, [], ◌∷◌, ◌++◌, length, get_or, take, drop, reverse, Some, Ok, Err, ℤ, pos, negsuc, ◌+ℤ◌, neg_ℤ, refl, ap, ◌∙◌, add-one, arith}
+use Rattle.std.proofs.Common.{◌≡◌, ℕ, zero, suc, ◌+◌, ◌-◌, ◌*◌, ◌/◌, ◌%◌, ◌<◌, ◌≤◌, true, false, cond, List, [], ◌∷◌, ◌++◌, length, get_or, take, drop, Some, Ok, Err, ℤ, pos, negsuc, ◌+ℤ◌, neg_ℤ, refl, ap, ◌∙◌, add-one, arith}
 use Rattle.std.specs.Prelude.{◌==◌, option_map}
 use Rattle.std.specs.Fmt.{decimal, signed_decimal}
+use Rattle.std.specs.List.{prefix_len}
 use Rattle.std.specs.Int.{IsInRange as IsInBounds}
 use Rattle.std.specs.Str.Parse.{AllDigits, digits_value}
 use Rattle.std.proofs.lemmas.Bool.{lt-ltb, le-ltb}
@@ -9,13 +10,15 @@ use Rattle.std.proofs.lemmas.Bool.Decides.{nat_tests}
 use Rattle.std.proofs.lemmas.Fmt.{decimal_is_IsNumeral, decimal_nonempty}
 use Rattle.std.proofs.lemmas.Grind.{get_or_tail}
 use Rattle.std.proofs.lemmas.Int.{ints}
-use Rattle.std.proofs.lemmas.List.{get_or_append_left, get_or-reverse, reverse-reverse, reverse-append, length-reverse, take-append-drop}
+use Rattle.std.proofs.lemmas.List.{get_or_append_left, get_or-append_right, length-append, take_all, take_at, take-append-drop}
+use Rattle.std.proofs.lemmas.List.Sums.{suffix_len_is}
 use Rattle.std.proofs.lemmas.Str.Parse.{digit_at}
+use Rattle.basic_values.specs.Blanks.{is_blank, without_front_blanks, without_end_blanks}
 use Rattle.basic_values.specs.Laws.{IsInRange}
 use Rattle.basic_values.specs.Numbers.{low_bits, signed, printed}
 use Rattle.basic_strings.specs.Cuts.{place_given, left_of, right_of}
 use Rattle.basic_strings.specs.Pairs.{pair_of, number_in}
-use Rattle.basic_strings.specs.Readings.{is_blank, without_leading_blanks, without_blanks, size_spelled, with_sign, number_spelled, is_in_range, judged, illegal_number, integer_error, value_read}
+use Rattle.basic_strings.specs.Readings.{without_blanks, size_spelled, with_sign, number_spelled, is_in_range, judged, illegal_number, integer_error, value_read}
 use Rattle.basic_strings.proofs.SizeLemmas.{size_of_digits}
 
 -- ---- two bytes
@@ -53,16 +56,15 @@ cuts_lose_nothing text (negsuc (suc n)) =
 abbrev NoBlankAt : List ℕ → ℕ → Type 0
 NoBlankAt text i = is_blank (get_or text i 0) ≡ false
 
-starts_plain : (text : List ℕ) → (0 < length text → NoBlankAt text 0) → without_leading_blanks text ≡ text
+starts_plain : (text : List ℕ) → (0 < length text → NoBlankAt text 0) → without_front_blanks text ≡ text
 starts_plain [] plain = refl
-starts_plain (x ∷ xs) plain = ap (λ b. cond b (without_leading_blanks xs) (x ∷ xs)) (plain (omega arith))
+starts_plain (x ∷ xs) plain =
+    ap (λ b. drop (cond b (1 + prefix_len is_blank xs) 0) (x ∷ xs)) (plain (omega arith))
 
-ends_plain : (text : List ℕ) → (0 < length text → NoBlankAt text (length text - 1)) → without_leading_blanks (reverse text) ≡ reverse text
-ends_plain text plain =
-    starts_plain (reverse text) (λ some.
-    let has : 0 < length text = omega (arith, length-reverse text, some) in
-    let last : length text - 1 - 0 ≡ length text - 1 = omega arith in
-    ap is_blank (get_or-reverse text 0 0 has ∙ ap (λ i. get_or text i 0) last) ∙ plain has)
+-- the blanks at its end begin at this place
+ends_at : (text : List ℕ) (n : ℕ) → n ≤ length text → ((k : ℕ) → n ≤ k → k < length text → is_blank (get_or text k 0) ≡ true) → (0 < n → NoBlankAt text (n - 1)) → without_end_blanks text ≡ take n text
+ends_at text n within behind stop =
+    ap (λ k. take k text) (omega (arith, suffix_len_is is_blank text n 0 within behind stop))
 
 -- a text with bytes that neither begins nor ends with a blank
 record IsPlain (text : List ℕ) : Type 0 where
@@ -72,16 +74,22 @@ record IsPlain (text : List ℕ) : Type 0 where
 
 without_blanks-plain : (text : List ℕ) → IsPlain text → without_blanks text ≡ text
 without_blanks-plain text plain =
-    ap (λ t. reverse (without_leading_blanks (reverse t))) (starts_plain text (λ _. plain.first))
-    ∙ ap reverse (ends_plain text (λ _. plain.last)) ∙ reverse-reverse text
+    ap without_end_blanks (starts_plain text (λ _. plain.first))
+    ∙ ends_at text (length text) (omega arith) (λ k low high. absurd (omega (arith, low, high))) (λ _. plain.last)
+    ∙ take_all (length text) text (omega arith)
+
+-- the one byte behind a text, by its place
+behind_is : (text : List ℕ) (k : ℕ) → length text ≤ k → k < length (text ++ 32 ∷ []) → is_blank (get_or (text ++ 32 ∷ []) k 0) ≡ true
+behind_is text k low high =
+    ap is_blank (get_or-append_right text (32 ∷ []) k 0 low ∙ ap (λ i. get_or (32 ∷ []) i 0) (omega (arith, length-append text (32 ∷ []))))
 
 -- one blank behind it goes
 without_blanks-behind : (text : List ℕ) → IsPlain text → without_blanks (text ++ 32 ∷ []) ≡ text
 without_blanks-behind text plain =
-    ap (λ t. reverse (without_leading_blanks (reverse t)))
-    (starts_plain (text ++ 32 ∷ []) (λ _. ap is_blank (get_or_append_left text (32 ∷ []) 0 0 plain.some) ∙ plain.first))
-    ∙ ap (λ t. reverse (without_leading_blanks t)) (reverse-append text (32 ∷ []))
-    ∙ ap reverse (ends_plain text (λ _. plain.last)) ∙ reverse-reverse text
+    let before : (k : ℕ) → k < length text → get_or (text ++ 32 ∷ []) k 0 ≡ get_or text k 0 = λ k lt. get_or_append_left text (32 ∷ []) k 0 lt in
+    ap without_end_blanks (starts_plain (text ++ 32 ∷ []) (λ _. ap is_blank (before 0 plain.some) ∙ plain.first))
+    ∙ ends_at (text ++ 32 ∷ []) (length text) (omega (arith, length-append text (32 ∷ []))) (behind_is text) (λ some. ap is_blank (before (length text - 1) (omega (arith, some))) ∙ plain.last)
+    ∙ take_at text (32 ∷ []) (length text) refl
 
 -- a digit and a minus are no blanks
 plain_byte : (byte : ℕ) → 45 ≤ byte → is_blank byte ≡ false

@@ -1,20 +1,12 @@
 -- Numbers that texts spell.
-use Rattle.std.specs.Prelude.{ℕ, ◌-◌, ◌==◌, ◌||◌, nat_lt, Bool, true, false, if◌then◌else◌, List, [], ◌∷◌, reverse, length, take, ℤ, pos, negsuc, neg_ℤ, Option, Some, None, option_map, Result, Ok, Err, slice_index}
+use Rattle.std.specs.Prelude.{ℕ, ◌-◌, ◌==◌, nat_lt, Bool, true, false, if◌then◌else◌, List, [], ◌∷◌, length, take, ℤ, pos, negsuc, neg_ℤ, Option, Some, None, option_map, Result, Ok, Err, slice_index}
 use Rattle.std.specs.Str.{all_ascii_digits}
 use Rattle.std.specs.Str.Parse.{digits_value}
-
--- a space or a tab
-abbrev pub is_blank : ℕ → Bool
-is_blank byte = byte == 32 || byte == 9
-
--- the text without the blanks that it begins with
-abbrev pub without_leading_blanks : List ℕ → List ℕ
-without_leading_blanks [] = []
-without_leading_blanks (byte ∷ rest) = if is_blank byte then without_leading_blanks rest else (byte ∷ rest)
+use Rattle.basic_values.specs.Blanks.{without_front_blanks, without_end_blanks}
 
 -- the text without the blanks around it
 abbrev pub without_blanks : List ℕ → List ℕ
-without_blanks text = reverse (without_leading_blanks (reverse (without_leading_blanks text)))
+without_blanks text = without_end_blanks (without_front_blanks text)
 
 -- the text without one percent sign at its end
 abbrev pub without_percent : List ℕ → List ℕ

@@ -7,6 +7,6 @@ abbrev pub absolute : ℤ → ℤ
 absolute n = wrap (pos (unsigned_abs n))
 
 -- -1, 0 or 1
-abbrev pub sign_of : ℤ → ℤ
-sign_of (pos n) = if n == 0 then pos 0 else pos 1
-sign_of (negsuc n) = negsuc 0
+abbrev pub signum : ℤ → ℤ
+signum (pos n) = if n == 0 then pos 0 else pos 1
+signum (negsuc n) = negsuc 0

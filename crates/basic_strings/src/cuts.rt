@@ -4,12 +4,12 @@ ghost use Rattle.std.specs.Prelude.{◌≡◌, ◌≤◌, ◌-◌, length, take,
 ghost use Rattle.basic_values.specs.Texts.{MakesText};
 ghost use Rattle.basic_strings.specs.Cuts.{length_given, place_given, left_of, right_of, mid_of};
 
-use basic_values::{Halt, Int, Text, Trouble};
+use basic_values::{Halt, Int, MOST_BYTES, Text, Trouble};
 use std::alloc::Global;
 
 /// How many bytes the text has. The manual's LEN.
 pub fn len(bytes: &[u8]) -> Int
-    requires { length bytes.now ≤ 32767 }
+    requires { length bytes.now ≤ MOST_BYTES }
     ensures { result ≡ pos (length bytes.now) }
 {
     Int::new(bytes.len() as i16)
@@ -39,7 +39,7 @@ pub fn mid(alloc: Global, bytes: &[u8], n: Int, k: Int) -> Result<Text, Trouble<
 /// How many bytes a length names: below 0 it counts as 0.
 pub(crate) fn count_of(n: Int) -> usize
     ensures value { result ≡ length_given n }
-    ensures bound { result ≤ 32767 }
+    ensures bound { result ≤ MOST_BYTES }
 {
     if n.value() < 0 {
         0

@@ -4,12 +4,12 @@ ghost use Rattle.std.specs.Prelude.{◌≡◌, ◌≤◌, length};
 ghost use Rattle.basic_strings.specs.Places.{place_of};
 
 use crate::cuts::bytes_before;
-use basic_values::Int;
+use basic_values::{Int, MOST_BYTES};
 
 /// The least place from `n` on where `b` stands in `a`, or 0. An empty `b` stands at each place to the one behind the last byte. The manual's INSTR.
 pub fn instr(n: Int, a: &[u8], b: &[u8]) -> Int
-    requires text { length a.now ≤ 32767 }
-    requires sought { length b.now ≤ 32767 }
+    requires text { length a.now ≤ MOST_BYTES }
+    requires sought { length b.now ≤ MOST_BYTES }
     ensures { result ≡ place_of n a.now b.now }
 {
     let start = bytes_before(n);

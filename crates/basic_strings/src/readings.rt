@@ -1,9 +1,9 @@
 //! Numbers that texts spell.
 
-ghost use Rattle.std.specs.Prelude.{◌≡◌, min, reverse, option_map};
-ghost use Rattle.basic_strings.specs.Readings.{value_read, item_read, judged, number_spelled, size_spelled, with_sign, without_blanks, without_leading_blanks};
+ghost use Rattle.std.specs.Prelude.{◌≡◌, min, option_map};
+ghost use Rattle.basic_strings.specs.Readings.{value_read, item_read, judged, number_spelled, size_spelled, with_sign, without_blanks};
 
-use basic_values::{Fault, Int};
+use basic_values::{Fault, Int, without_end_blanks, without_front_blanks};
 
 /// The error of a number of INPUT or READ that is none.
 const DATA_FORMAT_ERROR: u8 = 50;
@@ -36,30 +36,11 @@ pub fn item_number(bytes: &[u8]) -> Result<Int, Fault>
     }
 }
 
+/// The text without the blanks around it.
 fn trimmed(bytes: &[u8]) -> &[u8]
     ensures { result.now ≡ without_blanks bytes.now }
 {
-    trimmed_end(trimmed_start(bytes))
-}
-
-fn trimmed_start(bytes: &[u8]) -> &[u8]
-    ensures { result.now ≡ without_leading_blanks bytes.now }
-{
-    let mut rest = bytes;
-    while let [b' ' | b'\t', tail @ ..] = rest {
-        rest = tail;
-    }
-    rest
-}
-
-fn trimmed_end(bytes: &[u8]) -> &[u8]
-    ensures { result.now ≡ reverse (without_leading_blanks (reverse bytes.now)) }
-{
-    let mut rest = bytes;
-    while let [front @ .., b' ' | b'\t'] = rest {
-        rest = front;
-    }
-    rest
+    without_end_blanks(without_front_blanks(bytes))
 }
 
 /// The number that a sign or none and digits spell.

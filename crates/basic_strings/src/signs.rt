@@ -1,7 +1,7 @@
 //! A number without its sign, and its sign.
 
 ghost use Rattle.std.specs.Prelude.{◌≡◌};
-ghost use Rattle.basic_strings.specs.Signs.{absolute, sign_of};
+ghost use Rattle.basic_strings.specs.Signs.{absolute, signum};
 
 use basic_values::Int;
 
@@ -14,7 +14,7 @@ pub fn abs(n: Int) -> Int
 
 /// -1, 0 or 1. The manual's SGN.
 pub fn sgn(n: Int) -> Int
-    ensures { result ≡ sign_of n }
+    ensures { result ≡ signum n }
 {
     Int::new(n.value().signum())
 }

@@ -23,8 +23,7 @@ pub record Lexeme : Type 0 where
 -- ---- bytes. What is read past the end of a line is 0, which is none of these
 
 -- a space or a tab
-abbrev pub is_blank : ℕ → Bool
-is_blank b = b == 32 || b == 9
+pub use Rattle.basic_values.specs.Blanks.{is_blank}
 
 -- a quote
 abbrev pub is_quote : ℕ → Bool

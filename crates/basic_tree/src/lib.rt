@@ -7,10 +7,10 @@ pub mod laws;
 mod names;
 mod parts;
 mod programs;
-mod series;
 mod statements;
 mod tokens;
 
+pub use basic_values::Series;
 pub use expressions::{Expr, Function, Operator, Relation};
 pub use kinds::Want;
 pub use names::Name;
@@ -19,9 +19,5 @@ pub use parts::{
     Printed, Prompt, Separator, Shape, Target,
 };
 pub use programs::{Line, Program};
-pub use series::Series;
 pub use statements::{Clause, Statement};
 pub use tokens::{Cause, Front, Keyword, Refusal, Sign, TokenKind};
-
-#[cfg(test)]
-mod tests;

@@ -7,8 +7,7 @@ use crate::parts::{
     ChainLine, CloseChannel, FieldPart, FileShape, Modifier, OpenFor, PrintChannel, PrintItem,
     Printed, Prompt, Shape, Target,
 };
-use crate::series::Series;
-use basic_values::Text;
+use basic_values::{Series, Text};
 
 /// What an IF runs: the line of this number, or a statement.
 #[cycle(statements)]

@@ -1,5 +1,6 @@
 pub mod Arithmetic
 pub mod Bits
+pub mod Blanks
 pub mod Decimals
 pub mod Laws
 pub mod Messages

@@ -3,19 +3,16 @@ use Rattle.std.specs.Prelude.{◌≡◌, ◌<◌, ◌≤◌, ◌-◌, ℕ, List,
 use Rattle.std.specs.declared.cmp.Ordering.{Ordering}
 use Rattle.std.specs.Ordering.{nat_cmp}
 use Rattle.std.specs.Cmp.Lexicographic.{slice_cmp}
+use Rattle.basic_values.specs.declared.texts.TheConstants.{MOST_BYTES}
 use Rattle.basic_values.specs.declared.failures.Halt.{Halt}
 use Rattle.basic_values.specs.declared.failures.Halt.TheVariants.{TooLong}
 use Rattle.basic_values.specs.declared.failures.Trouble.{Trouble}
 use Rattle.basic_values.specs.declared.failures.Trouble.TheVariants.{Refused, NoMemory}
 
--- how many bytes a text has at the most
-abbrev pub most_bytes : ℕ
-most_bytes = 32767
-
 -- a call that makes a text of these bytes answers the text, or too long exactly where there are too many of them; or memory ran out
 abbrev pub MakesText : List ℕ → Result (List ℕ) (Trouble Halt) → Type 0
-MakesText bytes (Ok text) = (text ≡ bytes) × (length bytes ≤ most_bytes)
-MakesText bytes (Err (Refused halt)) = (halt ≡ TooLong) × (most_bytes < length bytes)
+MakesText bytes (Ok text) = (text ≡ bytes) × (length bytes ≤ MOST_BYTES)
+MakesText bytes (Err (Refused halt)) = (halt ≡ TooLong) × (MOST_BYTES < length bytes)
 MakesText bytes (Err NoMemory) = Unit {0}
 
 -- the byte of a space

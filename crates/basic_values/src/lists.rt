@@ -1,4 +1,4 @@
-//! Bytes that a contract sees as a list.
+//! Lists: what a contract sees as its values in their order.
 
 ghost use Rattle.std.specs.Prelude.{◌≡◌, ◌≤◌, ◌<◌, ◌↔◌, length, [], ◌++◌, IfOk, OnOk, OnErr, IsSome, IfSome};
 
@@ -17,18 +17,19 @@ pub struct KeyLine {
 
 impl Model for KeyLine {
     ghost use Rattle.std.specs.Prelude.{List, ℕ, ◌≤◌, vec_len};
+    ghost use Rattle.basic_values.specs.declared.lists.TheConstants.{LINE_LENGTH};
 
     ghost Value = { List ℕ };
 
     ghost view = { λ line. line.bytes.items };
 
-    ghost invariant = { λ line. vec_len line.bytes ≤ 255 };
+    ghost invariant = { λ line. vec_len line.bytes ≤ LINE_LENGTH };
 }
 
 impl KeyLine {
     /// A copy of the bytes.
     pub fn of(alloc: Global, bytes: &[u8]) -> Result<KeyLine, NoMemory>
-        requires { length bytes.now ≤ 255 }
+        requires { length bytes.now ≤ LINE_LENGTH }
         ensures { IfOk result (λ line. line ≡ bytes.now) }
     {
         Ok(KeyLine {
@@ -38,37 +39,40 @@ impl KeyLine {
 
     pub fn as_bytes(&self) -> &[u8]
         ensures bytes { result.now ≡ self.now }
-        ensures short { length self.now ≤ 255 }
+        ensures short { length self.now ≤ LINE_LENGTH }
     {
         self.bytes.as_slice()
+    }
+}
+
+/// Values in an order, without a bound on how many they are.
+#[derive(Drop)]
+pub struct Series<T> {
+    items: Vec<T>,
+}
+
+impl<T> Model for Series<T> {
+    ghost use Rattle.std.specs.Prelude.{List};
+
+    ghost Value = { List T };
+
+    ghost view = { λ series. series.items.items };
+}
+
+impl<T> Series<T> {
+    /// Takes the values over.
+    pub fn from_vec(items: Vec<T>) -> Series<T>
+        ensures { result ≡ items.items }
+    {
+        Series { items }
+    }
+
+    pub fn as_slice(&self) -> &[T]
+        ensures { result.now ≡ self.now }
+    {
+        self.items.as_slice()
     }
 }
 
 /// A list of bytes without a bound on its length.
-#[derive(Debug, Drop)]
-pub struct Text2 {
-    bytes: Vec<u8>,
-}
-
-impl Model for Text2 {
-    ghost use Rattle.std.specs.Prelude.{List, ℕ};
-
-    ghost Value = { List ℕ };
-
-    ghost view = { λ text. text.bytes.items };
-}
-
-impl Text2 {
-    /// Takes the bytes over.
-    pub fn from_vec(bytes: Vec<u8>) -> Text2
-        ensures { result ≡ bytes.items }
-    {
-        Text2 { bytes }
-    }
-
-    pub fn as_bytes(&self) -> &[u8]
-        ensures { result.now ≡ self.now }
-    {
-        self.bytes.as_slice()
-    }
-}
+pub type Text2 = Series<u8>;

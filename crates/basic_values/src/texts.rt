@@ -1,7 +1,7 @@
 //! Texts: lists of at most 32,767 bytes.
 
 ghost use Rattle.std.specs.Prelude.{◌≡◌, ◌≤◌, ◌++◌, ◌↔◌, IsTrue, IfOk, length, slice_index_or};
-ghost use Rattle.basic_values.specs.Texts.{MakesText, most_bytes, order_of, space};
+ghost use Rattle.basic_values.specs.Texts.{MakesText, order_of, space};
 
 use crate::failures::{Halt, NoMemory, Trouble};
 use std::alloc::Global;
@@ -9,7 +9,7 @@ use std::cmp::Ordering;
 use std::marker::Model;
 
 /// How many bytes a text has at the most.
-const MOST_BYTES: usize = 32767;
+pub const MOST_BYTES: usize = 32767;
 
 /// A text of BASIC-PLUS: at most 32,767 bytes, of any kind.
 #[derive(Debug, Drop)]
@@ -19,12 +19,13 @@ pub struct Text {
 
 impl Model for Text {
     ghost use Rattle.std.specs.Prelude.{List, ℕ, ◌≤◌, vec_len};
+    ghost use Rattle.basic_values.specs.declared.texts.TheConstants.{MOST_BYTES};
 
     ghost Value = { List ℕ };
 
     ghost view = { λ text. text.bytes.items };
 
-    ghost invariant = { λ text. vec_len text.bytes ≤ 32767 };
+    ghost invariant = { λ text. vec_len text.bytes ≤ MOST_BYTES };
 }
 
 impl Text {
@@ -38,7 +39,7 @@ impl Text {
     /// The bytes of the text.
     pub fn as_bytes(&self) -> &[u8]
         ensures bytes { result.now ≡ self.now }
-        ensures short { length self.now ≤ most_bytes }
+        ensures short { length self.now ≤ MOST_BYTES }
     {
         self.bytes.as_slice()
     }

@@ -29,7 +29,7 @@ pub fn report(
 fn push_report(out: &mut Vec<u8>, name: &TerminalName, screen: &Screen2) -> Result<(), NoMemory>
     ensures { OnOk result (out.new.items ≡ out.old.items ++ terminal_report name.now screen.now) }
 {
-    let bytes = screen.as_bytes();
+    let bytes = screen.as_slice();
     let mut buffer = Buffer::new();
     out.extend_from_slice(b"TERMINAL ")?;
     out.extend_from_slice(name.as_bytes())?;

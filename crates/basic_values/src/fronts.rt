@@ -1,0 +1,64 @@
+//! What a text begins and ends with: runs of blanks, of letters and of digits.
+
+ghost use Rattle.std.specs.Prelude.{◌≡◌, ◌≤◌, length};
+ghost use Rattle.std.specs.List.{prefix_len, suffix_len};
+ghost use Rattle.std.specs.Char.{is_ascii_alphabetic, is_ascii_digit};
+ghost use Rattle.basic_values.specs.Blanks.{is_blank, without_front_blanks, without_end_blanks};
+
+/// Whether it is a space or a tab.
+pub fn is_blank(byte: u8) -> bool
+    ensures { result ≡ is_blank byte }
+{
+    byte == b' ' || byte == b'\t'
+}
+
+/// How many blanks the text begins with.
+pub fn blanks_in_front(text: &[u8]) -> usize
+    ensures count { result ≡ prefix_len is_blank text.now }
+    ensures within { result ≤ length text.now }
+{
+    text.iter().take_while(|byte| is_blank(**byte)).count()
+}
+
+/// How many letters the text begins with.
+pub fn letters_in_front(text: &[u8]) -> usize
+    ensures count { result ≡ prefix_len is_ascii_alphabetic text.now }
+    ensures within { result ≤ length text.now }
+{
+    text.iter()
+        .take_while(|byte| byte.is_ascii_alphabetic())
+        .count()
+}
+
+/// How many digits the text begins with.
+pub fn digits_in_front(text: &[u8]) -> usize
+    ensures count { result ≡ prefix_len is_ascii_digit text.now }
+    ensures within { result ≤ length text.now }
+{
+    text.iter().take_while(|byte| byte.is_ascii_digit()).count()
+}
+
+/// How many blanks the text ends with.
+pub fn blanks_at_end(text: &[u8]) -> usize
+    ensures count { result ≡ suffix_len is_blank text.now }
+    ensures within { result ≤ length text.now }
+{
+    text.iter()
+        .rev()
+        .take_while(|byte| is_blank(**byte))
+        .count()
+}
+
+/// The text behind the blanks in front.
+pub fn without_front_blanks(text: &[u8]) -> &[u8]
+    ensures { result.now ≡ without_front_blanks text.now }
+{
+    &text[blanks_in_front(text)..]
+}
+
+/// The text before the blanks at its end.
+pub fn without_end_blanks(text: &[u8]) -> &[u8]
+    ensures { result.now ≡ without_end_blanks text.now }
+{
+    &text[..text.len() - blanks_at_end(text)]
+}
