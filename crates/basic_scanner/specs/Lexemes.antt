@@ -1,5 +1,6 @@
 -- The tokens of the code, without where their bytes lie in memory.
 use Rattle.std.specs.Prelude.{◌≤◌, List, length, map, All}
+use Rattle.basic_values.specs.declared.lists.TheConstants.{LINE_LENGTH}
 use Rattle.basic_tree.specs.Tokens.{Lexeme}
 use Rattle.basic_scanner.specs.declared.scanner.Token.{Token}
 
@@ -11,4 +12,4 @@ lexemes tokens = map lexeme_of tokens
 
 -- none of them has more bytes than a line may have
 abbrev pub AreShort : List Lexeme → Type 0
-AreShort tokens = All (λ token. length token.bytes ≤ 255) tokens
+AreShort tokens = All (λ token. length token.bytes ≤ LINE_LENGTH) tokens

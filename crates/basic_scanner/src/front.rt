@@ -4,10 +4,11 @@ ghost use Rattle.std.specs.Prelude.{◌≡◌, ◌≤◌, ◌<◌, ◌==◌, IfS
 ghost use Rattle.std.specs.Char.{is_ascii_digit};
 ghost use Rattle.std.specs.List.{prefix_len};
 ghost use Rattle.std.specs.Str.Parse.{AllDigits, digits_value};
-ghost use Rattle.basic_tree.specs.Tokens.{is_blank, is_quote, is_type_mark, keyword_front, name_end, name_front, begins_function, letter_front, is_exponent, is_floating, digit_front, quote_front, sign_front, front_of};
+ghost use Rattle.basic_tree.specs.Tokens.{is_quote, is_type_mark, keyword_front, name_end, name_front, begins_function, letter_front, is_exponent, is_floating, digit_front, quote_front, sign_front, front_of};
 
 use crate::words::{is_word, keyword_length, sign_length, stands};
 use basic_tree::{Cause, Front, TokenKind};
+use basic_values::{digits_in_front, is_blank};
 
 /// The least number that is too wide for a literal.
 const TOO_WIDE: u32 = 32768;
@@ -17,12 +18,6 @@ fn byte_at(rest: &[u8], place: usize) -> u8
     ensures { result ≡ slice_index rest.now place }
 {
     rest.get(place).copied().unwrap_or(0)
-}
-
-fn is_blank(byte: u8) -> bool
-    ensures { result ≡ is_blank byte }
-{
-    byte == b' ' || byte == b'\t'
 }
 
 pub fn is_quote(byte: u8) -> bool
@@ -119,12 +114,7 @@ fn digits_length(rest: &[u8]) -> usize
     ensures within { result ≤ length rest.now }
     ensures digits { AllDigits 10 (take result rest.now) }
 {
-    for (len, byte) in rest.iter().enumerate() {
-        if !byte.is_ascii_digit() {
-            return len;
-        }
-    }
-    rest.len()
+    digits_in_front(rest)
 }
 
 /// The value of the digits, where it is too wide the least such value.

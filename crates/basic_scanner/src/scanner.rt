@@ -8,7 +8,7 @@ ghost use Rattle.basic_scanner.specs.Scan.{Scans, item_and_more};
 
 use crate::front::{front_of, is_quote};
 use basic_tree::{Front, Refusal, TokenKind};
-use basic_values::{NoMemory, Trouble};
+use basic_values::{LINE_LENGTH, NoMemory, Trouble};
 use std::alloc::Global;
 use std::marker::Model;
 
@@ -52,7 +52,7 @@ impl<'a> Tokens<'a> {
     pub fn token(&self, k: u16) -> Token<'a>
         requires { k < length self.now }
         ensures value { slice_get self.now k ≡ Some (lexeme_of result) }
-        ensures short { length result.bytes.now ≤ 255 }
+        ensures short { length result.bytes.now ≤ LINE_LENGTH }
     {
         self.tokens[k as usize]
     }
@@ -104,7 +104,7 @@ fn push<'a>(
     len: usize,
 ) -> Result<(), NoMemory>
     requires within { start + len ≤ length line.now }
-    requires short { length line.now ≤ 255 }
+    requires short { length line.now ≤ LINE_LENGTH }
     ensures tokens { OnOk result (lexemes tokens.new.items ≡ lexemes tokens.old.items ++ record { kind = kind; start = start; bytes = take len (drop start line.entry.now) } ∷ []) }
     ensures count { OnOk result (vec_len tokens.new ≡ vec_len tokens.old + 1) }
 {
@@ -119,7 +119,7 @@ fn push<'a>(
 /// The items of DATA, from a place to the end of the line.
 fn push_items<'a>(tokens: &mut Vec<Token<'a>>, line: &'a [u8], from: usize) -> Result<(), NoMemory>
     requires within { from ≤ length line.now }
-    requires short { length line.now ≤ 255 }
+    requires short { length line.now ≤ LINE_LENGTH }
     ensures items { OnOk result (lexemes tokens.new.items ≡ lexemes tokens.old.items ++ items_from from [] None (drop from line.entry.now)) }
     ensures count { OnOk result (vec_len tokens.new + from ≤ vec_len tokens.old + length line.entry.now + 1) }
 {
@@ -145,7 +145,7 @@ fn front_at(line: &[u8], place: usize) -> Front
 
 /// The tokens of the line, or the first place that is refused.
 fn read<'a>(alloc: Global, line: &'a [u8]) -> Result<Vec<Token<'a>>, Trouble<Refusal>>
-    requires { length line.now ≤ 255 }
+    requires { length line.now ≤ LINE_LENGTH }
     ensures found { IfOk result (λ tokens. (tokens_of line.entry.now ≡ Ok (lexemes tokens.items)) × (vec_len tokens ≤ 256)) }
     ensures refused { IfErr result (λ trouble. Scans line.entry.now (Err trouble)) }
 {
@@ -177,7 +177,7 @@ fn read<'a>(alloc: Global, line: &'a [u8]) -> Result<Vec<Token<'a>>, Trouble<Ref
 
 /// The tokens of the line, or the first place that is refused and why.
 pub fn scan<'a>(alloc: Global, line: &'a [u8]) -> Result<Tokens<'a>, Trouble<Refusal>>
-    requires { length line.now ≤ 255 }
+    requires { length line.now ≤ LINE_LENGTH }
     ensures exact { Scans line.entry.now result }
     ensures slices { IfOk result (λ tokens. AreCut line.entry.now 0 tokens) }
 {

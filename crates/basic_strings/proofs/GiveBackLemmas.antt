@@ -10,8 +10,9 @@ use Rattle.std.proofs.lemmas.Bool.Decides.{nat_tests}
 use Rattle.std.proofs.lemmas.Fmt.{decimal_is_IsNumeral, decimal_nonempty}
 use Rattle.std.proofs.lemmas.Grind.{get_or_tail}
 use Rattle.std.proofs.lemmas.Int.{ints}
-use Rattle.std.proofs.lemmas.List.{get_or_append_left, get_or-append_right, length-append, take_all, take_at, take-append-drop}
+use Rattle.std.proofs.lemmas.List.{get_or_append_left, length-append, take_all, take_at, take-append-drop}
 use Rattle.std.proofs.lemmas.List.Sums.{suffix_len_is}
+use Rattle.std.proofs.Math.Seq.{get_or-append_seam}
 use Rattle.std.proofs.lemmas.Str.Parse.{digit_at}
 use Rattle.basic_values.specs.Blanks.{is_blank, without_front_blanks, without_end_blanks}
 use Rattle.basic_values.specs.Laws.{IsInRange}
@@ -81,12 +82,13 @@ without_blanks-plain text plain =
 -- the one byte behind a text, by its place
 behind_is : (text : List ℕ) (k : ℕ) → length text ≤ k → k < length (text ++ 32 ∷ []) → is_blank (get_or (text ++ 32 ∷ []) k 0) ≡ true
 behind_is text k low high =
-    ap is_blank (get_or-append_right text (32 ∷ []) k 0 low ∙ ap (λ i. get_or (32 ∷ []) i 0) (omega (arith, length-append text (32 ∷ []))))
+    let there : k ≡ length text = omega (arith, low, high, length-append text (32 ∷ [])) in
+    ap (λ i. is_blank (get_or (text ++ 32 ∷ []) i 0)) there ∙ ap is_blank (get_or-append_seam text 32 [] 0)
 
 -- one blank behind it goes
 without_blanks-behind : (text : List ℕ) → IsPlain text → without_blanks (text ++ 32 ∷ []) ≡ text
 without_blanks-behind text plain =
-    let before : (k : ℕ) → k < length text → get_or (text ++ 32 ∷ []) k 0 ≡ get_or text k 0 = λ k lt. get_or_append_left text (32 ∷ []) k 0 lt in
+    let before : (k : ℕ) → k < length text → get_or (text ++ 32 ∷ []) k 0 ≡ get_or text k 0 = λ k lt. get_or_append_left text (32 ∷ []) 0 k lt in
     ap without_end_blanks (starts_plain (text ++ 32 ∷ []) (λ _. ap is_blank (before 0 plain.some) ∙ plain.first))
     ∙ ends_at (text ++ 32 ∷ []) (length text) (omega (arith, length-append text (32 ∷ []))) (behind_is text) (λ some. ap is_blank (before (length text - 1) (omega (arith, some))) ∙ plain.last)
     ∙ take_at text (32 ∷ []) (length text) refl
@@ -163,8 +165,15 @@ pub reading_gives_back : (z : ℤ) → IsInRange z → value_read (signed_decima
 reading_gives_back z within =
     read_back (signed_decimal z) z within (without_blanks-plain (signed_decimal z) (signed_plain z within))
 
+-- one blank in front goes
+without_blanks-before : (text : List ℕ) → without_blanks (32 ∷ text) ≡ without_blanks text
+without_blanks-before text =
+    let more : 1 + prefix_len is_blank text ≡ suc (prefix_len is_blank text) = omega arith in
+    ap (λ n. without_end_blanks (drop n (32 ∷ text))) more
+
 without_blanks-printed : (z : ℤ) → IsInRange z → without_blanks (printed z) ≡ signed_decimal z
-without_blanks-printed (pos n) within = without_blanks-behind (decimal n) (signed_plain (pos n) within)
+without_blanks-printed (pos n) within =
+    without_blanks-before (decimal n ++ 32 ∷ []) ∙ without_blanks-behind (decimal n) (signed_plain (pos n) within)
 without_blanks-printed (negsuc n) within =
     ap (λ m. without_blanks ((45 ∷ decimal m) ++ 32 ∷ [])) (add-one n)
     ∙ without_blanks-behind (45 ∷ decimal (suc n)) (signed_plain (negsuc n) within)

@@ -4,6 +4,7 @@ use Rattle.std.specs.Char.{is_ascii_alphabetic, is_ascii_digit, to_ascii_upperca
 use Rattle.std.specs.List.{prefix_len}
 use Rattle.std.specs.Option.{option_map}
 use Rattle.std.specs.Str.Parse.{digits_value}
+pub use Rattle.basic_values.specs.Blanks.{is_blank}
 use Rattle.basic_tree.specs.Words.{keywords, signs}
 use Rattle.basic_tree.specs.declared.tokens.Keyword.{Keyword}
 use Rattle.basic_tree.specs.declared.tokens.Sign.{Sign}
@@ -21,9 +22,6 @@ pub record Lexeme : Type 0 where
   pub bytes : List ℕ
 
 -- ---- bytes. What is read past the end of a line is 0, which is none of these
-
--- a space or a tab
-pub use Rattle.basic_values.specs.Blanks.{is_blank}
 
 -- a quote
 abbrev pub is_quote : ℕ → Bool
