@@ -8,6 +8,3 @@ mod words;
 pub use front::literal_value;
 pub use scanner::{Token, Tokens, scan};
 pub use words::{keyword_of, sign_of};
-
-#[cfg(test)]
-mod tests;

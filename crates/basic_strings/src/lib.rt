@@ -19,6 +19,3 @@ pub use places::instr;
 pub use readings::{item_number, val};
 pub use signs::{abs, sgn};
 pub use translations::xlate;
-
-#[cfg(test)]
-mod tests;

@@ -21,6 +21,3 @@ pub use fronts::{
 pub use integers::Int;
 pub use lists::{KeyLine, LINE_LENGTH, Series, Text2};
 pub use texts::{MOST_BYTES, Text, compare, concat, identical};
-
-#[cfg(test)]
-mod tests;

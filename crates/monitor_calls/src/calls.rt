@@ -4,10 +4,11 @@ ghost use Rattle.std.specs.Prelude.{◌≡◌};
 ghost use Rattle.monitor_calls.specs.Proper.{IsProperRequest, IsProperReply, IsProperEntry};
 
 use crate::names::{Account, Short};
-use basic_values::Fault;
+use basic_values::{Fault, NoMemory};
+use std::alloc::Global;
 
 /// What a job asks of the monitor.
-#[derive(Debug, Drop)]
+#[derive(Drop)]
 pub enum Request {
     /// The job wants to act for an account.
     Login { account: Account, password: Short },
@@ -18,7 +19,7 @@ pub enum Request {
 }
 
 /// What the monitor replies.
-#[derive(Debug, Drop)]
+#[derive(Drop)]
 pub enum Reply {
     Done,
     /// Refused, with the number of the error.
@@ -57,13 +58,29 @@ impl Reply {
     }
 
     /// The same reply, for a history that keeps it beside the one who asked.
-    pub fn again(&self) -> Reply
+    pub fn again(&self, room: ReplyRoom) -> Reply
         ensures { result ≡ self.now }
     {
+        let _ = room;
         match self {
             Reply::Done => Reply::Done,
             Reply::Failed(fault) => Reply::Failed(*fault),
             Reply::Expired => Reply::Expired,
+        }
+    }
+}
+
+/// The room that a copy of the reply to a request takes. It is taken before the monitor is asked, so that a call
+/// that has its reply needs no more memory. The replies of today own no memory, and so does their room.
+#[derive(Drop)]
+pub struct ReplyRoom;
+
+impl ReplyRoom {
+    /// Takes the room for a copy of whatever the monitor replies to the request.
+    pub fn new(alloc: Global, request: &Request) -> Result<ReplyRoom, NoMemory> {
+        let _ = alloc;
+        match request {
+            Request::Login { .. } | Request::Logout | Request::Tick => Ok(ReplyRoom),
         }
     }
 }

@@ -8,12 +8,9 @@ mod records;
 mod script;
 mod volumes;
 
-pub use calls::{Entry, Reply, Request};
+pub use calls::{Entry, Reply, ReplyRoom, Request};
 pub use names::{Account, Short, TerminalName};
 pub use ports::Port;
 pub use records::{RunRecord, Screen2};
 pub use script::ScriptPort;
 pub use volumes::{AccountEntry, Volume};
-
-#[cfg(test)]
-mod tests;

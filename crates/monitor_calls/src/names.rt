@@ -16,7 +16,7 @@ pub struct Account {
 }
 
 /// A text of 0 to 6 letters and digits: a password, a file's stem or extension, a receiver's name.
-#[derive(Clone, Copy, Debug)]
+#[derive(Clone, Copy)]
 pub struct Short {
     bytes: [u8; 6],
     len: u8,

@@ -4,7 +4,7 @@ ghost use Rattle.std.specs.Prelude.{drop, ◌≡◌, [], ◌∷◌, IfOk, OnErr,
 ghost use Rattle.monitor_calls.specs.Pairs.{Grew};
 ghost use Rattle.monitor_calls.specs.Script.{asker, asked, scripted, rest_of, behind_the_end};
 
-use crate::calls::{Reply, Request};
+use crate::calls::{Reply, ReplyRoom, Request};
 use crate::ports::Port;
 use basic_values::NoMemory;
 use std::alloc::Global;
@@ -60,10 +60,12 @@ impl Port for ScriptPort {
         ensures memory { OnErr result (Grew asker asked self.old self.new []) }
         ensures scripted { IfOk result (λ reply. reply ≡ scripted self.old.left request) }
         ensures left { OnOk result (self.new.left ≡ rest_of self.old.left) }
+        ensures unchanged { OnErr result (self.new ≡ self.old) }
     {
-        let _ = alloc;
-        let reply = reply_at(self.replies.as_slice(), self.next, &request);
-        self.log.push((request, reply.again()))?;
+        let kept = ReplyRoom::new(alloc, &request)?;
+        let given = ReplyRoom::new(alloc, &request)?;
+        let reply = reply_at(self.replies.as_slice(), self.next, &request, given);
+        self.log.push((request, reply.again(kept)))?;
         if self.next < self.replies.len() {
             self.next += 1;
         }
@@ -71,11 +73,11 @@ impl Port for ScriptPort {
     }
 }
 
-fn reply_at(replies: &[Reply], next: usize, request: &Request) -> Reply
+fn reply_at(replies: &[Reply], next: usize, request: &Request, room: ReplyRoom) -> Reply
     ensures { result ≡ scripted (drop next replies.now) request.now }
 {
     match replies.get(next) {
-        Some(reply) => reply.again(),
+        Some(reply) => reply.again(room),
         None => behind_the_end(request),
     }
 }

@@ -9,6 +9,3 @@ mod port;
 
 pub use monitor::Monitor;
 pub use port::PlainPort;
-
-#[cfg(test)]
-mod tests;

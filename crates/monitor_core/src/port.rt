@@ -10,7 +10,7 @@ ghost use Rattle.monitor_core.specs.Plain.{unasked, asked};
 use crate::monitor::Monitor;
 use crate::opening::Opening;
 use basic_values::NoMemory;
-use monitor_calls::{Entry, Port, Reply, Request, RunRecord};
+use monitor_calls::{Entry, Port, Reply, ReplyRoom, Request, RunRecord};
 use std::alloc::Global;
 use std::marker::Model;
 
@@ -51,15 +51,13 @@ impl PlainPort {
 
     /// Hands its calls back. It takes no memory.
     pub fn close(self) -> RunRecord
-        ensures history { result.history.items ≡ self.history }
-        ensures legal { Legal self.opening result.history.items }
-        ensures proper { Proper result.history.items }
-        ensures all_of { AllOf self.job result.history.items }
-        ensures log { part_of self.job result.history.items ≡ asked self }
+        ensures history { result ≡ self.history }
+        ensures legal { Legal self.opening result }
+        ensures proper { Proper result }
+        ensures all_of { AllOf self.job result }
+        ensures log { part_of self.job result ≡ asked self }
     {
-        RunRecord {
-            history: self.history,
-        }
+        RunRecord::from_vec(self.history)
     }
 }
 
@@ -77,12 +75,12 @@ impl Port for PlainPort {
         ensures history { IfOk result (λ r. self.new.history ≡ self.old.history ++ entry_for self.old.job request r ∷ []) }
         ensures unchanged { OnErr result (self.new ≡ self.old) }
     {
-        let _ = alloc;
         // The room for the entry is taken first, so that nothing was asked where it is not there.
+        let room = ReplyRoom::new(alloc, &request)?;
         self.history.reserve(1)?;
         let reply = self.monitor.answer(self.job, &request)?;
         self.history
-            .push(Entry::new(self.job, request, reply.again()))?;
+            .push(Entry::new(self.job, request, reply.again(room)))?;
         Ok(reply)
     }
 }

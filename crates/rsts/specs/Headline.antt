@@ -1,7 +1,6 @@
 -- What the program does. Whoever trusts this file, and the definitions that it names, knows it.
 use Rattle.std.specs.Prelude.{◌≡◌, ℕ, suc, ◌+◌, ◌≤◌, List, [], ◌∷◌, length, map, Option, Some, ◌⊎◌}
 use Rattle.monitor_calls.specs.declared.calls.Entry.{Entry}
-use Rattle.monitor_calls.specs.declared.records.RunRecord.{RunRecord}
 use Rattle.monitor_calls.specs.Pairs.{requests, replies}
 use Rattle.monitor_calls.specs.Proper.{Proper}
 use Rattle.monitor_model.specs.State as monitor
@@ -164,7 +163,7 @@ abbrev pub IsTooLong : Ends → Outcome → Type 0
 IsTooLong e result = e.taken' ≡ e.taken + 8388609 → result ≡ outcome.TooLong
 
 abbrev pub HasRan : Outcome → Type 0
-HasRan result = (record_ : RunRecord) × (result ≡ outcome.Ok record_)
+HasRan result = (history : List Entry) × (result ≡ outcome.Ok history)
 
 abbrev pub HasChecked : Outcome → Type 0
 HasChecked result = result ≡ outcome.Checked

@@ -7,7 +7,7 @@ use Rattle.rsts.specs.declared.outcomes.Outcome.TheVariants as outcome
 
 -- the history of a run that ended
 abbrev pub IfRan : Outcome → (List Entry → Type 0) → Type 0
-IfRan (outcome.Ok record_) P = P record_.history.items
+IfRan (outcome.Ok history) P = P history
 IfRan _ P = Unit {0}
 
 abbrev pub OnChecked : Outcome → Type 0 → Type 0

@@ -55,7 +55,7 @@ pub(crate) struct Ran {
 /// Runs the one terminal of a deck until its session has ended.
 pub(crate) fn run_deck<P: Pacer>(alloc: Global, deck: &Deck, pacer: &P) -> Result<Ran, NoMemory>
     requires { IsDeck (deck_of deck.now) }
-    ensures { IfOk result (λ ran. IsRun (deck_of deck.now) ran.record.history.items ran.screens.items) }
+    ensures { IfOk result (λ ran. IsRun (deck_of deck.now) ran.record ran.screens.items) }
 {
     let monitor = Monitor::open(alloc, &deck.volume, 1)?;
     let port = PlainPort::new(alloc, monitor, 0);
@@ -73,9 +73,9 @@ fn run_terminal<P: Pacer>(
     pacer: &P,
 ) -> Result<(Screen2, RunRecord), NoMemory>
     requires { port.history ≡ [] }
-    ensures legal { IfOk result (λ ran. Legal port.opening ran.1.history.items) }
-    ensures proper { IfOk result (λ ran. Proper ran.1.history.items) }
-    ensures talk { IfOk result (λ ran. IsTalk terminal.now.keys.items (replies (part_of port.job ran.1.history.items)) (requests (part_of port.job ran.1.history.items)) ran.0) }
+    ensures legal { IfOk result (λ ran. Legal port.opening ran.1) }
+    ensures proper { IfOk result (λ ran. Proper ran.1) }
+    ensures talk { IfOk result (λ ran. IsTalk terminal.now.keys.items (replies (part_of port.job ran.1)) (requests (part_of port.job ran.1)) ran.0) }
 {
     let mut port = PacedPort {
         port,

@@ -129,7 +129,7 @@ fn run_and_report<P: Pacer>(
     pacer: &P,
 ) -> Result<(RunRecord, Vec<u8>), NoMemory>
     requires { IsDeck (deck_of deck.now) }
-    ensures { IfOk result (λ ran. RunAndReport (deck_of deck.now) ran.0.history.items ran.1.items) }
+    ensures { IfOk result (λ ran. RunAndReport (deck_of deck.now) ran.0 ran.1.items) }
 {
     let ran = run_deck(alloc, deck, pacer)?;
     let output = report(alloc, deck.terminals.as_slice(), ran.screens.as_slice())?;

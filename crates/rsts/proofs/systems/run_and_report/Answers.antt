@@ -9,7 +9,7 @@ report-requires g c =
     let deck = deck_of c.args.deck.now in
     let screens = c.in_ok-ran.ran.screens.items in
     ap length c.as_slice-2.ensures.value
-    ∙ screens_are c.in_ok-ran.ran.record.history.items 0 deck.terminals screens c.in_ok-ran.ensures.talks
+    ∙ screens_are c.in_ok-ran.ran.record 0 deck.terminals screens c.in_ok-ran.ensures.talks
     ∙ as_many c.args.deck.now.terminals.items
     ∙ sym (ap length c.as_slice.ensures.value)
 

@@ -17,6 +17,6 @@ returns-clause-write_fault g c =
       input = record { all = found.input.all; count = found.input.count; most = found.input.most };
       spelled = found.spelled;
       output = c.in-Ok-run_and_report.ran.1.items;
-      is_output = (c.in-Ok-run_and_report.ran.0.history.items, ran.screens, ran.run, ran.reported);
+      is_output = (c.in-Ok-run_and_report.ran.0, ran.screens, ran.run, ran.reported);
       front = subst (λ (output : List ℕ). GaveFront output (g.K.Sink.given c.args.sink.now) (g.K.Sink.given c.give_all.new.sink)) c.as_slice.ensures.value c.in-Err-give_all.ensures.front;
     }

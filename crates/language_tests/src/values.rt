@@ -1,4 +1,8 @@
-use super::*;
+//! Whole numbers, texts, failures, and numbers that stand in a text.
+
+use basic_values::{
+    Fault, Halt, Int, KeyLine, Series, Text, Trouble, blanks_at_end, blanks_in_front, compare, concat, digits_in_front, identical, letters_in_front, number_between, without_end_blanks, without_front_blanks,
+};
 use std::alloc::{AllocError, Global};
 use std::cmp::Ordering;
 use std::test::Fail;
@@ -192,4 +196,38 @@ fn numbers_stand_in_their_range(rt: HostRuntime) {
     for (text, number) in edges {
         assert_eq!(rt; number_between(3, 4294967295, text), number, "{text:?}");
     }
+}
+
+#[test]
+fn texts_begin_and_end_with_runs(rt: HostRuntime) {
+    let rows = [
+        (b"".as_slice(), 0, 0, 0, 0),
+        (b" \t A", 3, 0, 0, 0),
+        (b"GOTO 10 ", 0, 4, 0, 1),
+        (b"10 GOTO\t ", 0, 0, 2, 2),
+        (b"9", 0, 0, 1, 0),
+        (b" \t", 2, 0, 0, 2),
+        (b"z1", 0, 1, 0, 0),
+        (b"\n ", 0, 0, 0, 1),
+    ];
+    for (text, blanks, letters, digits, behind) in rows {
+        assert_eq!(rt; blanks_in_front(text), blanks, "{text:?}");
+        assert_eq!(rt; letters_in_front(text), letters, "{text:?}");
+        assert_eq!(rt; digits_in_front(text), digits, "{text:?}");
+        assert_eq!(rt; blanks_at_end(text), behind, "{text:?}");
+        assert_eq!(rt; without_front_blanks(text).len(), text.len() - blanks, "{text:?}");
+        assert_eq!(rt; without_end_blanks(text).len(), text.len() - behind, "{text:?}");
+    }
+}
+
+#[test]
+fn lists_are_given_back_in_order(rt: HostRuntime) -> Result<(), Fail> {
+    let mut lines = Vec::new(rt.alloc());
+    for line in [20u16, 10, 20] {
+        lines.push(line)?;
+    }
+    let series = Series::from_vec(lines);
+    assert_eq!(rt; series.as_slice(), [20, 10, 20].as_slice());
+    assert_eq!(rt; KeyLine::of(rt.alloc(), b"PRINT 1")?.as_bytes(), b"PRINT 1".as_slice());
+    Ok(())
 }

@@ -1,5 +1,10 @@
-use super::*;
+//! Names and volumes in their ranges, and a port that replies what a list says.
+
+use crate::told;
 use basic_values::{Fault, NoMemory};
+use monitor_calls::{
+    Account, AccountEntry, Port, Reply, ReplyRoom, Request, ScriptPort, Short, TerminalName, Volume,
+};
 use std::alloc::Global;
 use std::test::Fail;
 
@@ -69,7 +74,7 @@ fn volumes_are_good_in_their_ranges(rt: HostRuntime) -> Result<(), Fail> {
         accounts.push(entry(100, 5, b"DEMO", 100)?)?;
         accounts.push(entry(project, programmer, password, limit)?)?;
         let volume = Volume { blocks, accounts };
-        assert_eq!(rt; volume.is_good(), is_good, "{volume:?}");
+        assert_eq!(rt; volume.is_good(), is_good, "{blocks} blocks, account {project},{programmer}, limit {limit}");
     }
     Ok(())
 }
@@ -89,8 +94,22 @@ fn a_script_replies_in_order(rt: HostRuntime) -> Result<(), Fail> {
     for request in requests {
         asked(&mut port, rt.alloc(), request)?;
     }
-    let log = format!(in rt.alloc(); "{:?}", port.log())?;
-    let want = "[(Tick, Done), (Logout, Failed(Fault(3))), (Tick, Expired), (Logout, Done)]";
-    assert_eq!(rt; log.as_str(), want);
+    let wanted = ["Tick: Done", "Logout: Failed 3", "Tick: Expired", "Logout: Done"];
+    assert_eq!(rt; port.log().len(), wanted.len());
+    for (pair, wanted) in port.log().iter().zip(wanted) {
+        let shown = told::pair(rt.alloc(), &pair.0, &pair.1)?;
+        assert_eq!(rt; shown.as_str(), wanted);
+    }
+    Ok(())
+}
+
+#[test]
+fn a_reply_is_copied_into_its_room(rt: HostRuntime) -> Result<(), Fail> {
+    for reply in [Reply::Done, Reply::Failed(Fault::new(5)), Reply::Expired] {
+        let room = ReplyRoom::new(rt.alloc(), &Request::Tick)?;
+        let shown = told::reply(rt.alloc(), &reply.again(room))?;
+        let wanted = told::reply(rt.alloc(), &reply)?;
+        assert_eq!(rt; shown, wanted);
+    }
     Ok(())
 }

@@ -1,6 +1,6 @@
 //! Lines and their tokens.
 
-use super::*;
+use basic_scanner::{keyword_of, literal_value, scan, sign_of};
 use basic_tree::{Cause, Keyword, Sign, TokenKind};
 use basic_values::Trouble;
 use std::alloc::Global;

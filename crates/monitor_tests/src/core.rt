@@ -1,5 +1,8 @@
-use super::*;
+//! The monitor's answers, and a port over it that keeps its calls.
+
+use crate::told;
 use basic_values::NoMemory;
+use monitor_core::{Monitor, PlainPort};
 use monitor_calls::{Account, AccountEntry, Port, Reply, Request, Short, Volume};
 use std::alloc::Global;
 use std::test::Fail;
@@ -40,11 +43,15 @@ fn a_job_acts_for_its_own_account(rt: HostRuntime) -> Result<(), Fail> {
     let volume = demo_with(100, &rt)?;
     assert!(rt; volume.is_good());
     let mut monitor = Monitor::open(rt.alloc(), &volume, 2)?;
-    let first = monitor.answer(1, &login(5, b"DEMO")?)?;
-    let second = monitor.answer(0, &Request::Tick)?;
-    let third = monitor.answer(1, &Request::Tick)?;
-    let replies = format!(in rt.alloc(); "{:?} {:?} {:?}", first, second, third)?;
-    assert_eq!(rt; replies.as_str(), "Done Failed(Fault(5)) Done");
+    for (job, request, wanted) in [
+        (1, login(5, b"DEMO")?, "Done"),
+        (0, Request::Tick, "Failed 5"),
+        (1, Request::Tick, "Done"),
+    ] {
+        let reply = monitor.answer(job, &request)?;
+        let shown = told::reply(rt.alloc(), &reply)?;
+        assert_eq!(rt; shown.as_str(), wanted);
+    }
     Ok(())
 }
 
@@ -54,34 +61,27 @@ fn a_port_keeps_what_was_asked(rt: HostRuntime) -> Result<(), Fail> {
     assert!(rt; volume.is_good());
     let monitor = Monitor::open(rt.alloc(), &volume, 1)?;
     let mut port = PlainPort::new(rt.alloc(), monitor, 0);
-    let requests = [
-        login(5, b"DEMON")?,
-        login(6, b"DEMO")?,
-        Request::Tick,
-        login(5, b"DEMO")?,
-        Request::Tick,
-        login(5, b"DEMO")?,
-        Request::Tick,
-        login(5, b"DEMO")?,
-        Request::Logout,
+    let rows = [
+        (login(5, b"DEMON")?, "0 Login 100,5;DEMON: Failed 5"),
+        (login(6, b"DEMO")?, "0 Login 100,6;DEMO: Failed 5"),
+        (Request::Tick, "0 Tick: Failed 5"),
+        (login(5, b"DEMO")?, "0 Login 100,5;DEMO: Done"),
+        (Request::Tick, "0 Tick: Done"),
+        (login(5, b"DEMO")?, "0 Login 100,5;DEMO: Failed 3"),
+        (Request::Tick, "0 Tick: Expired"),
+        (login(5, b"DEMO")?, "0 Login 100,5;DEMO: Done"),
+        (Request::Logout, "0 Logout: Done"),
     ];
-    let mut replies = Vec::new(rt.alloc());
-    for request in requests {
-        replies.push(asked(&mut port, rt.alloc(), request)?)?;
+    let mut wanted = Vec::new(rt.alloc());
+    for (request, entry) in rows {
+        asked(&mut port, rt.alloc(), request)?;
+        wanted.push(entry)?;
     }
-    let told = format!(in rt.alloc(); "{replies:?}")?;
-    let none = "Failed(Fault(5)), Failed(Fault(5)), Failed(Fault(5))";
-    let want = format!(in rt.alloc();
-        "[{none}, Done, Done, Failed(Fault(3)), Expired, Done, Done]"
-    )?;
-    assert_eq!(rt; told, want);
     let record = port.close();
-    assert_eq!(rt; record.history.len(), 9);
-    let last = record.history.last().ok_or("no entry")?;
-    let told = format!(in rt.alloc(); "{last:?}")?;
-    assert_eq!(rt;
-        told.as_str(),
-        "Entry { job: 0, request: Logout, reply: Done }"
-    );
+    assert_eq!(rt; record.as_slice().len(), wanted.len());
+    for (entry, wanted) in record.as_slice().iter().zip(wanted.as_slice()) {
+        let shown = told::entry(rt.alloc(), entry)?;
+        assert_eq!(rt; shown.as_str(), *wanted);
+    }
     Ok(())
 }

@@ -1,0 +1,9 @@
+//! Tests of the monitor's crates, by their public calls alone: what is asked and what is replied.
+#![tactic(auto)]
+
+#[cfg(test)]
+mod calls;
+#[cfg(test)]
+mod core;
+#[cfg(test)]
+mod told;
