@@ -5,14 +5,14 @@ use Rattle.basic_tree.specs.SpellingWords.{Word, words_of, most_levels}
 use Rattle.basic_tree.specs.Trees.{ClauseTree, StatementClause, LineTree}
 use Rattle.basic_tree.specs.SpellingExpressions.{is_text}
 use Rattle.basic_tree.specs.Tokens.{Lexeme, Reading, tokens_of}
-use Rattle.basic_tree.specs.MachineStack.{Values, top, stated, below, Form, IfKey, IfSign, ExprIf, LiteralIf, QuotedIf, MoreItems, MoreOf, ClauseIn, Symbol, MoreRelations, Go, Await, AwaitClause}
+use Rattle.basic_tree.specs.MachineStack.{Values, parsed, top, stated, below, Form, IfKey, IfSign, ExprIf, LiteralIf, QuotedIf, MoreItems, MoreOf, ClauseIn, Symbol, MoreRelations, Go, Await, AwaitClause}
 use Rattle.basic_tree.specs.MachineMoves.{Move, Takes, Skips, Refuses, no_relation, clause_move, form_move_with, move}
 use Rattle.basic_tree.specs.MachineMoves.{Closes as Ends}
 use Rattle.basic_tree.specs.MachineRun.{Turn, Next, Ended, Stuck, Deep, moved, turn, Wrong, TooDeep, Outcome, turned, run}
 use Rattle.basic_tree.specs.LineVerdicts.{SpelledBy, RefusedBy, Verdict, HasTree, RefusedFor, IsJudged, Judges, LinesAreJudged}
 use Rattle.basic_tree.specs.GrammarPlaces.{IsReadLine, RefusesLine}
 use Rattle.basic_tree.specs.declared.tokens.Refusal.{Refusal}
-use Rattle.basic_tree.specs.MachineJudge.{line_symbols, line_values, outcome_verdict, verdict_of, reading_verdict, judge_of}
+use Rattle.basic_tree.specs.MachineJudge.{line_in, line_symbols, line_values, outcome_verdict, verdict_of, reading_verdict, judge_of}
 use Rattle.basic_tree.proofs.MachinePasses.{left}
 use Rattle.basic_tree.proofs.MachineStops.{finished}
 use Rattle.basic_tree.proofs.LinePlaces.{line_read, line_wrong, line_stops, line_deep}
@@ -94,14 +94,14 @@ deep_within ws k n s vs le h = go (drop k ws) refl where
 
 -- what the grammar says of words
 abbrev WordsJudged : List Word → Verdict → Type 0
-WordsJudged ws HasTree = (l : LineTree) × IsReadLine ws l
+WordsJudged ws (HasTree l) = IsReadLine ws l
 WordsJudged ws (RefusedFor why) = (k : ℕ) × RefusesLine ws k why
 
 judged_by : (ws : List Word) (o : Outcome) → run most_levels ws line_symbols line_values ≡ o → WordsJudged ws (outcome_verdict o)
 judged_by ws (Ok (u, [])) h =
     let f = finished ws [] most_levels line_symbols line_values u (ap (λ (x : List Word). run most_levels x line_symbols line_values) (append-nil ws) ∙ h) in
     let l = reads_lines.spells f.steps u f.spells in
-    (l.0, line_read line_symbols line_values made_line reads_lines ws l.0 (h ∙ ap (λ (x : Values). Ok (x, [])) (sym l.3)))
+    subst (λ (v : Values). IsReadLine ws (line_in (parsed v))) l.3 (line_read line_symbols line_values made_line reads_lines ws l.0 (h ∙ ap (λ (x : Values). Ok (x, [])) (sym l.3)))
 judged_by ws (Ok (u, t ∷ ts)) h =
     let e = left_end ws most_levels line_symbols line_values in
     let same : drop e.0 ws ≡ t ∷ ts = sym e.2 ∙ ap left h in
@@ -125,7 +125,7 @@ unfolding verdict_of
 verdict_judged ws = judged_by ws (run most_levels ws line_symbols line_values) refl
 
 tokens_judged : (line : List ℕ) (tokens : List Lexeme) (v : Verdict) → tokens_of line ≡ Ok tokens → WordsJudged (words_of tokens) v → IsJudged line v
-tokens_judged line tokens HasTree e h = (h.0, subst (λ (r : Reading). SpelledBy r h.0) (sym e) h.1)
+tokens_judged line tokens (HasTree l) e h = subst (λ (r : Reading). SpelledBy r l) (sym e) h
 tokens_judged line tokens (RefusedFor why) e h =
     let refusal : Refusal = record { place = h.0; cause = why } in
     (refusal, subst (λ (r : Reading). RefusedBy r refusal) (sym e) h.1, refl)

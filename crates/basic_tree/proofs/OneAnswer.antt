@@ -162,9 +162,9 @@ one_bytes_answer = record {
 }
 
 pub one_verdict_lem : OneVerdict
-one_verdict_lem line HasTree HasTree a b = refl
-one_verdict_lem line HasTree (RefusedFor d) a b = absurd (bytes_apart (tokens_of line) a.0 b.0 a.1 b.1)
-one_verdict_lem line (RefusedFor c) HasTree a b = absurd (bytes_apart (tokens_of line) b.0 a.0 b.1 a.1)
+one_verdict_lem line (HasTree l) (HasTree m) a b = ap HasTree (bytes_read (tokens_of line) l m a b)
+one_verdict_lem line (HasTree l) (RefusedFor d) a b = absurd (bytes_apart (tokens_of line) l b.0 a b.1)
+one_verdict_lem line (RefusedFor c) (HasTree l) a b = absurd (bytes_apart (tokens_of line) l a.0 b a.1)
 one_verdict_lem line (RefusedFor c) (RefusedFor d) a b = ap RefusedFor (sym a.2 ∙ ap (λ (r : Refusal). r.cause) (bytes_refused (tokens_of line) a.0 b.0 a.1 b.1) ∙ b.2)
 
 -- ---- expressions

@@ -22,6 +22,3 @@ pub use programs::{Line, Program};
 pub use series::Series;
 pub use statements::{Clause, Statement};
 pub use tokens::{Cause, Front, Keyword, Refusal, Sign, TokenKind};
-
-#[cfg(test)]
-mod tests;
