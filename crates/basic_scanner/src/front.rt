@@ -4,7 +4,7 @@ ghost use Rattle.std.specs.Prelude.{◌≡◌, ◌≤◌, ◌<◌, ◌==◌, IfS
 ghost use Rattle.std.specs.Char.{is_ascii_digit};
 ghost use Rattle.std.specs.List.{prefix_len};
 ghost use Rattle.std.specs.Str.Parse.{AllDigits, digits_value};
-ghost use Rattle.basic_tree.specs.Tokens.{is_quote, is_type_mark, keyword_front, name_end, name_front, begins_function, letter_front, is_exponent, is_floating, digit_front, quote_front, sign_front, front_of};
+ghost use Rattle.basic_tree.specs.Tokens.{is_quote, is_type_mark, keyword_front, name_end, name_front, begins_function, letter_front, has_exponent, is_floating, digit_front, quote_front, sign_front, front_of};
 
 use crate::words::{is_word, keyword_length, sign_length, stands};
 use basic_tree::{Cause, Front, TokenKind};
@@ -93,8 +93,8 @@ fn letter_front(rest: &[u8]) -> Front
 }
 
 /// A digit, or a sign and a digit, behind an E.
-fn is_exponent(behind: &[u8]) -> bool
-    ensures { result ≡ is_exponent behind.now }
+fn has_exponent(behind: &[u8]) -> bool
+    ensures { result ≡ has_exponent behind.now }
 {
     let sign = byte_at(behind, 1);
     sign.is_ascii_digit() || ((sign == b'+' || sign == b'-') && byte_at(behind, 2).is_ascii_digit())
@@ -105,7 +105,7 @@ fn is_floating(behind: &[u8]) -> bool
     ensures { result ≡ is_floating behind.now }
 {
     let next = byte_at(behind, 0);
-    next == b'.' || (next.to_ascii_uppercase() == b'E' && is_exponent(behind))
+    next == b'.' || (next.to_ascii_uppercase() == b'E' && has_exponent(behind))
 }
 
 /// The length of the run of digits at the front.

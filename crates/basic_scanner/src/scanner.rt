@@ -2,7 +2,7 @@
 
 ghost use Rattle.std.specs.Prelude.{◌≡◌, ◌≤◌, ◌<◌, ◌+◌, ◌^◌, ◌++◌, ◌∷◌, [], take, drop, length, vec_len, slice_get, None, Some, OnOk, IfOk, IfErr};
 ghost use Rattle.basic_tree.specs.Tokens.{quote_after, cuts, items_from, tokens_of, front_of};
-ghost use Rattle.basic_tree.specs.TokenLaws.{Fits, AreCut};
+ghost use Rattle.basic_tree.specs.TokenLaws.{LiesIn, AreCut};
 ghost use Rattle.basic_scanner.specs.Lexemes.{lexeme_of, lexemes};
 ghost use Rattle.basic_scanner.specs.Scan.{Scans, item_and_more};
 
@@ -138,7 +138,7 @@ fn push_items<'a>(tokens: &mut Vec<Token<'a>>, line: &'a [u8], from: usize) -> R
 fn front_at(line: &[u8], place: usize) -> Front
     requires { place < length line.now }
     ensures value { front_of (drop place line.now) ≡ result }
-    ensures fits { Fits result (drop place line.now) }
+    ensures fits { LiesIn result (drop place line.now) }
 {
     front_of(&line[place..])
 }

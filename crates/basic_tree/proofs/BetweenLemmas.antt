@@ -8,26 +8,22 @@ use Rattle.basic_tree.specs.MachineStack.{Values, Symbol}
 use Rattle.basic_tree.specs.MachineRun.{run}
 use Rattle.basic_tree.proofs.MachinePasses.{left, left_short}
 
+-- places counted from a place on
+pub drop_between : (ws : List Word) (from k : ℕ) → from ≤ k → drop (k - from) (drop from ws) ≡ drop k ws
+drop_between ws from k le =
+    let e : from + (k - from) ≡ k = omega arith in
+    drop-drop (k - from) from ws ∙ ap (λ n. drop n ws) e
+
 -- the words from a place on, cut at a later one
 pub cut_between : (ws : List Word) (from k : ℕ) → from ≤ k → between ws from k ++ drop k ws ≡ drop from ws
 cut_between ws from k le =
-    let e : from + (k - from) ≡ k = omega arith in
-    ap (λ (x : List Word). between ws from k ++ x) (sym (drop-drop (k - from) from ws ∙ ap (λ n. drop n ws) e)) ∙ take-append-drop (k - from) (drop from ws)
+    ap (λ (x : List Word). between ws from k ++ x) (sym (drop_between ws from k le)) ∙ take-append-drop (k - from) (drop from ws)
 
-pub length-between : (ws : List Word) (from k : ℕ) → from ≤ k → k ≤ length ws → length (between ws from k) ≡ k - from
-length-between ws from k le inside = length-take-le (k - from) (drop from ws) (omega (arith, length-drop from ws))
+pub inside_between : (ws : List Word) (from k : ℕ) → k ≤ length ws → k - from ≤ length (drop from ws)
+inside_between ws from k inside = omega (arith, inside, length-drop from ws)
 
--- with the word behind them
-pub between_more : (ws : List Word) (from k : ℕ) → from ≤ k → k < length ws → between ws from (k + 1) ≡ between ws from k ++ get_or ws k (Number 0) ∷ []
-between_more ws from k le lt =
-    let e : (k + 1) - from ≡ (k - from) + 1 = omega arith in
-    let f : from + (k - from) ≡ k = omega arith in
-    ap (λ n. take n (drop from ws)) e
-    ∙ take_more (drop from ws) (k - from) (Number 0) (omega (arith, length-drop from ws))
-    ∙ ap (λ (c : Word). between ws from k ++ c ∷ []) (get_or-drop from ws (k - from) (Number 0) ∙ ap (λ n. get_or ws n (Number 0)) f)
-
-pub between_more_with : (ws : List Word) (from k : ℕ) (q : List Word) → from ≤ k → k < length ws → between ws from (k + 1) ++ q ≡ between ws from k ++ get_or ws k (Number 0) ∷ q
-between_more_with ws from k q le lt = rw (between_more ws from k le lt, append_assoc) refl
+pub before_between : (ws : List Word) (from k : ℕ) → from ≤ k → k < length ws → k - from < length (drop from ws)
+before_between ws from k le lt = omega (arith, le, lt, length-drop from ws)
 
 -- what stands behind a place, with its first word apart
 pub behind_place : (ws : List Word) (k : ℕ) → k < length ws → drop k ws ≡ get_or ws k (Number 0) ∷ drop (suc k) ws

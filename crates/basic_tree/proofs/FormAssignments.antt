@@ -11,7 +11,7 @@ use Rattle.basic_tree.specs.declared.parts.OpenFor.TheVariants as purpose
 use Rattle.basic_tree.specs.SpellingWords.{Key, Punctuation, Named}
 use Rattle.basic_tree.specs.Trees.{Tree, Variable, Element, Def, Let, Open}
 use Rattle.basic_tree.specs.SpellingExpressions.{is_text, want_of}
-use Rattle.basic_tree.specs.SpellingPieces.{Piece, Expression, Holds, ArePieces, key, sign_of, number, closing, target, optional, after_commas, many, perhaps}
+use Rattle.basic_tree.specs.SpellingPieces.{Piece, Expression, Holds, ArePieces, key, sign_piece, number, closing, target, optional, after_commas, many, perhaps}
 use Rattle.basic_tree.specs.SpellingParts.{name, value, option_of}
 use Rattle.basic_tree.specs.SpellingStatements.{pieces_of}
 use Rattle.basic_tree.specs.MachineStack.{Value, Stated, TargetItem, NameItem, Targets, Parameters, Form, TakeSign, TakeClosing, ExprOf}
@@ -65,7 +65,7 @@ pub begun_def : (f : Name) (ps : List Name) (v : Option Tree) → ArePieces (pie
 begun_def f [] v a = begun_as (Def f [] v) (Key keyword.Def) refl refl (refl, refl) (read_key (read_fn_name (read_holds (read_not_sign (no_parameters f v) a.1.1.1 (read_definition f [] v a.1.1.1)))))
 begun_def f (n ∷ ns) v a =
     let rest : List Piece = optional (λ t. value f.text t) v in
-    let ends : List Piece = sign_of sign.Closing ∷ closing ∷ [] in
+    let ends : List Piece = sign_piece sign.Closing ∷ closing ∷ [] in
     let same : (many name (n ∷ ns) ++ ends) ++ rest ≡ many name (n ∷ ns) ++ (ends ++ rest) = append_assoc (many name (n ∷ ns)) ends rest in
     let parts : ArePieces (many name (n ∷ ns)) × ArePieces (ends ++ rest) = pieces_split (many name (n ∷ ns)) (ends ++ rest) (subst ArePieces same a.1.1.1.1) in
     begun_as (Def f (n ∷ ns) v) (Key keyword.Def) refl refl (refl, refl)
@@ -97,7 +97,7 @@ read_options t p hash n (Some r) (Some c) (Some m) a = read_if_sign (read_if_key
 
 -- `AS FILE`, perhaps `#`, the channel and the options
 abbrev file_pieces : Bool → Tree → Option Tree → Option Tree → Option Tree → List Piece
-file_pieces hash n r c m = perhaps hash (sign_of sign.Hash) ++ number n ∷ options r c m
+file_pieces hash n r c m = perhaps hash (sign_piece sign.Hash) ++ number n ∷ options r c m
 
 read_file : {e : Bool} (t : Tree) (p : OpenFor) (hash : Bool) (n : Tree) (r c m : Option Tree) → ArePieces (file_pieces hash n r c m) → Reads e false (file_form t p) (key keyword.As ∷ key keyword.File ∷ file_pieces hash n r c m) (Stated (Open t p hash n r c m))
 read_file t p true n r c m a = read_key (read_key (read_if_sign (read_expr a.1.0 (options_stop r c m) (read_options t p true n r c m a.1.1))))

@@ -8,7 +8,7 @@ use Rattle.basic_tree.specs.declared.parts.Shape.{Shape}
 use Rattle.basic_tree.specs.declared.parts.FileShape.{FileShape}
 use Rattle.basic_tree.specs.SpellingWords.{Punctuation}
 use Rattle.basic_tree.specs.Trees.{Tree, CloseChannelTree, FieldPartTree}
-use Rattle.basic_tree.specs.SpellingPieces.{Piece, ArePieces, sign_of, line, target, optional, after_commas, many}
+use Rattle.basic_tree.specs.SpellingPieces.{Piece, ArePieces, sign_piece, line, target, optional, after_commas, many}
 use Rattle.basic_tree.specs.SpellingParts.{shape, file_shape, element_size, name, close_channel, field_part}
 use Rattle.basic_tree.specs.MachineStack.{Value, Item, TargetItem, ShapeItem, FileItem, NameItem, LineItem, ChannelItem, FieldItem, Sequence, Targets, Shapes, FileShapes, Parameters, Lines, Channels, FieldParts, Form, MoreOf}
 use Rattle.basic_tree.specs.MachineForms.{item_form, shape_form, size_form, has_room, list_form, targets_in, shapes_in, files_in, names_in, lines_in, channels_in, parts_in}
@@ -31,7 +31,7 @@ abbrev pub HasRoom : Sequence → ℕ → Type 0
 HasRoom s limit = (items : List Item) → length items < limit → has_room s items ≡ true
 
 abbrev pub CommaFits : (List Piece → Bool) → Type 0
-CommaFits fit = (ps : List Piece) → fit (sign_of sign.Comma ∷ ps) ≡ true
+CommaFits fit = (ps : List Piece) → fit (sign_piece sign.Comma ∷ ps) ≡ true
 
 pub fits_behind : {A : Type 0} (pieces : A → List Piece) (fit : List Piece → Bool) → CommaFits fit → (more : List A) (ps : List Piece) → fit ps ≡ true → fit (after_commas pieces more ++ ps) ≡ true
 fits_behind pieces fit c [] ps h = h

@@ -12,7 +12,7 @@ use Rattle.basic_tree.specs.SpellingWords.{Item as ItemOf}
 use Rattle.basic_tree.specs.Trees.{Tree, Variable, Element, PrintItemTree, PrintChannelTree, Print}
 use Rattle.basic_tree.specs.Trees.{Value as ValueOf}
 use Rattle.basic_tree.specs.SpellingExpressions.{steps_of}
-use Rattle.basic_tree.specs.SpellingPieces.{Piece, Fixed, Expression, NameOf, LiteralOf, Holds, pieces_steps, IsPiece, ArePieces, key, sign_of, closing, is_target}
+use Rattle.basic_tree.specs.SpellingPieces.{Piece, Fixed, Expression, NameOf, LiteralOf, Holds, pieces_steps, IsPiece, ArePieces, key, sign_piece, closing, is_target}
 use Rattle.basic_tree.specs.MachineStack.{Value, Values, Term, Stated, Symbol, Go, Await, Item, Sequence, Limit, within, Form, Made, TakeKey, TakeSign, TakeClosing, IfKey, IfSign, ExprOf, TargetOf, NameIn, FnNameIn, LiteralIn, LiteralIf, QuotedIf, ItemIn, MoreItems, MoreOf, MorePrinted}
 use Rattle.basic_tree.specs.MachineForms.{begins_value, key_begins, item_form, has_room, printed_form}
 use Rattle.basic_tree.specs.MachineMoves.{tab_form}
@@ -37,13 +37,13 @@ read_holds a = record { bound = a.bound; by = a.by }
 pub read_key : {e d : Bool} {c : Keyword} {f : Form} {ps : List Piece} {v : Value} → Reads e d f ps v → Reads e d (TakeKey false c f) (key c ∷ ps) v
 read_key a = record { bound = a.bound; by = λ n h r k vs x. key_taken n _ _ _ k vs ∙ a.by n h r k vs x }
 
-pub read_sign : {e d : Bool} {s : Sign} {f : Form} {ps : List Piece} {v : Value} → Reads e d f ps v → Reads e d (TakeSign false s f) (sign_of s ∷ ps) v
+pub read_sign : {e d : Bool} {s : Sign} {f : Form} {ps : List Piece} {v : Value} → Reads e d f ps v → Reads e d (TakeSign false s f) (sign_piece s ∷ ps) v
 read_sign a = record { bound = a.bound; by = λ n h r k vs x. sign_taken n _ _ _ k vs ∙ a.by n h r k vs x }
 
 pub read_if_key : {e d : Bool} {c : Keyword} {f g : Form} {ps : List Piece} {v : Value} → Reads e d f ps v → Reads e d (IfKey false c f g) (key c ∷ ps) v
 read_if_key a = record { bound = a.bound; by = λ n h r k vs x. if_key n _ _ _ _ k vs ∙ a.by n h r k vs x }
 
-pub read_if_sign : {e d : Bool} {s : Sign} {f g : Form} {ps : List Piece} {v : Value} → Reads e d f ps v → Reads e d (IfSign false s f g) (sign_of s ∷ ps) v
+pub read_if_sign : {e d : Bool} {s : Sign} {f g : Form} {ps : List Piece} {v : Value} → Reads e d f ps v → Reads e d (IfSign false s f g) (sign_piece s ∷ ps) v
 read_if_sign a = record { bound = a.bound; by = λ n h r k vs x. if_sign n _ _ _ _ k vs ∙ a.by n h r k vs x }
 
 pub read_not_key : {e d : Bool} {o : Bool} {c : Keyword} {f g : Form} {ps : List Piece} {v : Value} → absent (Key c) ps ≡ true → ArePieces ps → Reads e d g ps v → Reads e d (IfKey o c f g) ps v
@@ -67,7 +67,7 @@ if_opened_by a g s (suc n) h r k vs x = if_sign_opens n s _ _ _ k vs ∙ a.by n 
 pub read_if_opening : {e : Bool} {s : Sign} {f g : Form} {ps : List Piece} {v : Value} → Reads e true f ps v → Reads e false (IfSign true s f g) (Fixed (Opens (Punctuation s)) ∷ ps) v
 read_if_opening a = record { bound = suc a.bound; by = if_opened_by a _ _ }
 
-pub read_closing : {e : Bool} {f : Form} {ps : List Piece} {v : Value} → Reads e false f ps v → Reads e true (TakeClosing f) (sign_of sign.Closing ∷ closing ∷ ps) v
+pub read_closing : {e : Bool} {f : Form} {ps : List Piece} {v : Value} → Reads e false f ps v → Reads e true (TakeClosing f) (sign_piece sign.Closing ∷ closing ∷ ps) v
 read_closing a = record { bound = a.bound; by = λ n h r k vs x. closing_sign_taken n _ _ k vs ∙ a.by (suc n) (omega (arith, h)) r k vs x }
 
 -- ---- expressions and targets
@@ -171,7 +171,7 @@ read_item_added a = record { bound = a.bound; by = λ n h r k vs x. item_added n
 pub read_no_items : {e d : Bool} {items : List (List ℕ)} {g : List (List ℕ) → Form} {v : Value} → Reads e d (g items) [] v → Reads e d (MoreItems items g) [] v
 read_no_items a = record { bound = a.bound; by = λ n h r k vs x. no_more_items n _ _ r k vs (ending_item _ r x) ∙ a.by n h r k vs x }
 
-pub read_one_more : {e d : Bool} {s : Sequence} {items : List Item} {g : List Item → Form} {ps : List Piece} {v : Value} → has_room s items ≡ true → Reads e d (item_form s (λ item. MoreOf s (items ++ item ∷ []) g)) ps v → Reads e d (MoreOf s items g) (sign_of sign.Comma ∷ ps) v
+pub read_one_more : {e d : Bool} {s : Sequence} {items : List Item} {g : List Item → Form} {ps : List Piece} {v : Value} → has_room s items ≡ true → Reads e d (item_form s (λ item. MoreOf s (items ++ item ∷ []) g)) ps v → Reads e d (MoreOf s items g) (sign_piece sign.Comma ∷ ps) v
 read_one_more i a = record { bound = a.bound; by = λ n h r k vs x. one_more n _ _ _ _ k vs i ∙ a.by n h r k vs x }
 
 pub read_no_more : {e d : Bool} {s : Sequence} {items : List Item} {g : List Item → Form} {ps : List Piece} {v : Value} → absent (Punctuation sign.Comma) ps ≡ true → ArePieces ps → Reads e d (g items) ps v → Reads e d (MoreOf s items g) ps v

@@ -18,7 +18,7 @@ use Rattle.basic_tree.specs.MachineRun.{run}
 use Rattle.basic_tree.proofs.MachineSteps.{First, is_operator_at, is_relation, is_opening}
 use Rattle.basic_tree.proofs.MachineLeads.{Follows, Parted, words_parts}
 use Rattle.basic_tree.proofs.MachineComplete.{small}
-use Rattle.basic_tree.proofs.FormLeads.{word_ends, Ending, Leads}
+use Rattle.basic_tree.proofs.FormLeads.{word_ends, Ending, FormLeads}
 use Rattle.basic_tree.proofs.FormWords.{is_word, is_other_word}
 
 -- the levels that are left, and one more where a level ends
@@ -31,7 +31,7 @@ pub record Reads (e ends : Bool) (f : Form) (ps : List Piece) (v : Value) : Type
   pub bound : ℕ
   pub by : (n : ℕ) → bound ≤ n → (r : List Word) (k : List Symbol) (vs : Values) → Ending e r → run n (words (pieces_steps ps) ++ r) (Go f ∷ k) vs ≡ run (raised ends n) r k (v ∷ vs)
 
-pub reads_leads : {e : Bool} {f : Form} {ps : List Piece} {v : Value} → Reads e false f ps v → Leads e f (pieces_steps ps) v
+pub reads_leads : {e : Bool} {f : Form} {ps : List Piece} {v : Value} → Reads e false f ps v → FormLeads e f (pieces_steps ps) v
 reads_leads h = record { bound = h.bound; by = h.by }
 
 -- ---- the first word of an expression

@@ -12,7 +12,7 @@ use Rattle.basic_tree.specs.MachineStack.{Value, Values, Stated, Modifying, Symb
 use Rattle.basic_tree.specs.MachineForms.{says, range_form}
 use Rattle.basic_tree.specs.MachineSentences.{Sentence, sentence_of, modifier_of}
 use Rattle.basic_tree.specs.MachineRun.{run}
-use Rattle.basic_tree.proofs.FormLeads.{Ending, OfClass, Leads}
+use Rattle.basic_tree.proofs.FormLeads.{Ending, OfClass, FormLeads}
 use Rattle.basic_tree.proofs.FormSteps.{key_opened}
 use Rattle.basic_tree.proofs.FormReads.{Reads, reads_leads}
 use Rattle.basic_tree.proofs.FormParts.{read_made, read_key, read_sign, read_if_key, read_if_sign, read_not_key, read_not_sign, read_expr, read_name, read_fn_name, read_literal, read_if_literal, read_no_literal}
@@ -25,7 +25,7 @@ pub record Begun (s : StatementTree) : Type 0 where
   pub known : sentence_of word ≡ Some sentence
   pub spelled : words (pieces_steps (pieces_of s)) ≡ word ∷ rest
   pub class : OfClass sentence.class s
-  pub leads : Leads true sentence.form (pieces_steps (pieces_of s)) (Stated s)
+  pub leads : FormLeads true sentence.form (pieces_steps (pieces_of s)) (Stated s)
 
 pub begun_as : (s : StatementTree) (w : Word) {rest : List Word} {sentence : Sentence} → sentence_of w ≡ Some sentence → words (pieces_steps (pieces_of s)) ≡ w ∷ rest → OfClass sentence.class s → Reads true false sentence.form (pieces_of s) (Stated s) → Begun s
 begun_as s w k e c h = record { word = w; rest = _; sentence = _; known = k; spelled = e; class = c; leads = reads_leads h }

@@ -9,7 +9,7 @@ use Rattle.std.proofs.lemmas.List.Quantifiers.{position-Some}
 use Rattle.std.proofs.lemmas.List.Sums.{prefix_len-le-length}
 use Rattle.basic_tree.specs.Words.{keywords, signs}
 use Rattle.basic_tree.specs.Tokens.{is_blank, is_quote, is_type_mark, stands, is_word, longest_length, keyword_front, name_end, name_front, begins_function, letter_front, is_floating, digit_front, closed_front, quote_front, sign_front, front_of}
-use Rattle.basic_tree.specs.TokenLaws.{Fits}
+use Rattle.basic_tree.specs.TokenLaws.{LiesIn}
 use Rattle.basic_tree.specs.declared.tokens.TokenKind.{TokenKind}
 use Rattle.basic_tree.specs.declared.tokens.TokenKind.TheVariants as kind
 use Rattle.basic_tree.specs.declared.tokens.Cause.TheVariants as cause
@@ -31,7 +31,7 @@ at_most most false x y first second = second refl
 
 -- what stands there lies in the rest
 record Within (f : Front) (rest : List ℕ) : Type 0 where
-  pub fits : Fits f rest
+  pub fits : LiesIn f rest
 
 chosen : (b : Bool) (x y : Front) (rest : List ℕ) → (b ≡ true → Within x rest) → (b ≡ false → Within y rest) → Within (if b then x else y) rest
 chosen true x y rest first second = first refl
@@ -131,7 +131,7 @@ sign_fits rest =
     chosen (nat_lt 0 len) (front.Token kind.Sign len) (front.Refused cause.StrayByte) rest (λ e. record { fits = (ltb-true _ _ e, longest_within signs rest) }) (λ e. record { fits = tt })
 
 -- a token has at least one byte, and lies in the rest of the line
-pub front_fits : (rest : List ℕ) → 0 < length rest → Fits (front_of rest) rest
+pub front_fits : (rest : List ℕ) → 0 < length rest → LiesIn (front_of rest) rest
 unfolding front_of
 front_fits rest nonempty =
     let first = slice_index rest 0 in

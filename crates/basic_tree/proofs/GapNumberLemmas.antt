@@ -6,7 +6,7 @@ use Rattle.std.specs.List.{prefix_len, position_or_len}
 use Rattle.std.specs.Str.Parse.{digits_value}
 use Rattle.std.proofs.Math.Seq.{get_or-append_seam}
 use Rattle.std.proofs.lemmas.List.{drop-append-le}
-use Rattle.basic_tree.specs.Tokens.{is_exponent, is_floating, digit_front, closed_front, quote_front}
+use Rattle.basic_tree.specs.Tokens.{has_exponent, is_floating, digit_front, closed_front, quote_front}
 use Rattle.basic_tree.specs.declared.tokens.TokenKind.{TokenKind}
 use Rattle.basic_tree.specs.declared.tokens.TokenKind.TheVariants as kind
 use Rattle.basic_tree.specs.declared.tokens.Cause.TheVariants as cause
@@ -43,15 +43,15 @@ exponent_gone true false s q g gone h = and_right_false s g gone
 -- a run of digits that makes no floating number makes none before a gap
 floating_stays : (g : ℕ) (z y : List ℕ) → Gap g → is_floating (z ++ y) ≡ false → is_floating (z ++ g ∷ y) ≡ false
 floating_stays g [] y gap h =
-    or_false (g == 46) (to_ascii_uppercase g == 69 && is_exponent (g ∷ y)) gap.point (and_left_false (to_ascii_uppercase g == 69) (is_exponent (g ∷ y)) gap.exponent)
+    or_false (g == 46) (to_ascii_uppercase g == 69 && has_exponent (g ∷ y)) gap.point (and_left_false (to_ascii_uppercase g == 69) (has_exponent (g ∷ y)) gap.exponent)
 floating_stays g (a ∷ []) y gap h =
-    or_false (a == 46) (to_ascii_uppercase a == 69 && is_exponent (a ∷ g ∷ y)) (or_left (a == 46) (to_ascii_uppercase a == 69 && is_exponent (a ∷ y)) h)
-    (and_right_false (to_ascii_uppercase a == 69) (is_exponent (a ∷ g ∷ y))
+    or_false (a == 46) (to_ascii_uppercase a == 69 && has_exponent (a ∷ g ∷ y)) (or_left (a == 46) (to_ascii_uppercase a == 69 && has_exponent (a ∷ y)) h)
+    (and_right_false (to_ascii_uppercase a == 69) (has_exponent (a ∷ g ∷ y))
     (or_false (is_ascii_digit g) ((g == 43 || g == 45) && is_ascii_digit (slice_index (a ∷ g ∷ y) 2)) gap.digit
     (and_left_false (g == 43 || g == 45) (is_ascii_digit (slice_index (a ∷ g ∷ y) 2)) (or_false (g == 43) (g == 45) gap.plus gap.minus))))
 floating_stays g (a ∷ b ∷ []) y gap h =
-    or_false (a == 46) (to_ascii_uppercase a == 69 && is_exponent (a ∷ b ∷ g ∷ y)) (or_left (a == 46) (to_ascii_uppercase a == 69 && is_exponent (a ∷ b ∷ y)) h)
-    (exponent_gone (to_ascii_uppercase a == 69) (is_ascii_digit b) (b == 43 || b == 45) (is_ascii_digit (slice_index (a ∷ b ∷ y) 2)) (is_ascii_digit g) gap.digit (or_right (a == 46) (to_ascii_uppercase a == 69 && is_exponent (a ∷ b ∷ y)) h))
+    or_false (a == 46) (to_ascii_uppercase a == 69 && has_exponent (a ∷ b ∷ g ∷ y)) (or_left (a == 46) (to_ascii_uppercase a == 69 && has_exponent (a ∷ b ∷ y)) h)
+    (exponent_gone (to_ascii_uppercase a == 69) (is_ascii_digit b) (b == 43 || b == 45) (is_ascii_digit (slice_index (a ∷ b ∷ y) 2)) (is_ascii_digit g) gap.digit (or_right (a == 46) (to_ascii_uppercase a == 69 && has_exponent (a ∷ b ∷ y)) h))
 floating_stays g (a ∷ b ∷ c ∷ z) y gap h = h
 
 run_same : (g : ℕ) (x y : List ℕ) → is_ascii_digit g ≡ false → prefix_len is_ascii_digit (x ++ y) ≤ length x → prefix_len is_ascii_digit (x ++ g ∷ y) ≡ prefix_len is_ascii_digit (x ++ y)

@@ -1,20 +1,26 @@
 -- Each line is judged by where the machine stops; no word is too deep where there is none.
-use Rattle.std.proofs.Common.{◌≡◌, ℕ, suc, ◌<◌, ◌≤◌, Bool, true, false, List, [], ◌∷◌, length, drop, Option, Some, None, Ok, Err, refl, sym, ap, subst, ◌∙◌, arith}
-use Rattle.std.proofs.lemmas.List.{append-nil, drop_all}
+use Rattle.std.proofs.Common.{◌≡◌, ℕ, suc, ◌+◌, ◌<◌, ◌≤◌, Bool, true, false, List, [], ◌∷◌, length, drop, Option, Some, None, Ok, Err, refl, sym, ap, subst, ◌∙◌, arith, inl, inr, length-drop}
+use Rattle.std.specs.Prelude.{◌⊎◌}
+use Rattle.std.proofs.lemmas.List.{append-nil, drop_all, drop-drop}
 use Rattle.basic_tree.specs.SpellingWords.{Word, words_of, most_levels}
-use Rattle.basic_tree.specs.Trees.{ClauseTree, StatementClause, LineTree}
+use Rattle.basic_tree.specs.declared.kinds.Want.{Want}
+use Rattle.basic_tree.specs.declared.tokens.Cause.{Cause}
+use Rattle.basic_tree.specs.declared.tokens.Cause.TheVariants as cause
+use Rattle.basic_tree.specs.Trees.{Tree, ClauseTree, StatementClause, LineTree}
 use Rattle.basic_tree.specs.SpellingExpressions.{is_text}
 use Rattle.basic_tree.specs.Tokens.{Lexeme, Reading, tokens_of}
-use Rattle.basic_tree.specs.MachineStack.{Values, top, stated, below, Form, IfKey, IfSign, ExprIf, LiteralIf, QuotedIf, MoreItems, MoreOf, ClauseIn, Symbol, MoreRelations, Go, Await, AwaitClause}
+use Rattle.basic_tree.specs.MachineStack.{Values, parsed, top, stated, below, Form, IfKey, IfSign, ExprIf, LiteralIf, QuotedIf, MoreItems, MoreOf, ClauseIn, Symbol, Level, loosest, MoreRelations, Go, Await, AwaitClause}
 use Rattle.basic_tree.specs.MachineMoves.{Move, Takes, Skips, Refuses, no_relation, clause_move, form_move_with, move}
 use Rattle.basic_tree.specs.MachineMoves.{Closes as Ends}
 use Rattle.basic_tree.specs.MachineRun.{Turn, Next, Ended, Stuck, Deep, moved, turn, Wrong, TooDeep, Outcome, turned, run}
 use Rattle.basic_tree.specs.LineVerdicts.{SpelledBy, RefusedBy, Verdict, HasTree, RefusedFor, IsJudged, Judges, LinesAreJudged}
-use Rattle.basic_tree.specs.GrammarPlaces.{IsReadLine, RefusesLine}
+use Rattle.basic_tree.specs.GrammarPlaces.{between, IsRead, RefusesExpr, ExpressionsAreRead, IsReadLine, RefusesLine}
 use Rattle.basic_tree.specs.declared.tokens.Refusal.{Refusal}
-use Rattle.basic_tree.specs.MachineJudge.{line_symbols, line_values, outcome_verdict, verdict_of, reading_verdict, judge_of}
+use Rattle.basic_tree.specs.MachineJudge.{line_in, line_symbols, line_values, outcome_verdict, verdict_of, reading_verdict, judge_of}
 use Rattle.basic_tree.proofs.MachinePasses.{left}
 use Rattle.basic_tree.proofs.MachineStops.{finished}
+use Rattle.basic_tree.proofs.BetweenLemmas.{cut_between}
+use Rattle.basic_tree.proofs.ExpressionPlaces.{is_tree, expression_read, expression_wrong, expression_deep}
 use Rattle.basic_tree.proofs.LinePlaces.{line_read, line_wrong, line_stops, line_deep}
 use Rattle.basic_tree.proofs.LineReads.{made_line, reads_lines, left_end}
 
@@ -94,14 +100,14 @@ deep_within ws k n s vs le h = go (drop k ws) refl where
 
 -- what the grammar says of words
 abbrev WordsJudged : List Word → Verdict → Type 0
-WordsJudged ws HasTree = (l : LineTree) × IsReadLine ws l
+WordsJudged ws (HasTree l) = IsReadLine ws l
 WordsJudged ws (RefusedFor why) = (k : ℕ) × RefusesLine ws k why
 
 judged_by : (ws : List Word) (o : Outcome) → run most_levels ws line_symbols line_values ≡ o → WordsJudged ws (outcome_verdict o)
 judged_by ws (Ok (u, [])) h =
     let f = finished ws [] most_levels line_symbols line_values u (ap (λ (x : List Word). run most_levels x line_symbols line_values) (append-nil ws) ∙ h) in
     let l = reads_lines.spells f.steps u f.spells in
-    (l.0, line_read line_symbols line_values made_line reads_lines ws l.0 (h ∙ ap (λ (x : Values). Ok (x, [])) (sym l.3)))
+    subst (λ (v : Values). IsReadLine ws (line_in (parsed v))) l.3 (line_read line_symbols line_values made_line reads_lines ws l.0 (h ∙ ap (λ (x : Values). Ok (x, [])) (sym l.3)))
 judged_by ws (Ok (u, t ∷ ts)) h =
     let e = left_end ws most_levels line_symbols line_values in
     let same : drop e.0 ws ≡ t ∷ ts = sym e.2 ∙ ap left h in
@@ -125,7 +131,7 @@ unfolding verdict_of
 verdict_judged ws = judged_by ws (run most_levels ws line_symbols line_values) refl
 
 tokens_judged : (line : List ℕ) (tokens : List Lexeme) (v : Verdict) → tokens_of line ≡ Ok tokens → WordsJudged (words_of tokens) v → IsJudged line v
-tokens_judged line tokens HasTree e h = (h.0, subst (λ (r : Reading). SpelledBy r h.0) (sym e) h.1)
+tokens_judged line tokens (HasTree l) e h = subst (λ (r : Reading). SpelledBy r l) (sym e) h
 tokens_judged line tokens (RefusedFor why) e h =
     let refusal : Refusal = record { place = h.0; cause = why } in
     (refusal, subst (λ (r : Reading). RefusedBy r refusal) (sym e) h.1, refl)
@@ -140,3 +146,39 @@ judge_of_judges line = reading_judged line (tokens_of line) refl
 
 pub lines_judged : LinesAreJudged
 lines_judged = (judge_of, judge_of_judges)
+
+-- ---- expressions
+
+-- what the grammar says of the words from a place on
+abbrev ReadOrRefused : Want → List Word → ℕ → Type 0
+ReadOrRefused w ws from = ((t : Tree) × (k : ℕ) × IsRead w ws from t k) ⊎ ((k : ℕ) × (why : Cause) × RefusesExpr w ws from k why)
+
+module _ (w : Want) (ws : List Word) (from : ℕ) (inside : from ≤ length ws) where
+  -- the place where the machine stops behind that one
+  place_left : (k : ℕ) × (from ≤ k) × (k ≤ length ws) × (left (run most_levels (drop from ws) (Level loosest w ∷ []) []) ≡ drop k ws)
+  place_left =
+      let e = left_end (drop from ws) most_levels (Level loosest w ∷ []) [] in
+      (from + e.0, omega arith, omega (arith, e.1, length-drop from ws, inside), e.2 ∙ drop-drop e.0 from ws)
+
+  read_or_refused : (o : Outcome) → run most_levels (drop from ws) (Level loosest w ∷ []) [] ≡ o → ReadOrRefused w ws from
+  read_or_refused (Ok (u, r)) h =
+      let e = place_left in
+      let same : r ≡ drop e.0 ws = sym (ap left h) ∙ e.3 in
+      let there = h ∙ ap (λ (x : List Word). Ok (u, x)) same in
+      let f = finished (between ws from e.0) (drop e.0 ws) most_levels (Level loosest w ∷ []) [] u (ap (λ (x : List Word). run most_levels x (Level loosest w ∷ []) []) (cut_between ws from e.0 e.1) ∙ there) in
+      let t = is_tree w f.steps u f.spells in
+      inl (t.0, e.0, expression_read w ws from e.0 t.0 e.1 e.2 (there ∙ ap (λ (x : Values). Ok (x, drop e.0 ws)) (sym t.3)))
+  read_or_refused (Err (Wrong r)) h =
+      let e = place_left in
+      let same : r ≡ drop e.0 ws = sym (ap left h) ∙ e.3 in
+      inr (e.0, cause.Syntax, expression_wrong w ws from e.0 e.1 e.2 (h ∙ ap (λ (x : List Word). Err (Wrong x)) same))
+  read_or_refused (Err (TooDeep r)) h =
+      let e = place_left in
+      let same : r ≡ drop e.0 ws = sym (ap left h) ∙ e.3 in
+      let there = h ∙ ap (λ (x : List Word). Err (TooDeep x)) same in
+      inr (e.0, cause.TooDeep, expression_deep w ws from e.0 e.1 (below_end e.0 e.2 (λ over. never_deep_at_end (drop from ws) most_levels (Level loosest w ∷ []) [] (there ∙ ap (λ (x : List Word). Err (TooDeep x)) (drop_all e.0 ws over)))) there) where
+        below_end : (k : ℕ) → k ≤ length ws → (length ws ≤ k → ⊥) → k < length ws
+        below_end k x y = omega (arith, y)
+
+pub expressions_read : ExpressionsAreRead
+expressions_read w ws from inside = read_or_refused w ws from inside (run most_levels (drop from ws) (Level loosest w ∷ []) []) refl

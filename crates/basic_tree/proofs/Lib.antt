@@ -61,3 +61,4 @@ pub mod SoundPieces
 pub mod SoundSentences
 pub mod SoundSimple
 pub mod TokenLemmas
+pub mod WholePlaces

@@ -15,7 +15,7 @@ use Rattle.basic_tree.specs.Trees.{Tree, PrintedTree, Value, Tab, ModifierTree, 
 use Rattle.basic_tree.specs.declared.tokens.Keyword.TheVariants as keyword
 use Rattle.basic_tree.specs.declared.kinds.Want.TheVariants as want
 use Rattle.basic_tree.specs.SpellingExpressions.{steps_of, want_of}
-use Rattle.basic_tree.specs.SpellingPieces.{Piece, Fixed, Expression, NameOf, LiteralOf, Holds, pieces_steps, closing, sign_of, key, number, line, line_or_zero, target, perhaps, optional, each, after_commas, many}
+use Rattle.basic_tree.specs.SpellingPieces.{Piece, Fixed, Expression, NameOf, LiteralOf, Holds, pieces_steps, closing, sign_piece, key, number, line, line_or_zero, target, perhaps, optional, each, after_commas, many}
 use Rattle.basic_tree.specs.SpellingParts.{shape, element_size, file_shape, separator_piece, printed, print_item, channel, print_channel, channel_and_comma, prompt, modifier, name, parameters, value, kind_of_first, chain_line, open_for, option_of, close_channel, field_part}
 use Rattle.basic_tree.specs.SpellingStatements.{closings, go, items, pieces_of, clause_pieces, else_pieces, statement_pieces, line_pieces, line_steps}
 use Rattle.basic_tree.proofs.MachineLevels.{Above, tree_above}
@@ -84,7 +84,7 @@ many_level f x (a ∷ l) = both (f a) (after_commas f l) (x a) (after_commas_lev
 -- ---- parts of statements
 
 shape_level : (s : Shape) → Balanced (shape s)
-shape_level s = λ d. rises_append (optional (λ second. sign_of sign.Comma ∷ LiteralOf _ second ∷ []) s.second) (sign_of sign.Closing ∷ closing ∷ []) (suc d) (suc d) d (optional_level _ (λ a e. refl) s.second (suc d)) (d, refl, refl)
+shape_level s = λ d. rises_append (optional (λ second. sign_piece sign.Comma ∷ LiteralOf _ second ∷ []) s.second) (sign_piece sign.Closing ∷ closing ∷ []) (suc d) (suc d) d (optional_level _ (λ a e. refl) s.second (suc d)) (d, refl, refl)
 
 file_shape_level : (s : FileShape) → Balanced (file_shape s)
 file_shape_level s = both (shape s.shape) (optional (λ size. element_size s.shape.name size) s.size) (shape_level s.shape) (optional_level _ (λ a e. refl) s.size)
@@ -101,7 +101,7 @@ print_item_level : (i : PrintItemTree) → Balanced (print_item i)
 print_item_level i = both (printed i.printed) (separator_piece i.separator ∷ []) (printed_level i.printed) (separator_level i.separator)
 
 print_channel_level : (c : PrintChannelTree) → Balanced (print_channel c)
-print_channel_level c = both (channel c.number) (perhaps c.comma (sign_of sign.Comma)) (λ d. refl) (perhaps_level c.comma (sign_of sign.Comma) (λ d. refl))
+print_channel_level c = both (channel c.number) (perhaps c.comma (sign_piece sign.Comma)) (λ d. refl) (perhaps_level c.comma (sign_piece sign.Comma) (λ d. refl))
 
 prompt_level : (p : PromptTree) → Balanced (prompt p)
 prompt_level p = separator_level p.separator
@@ -116,7 +116,7 @@ modifier_rises (ForModifier v start limit step) d = optional_level _ (λ a e. re
 
 parameters_level : (ns : List Name) → Balanced (parameters ns)
 parameters_level [] = λ d. refl
-parameters_level (n ∷ ns) = λ d. rises_append (many name (n ∷ ns)) (sign_of sign.Closing ∷ closing ∷ []) (suc d) (suc d) d (many_level name (λ a e. refl) (n ∷ ns) (suc d)) (d, refl, refl)
+parameters_level (n ∷ ns) = λ d. rises_append (many name (n ∷ ns)) (sign_piece sign.Closing ∷ closing ∷ []) (suc d) (suc d) d (many_level name (λ a e. refl) (n ∷ ns) (suc d)) (d, refl, refl)
 
 chain_line_level : (t : Tree) (l : ChainLineTree) → Balanced (chain_line t l)
 chain_line_level t l = both (perhaps l.word (key _)) (Holds _ ∷ number l.number ∷ []) (perhaps_level l.word (key _) (λ d. refl)) (λ d. refl)
@@ -130,7 +130,7 @@ option_level : (k : Keyword) (t : Option Tree) → Balanced (option_of k t)
 option_level k t = optional_level _ (λ a e. refl) t
 
 close_channel_level : (c : CloseChannelTree) → Balanced (close_channel c)
-close_channel_level c = both (perhaps c.hash (sign_of sign.Hash)) (number c.number ∷ []) (perhaps_level c.hash (sign_of sign.Hash) (λ d. refl)) (λ d. refl)
+close_channel_level c = both (perhaps c.hash (sign_piece sign.Hash)) (number c.number ∷ []) (perhaps_level c.hash (sign_piece sign.Hash) (λ d. refl)) (λ d. refl)
 
 go_level : (apart : Bool) (j k : Keyword) → Balanced (go apart j k)
 go_level true j k = λ d. refl
@@ -194,8 +194,8 @@ mutual
   statement_rises (Sleep t) d = refl
   statement_rises (Open file use_for hash c record_size cluster_size mode) d =
       let options = option_of keyword.RecordSize record_size ++ option_of keyword.ClusterSize cluster_size ++ option_of keyword.Mode mode in
-      both (open_for use_for) (key keyword.As ∷ key keyword.File ∷ (perhaps hash (sign_of sign.Hash) ++ number c ∷ options)) (open_for_level use_for)
-      (both (perhaps hash (sign_of sign.Hash)) (number c ∷ options) (perhaps_level hash (sign_of sign.Hash) (λ e. refl))
+      both (open_for use_for) (key keyword.As ∷ key keyword.File ∷ (perhaps hash (sign_piece sign.Hash) ++ number c ∷ options)) (open_for_level use_for)
+      (both (perhaps hash (sign_piece sign.Hash)) (number c ∷ options) (perhaps_level hash (sign_piece sign.Hash) (λ e. refl))
       (both (option_of keyword.RecordSize record_size ++ option_of keyword.ClusterSize cluster_size) (option_of keyword.Mode mode)
       (both (option_of keyword.RecordSize record_size) (option_of keyword.ClusterSize cluster_size) (option_level keyword.RecordSize record_size) (option_level keyword.ClusterSize cluster_size))
       (option_level keyword.Mode mode))) d

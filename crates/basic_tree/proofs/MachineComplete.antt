@@ -20,7 +20,7 @@ use Rattle.basic_tree.proofs.MachineSpelled.{joined_trees}
 use Rattle.basic_tree.proofs.MachineBack.{joined-with_last}
 use Rattle.basic_tree.proofs.MachineMoves.{joined-nil}
 use Rattle.basic_tree.proofs.MachineSteps.{run_do, run_close}
-use Rattle.basic_tree.proofs.MachineLeads.{Follows, Parted, Leads, operand, at_level, words_parts}
+use Rattle.basic_tree.proofs.MachineLeads.{Follows, Parted, TreeLeads, operand, at_level, words_parts}
 
 -- the levels of nesting in a tree, and in a list
 abbrev mutual
@@ -60,7 +60,7 @@ level_within (Operation a o b) = operator_within o
 level_within (Comparison a r b) = omega arith
 level_within t = omega arith
 
-pub whole : (n : ℕ) (t : Tree) → IsTree t → Leads n (level_of t) t → (w : Want) (r : List Word) (k : List Symbol) (vs : Values) → Fits w t → Follows 12 r → Parted t r → run n (words (steps_of t) ++ r) (Level loosest w ∷ k) vs ≡ run n r k (Term t ∷ vs)
+pub whole : (n : ℕ) (t : Tree) → IsTree t → TreeLeads n (level_of t) t → (w : Want) (r : List Word) (k : List Symbol) (vs : Values) → Fits w t → Follows 12 r → Parted t r → run n (words (steps_of t) ++ r) (Level loosest w ∷ k) vs ≡ run n r k (Term t ∷ vs)
 whole n t i x w r k vs f s p = operand n 11 t (at_level (level_of t) 11 n t (level_within t) i (omega arith) x) w r k vs f s p
 
 -- ---- lists
@@ -81,10 +81,10 @@ more_parted t (AndTrees a more) r = λ e. refl
 
 abbrev pub AllLead : ℕ → Trees → Type 0
 AllLead n NoTrees = Unit {0}
-AllLead n (AndTrees a more) = Leads n (level_of a) a × AllLead n more
+AllLead n (AndTrees a more) = TreeLeads n (level_of a) a × AllLead n more
 
 -- an expression of a list, up to what stands behind it
-pub one_of_list : (n : ℕ) (a : Tree) (more : Trees) → IsTree a → Leads n (level_of a) a → (w : Want) (r : List Word) (k : List Symbol) (vs : Values) → Fits w a → run n (words (steps_of a ++ more_steps more) ++ r) (Level loosest w ∷ k) vs ≡ run n (words (more_steps more) ++ r) k (Term a ∷ vs)
+pub one_of_list : (n : ℕ) (a : Tree) (more : Trees) → IsTree a → TreeLeads n (level_of a) a → (w : Want) (r : List Word) (k : List Symbol) (vs : Values) → Fits w a → run n (words (steps_of a ++ more_steps more) ++ r) (Level loosest w ∷ k) vs ≡ run n (words (more_steps more) ++ r) k (Term a ∷ vs)
 one_of_list n a more i x w r k vs f =
     ap (λ ws. run n ws (Level loosest w ∷ k) vs) (words_parts (steps_of a) (more_steps more) r)
     ∙ whole n a i x w (words (more_steps more) ++ r) k vs f (more_follows more r) (more_parted a more r)
@@ -117,7 +117,7 @@ arguments_lead (AndTrees a more) (suc n) i d x (w ∷ ws) h f r k vs =
     ∙ more_leads more n i.1 (x n (omega (arith, d))).1 ws h.1 f (AndTrees a NoTrees) r k vs
 
 -- subscripts, behind their parenthesis
-pub subscripts_lead : (a : Tree) (more : Trees) (n : ℕ) → IsTree a → AreTrees more → Leads n (level_of a) a → AllLead n more → AreSubscripts (AndTrees a more) → (k : List Symbol) (vs : Values) (r : List Word) → run n (words (steps_of a ++ more_steps more) ++ r) (Level loosest want.Number ∷ Do Collect ∷ SecondSubscript ∷ Expect sign.Closing ∷ Close ∷ k) (Several NoTrees ∷ vs) ≡ run (suc n) r k (Several (AndTrees a more) ∷ vs)
+pub subscripts_lead : (a : Tree) (more : Trees) (n : ℕ) → IsTree a → AreTrees more → TreeLeads n (level_of a) a → AllLead n more → AreSubscripts (AndTrees a more) → (k : List Symbol) (vs : Values) (r : List Word) → run n (words (steps_of a ++ more_steps more) ++ r) (Level loosest want.Number ∷ Do Collect ∷ SecondSubscript ∷ Expect sign.Closing ∷ Close ∷ k) (Several NoTrees ∷ vs) ≡ run (suc n) r k (Several (AndTrees a more) ∷ vs)
 unfolding run
 subscripts_lead a NoTrees n i is x xs h k vs r =
     one_of_list n a NoTrees i x want.Number r (Do Collect ∷ SecondSubscript ∷ Expect sign.Closing ∷ Close ∷ k) (Several NoTrees ∷ vs) h

@@ -13,37 +13,37 @@ use Rattle.basic_tree.specs.GrammarTables.{arguments_of, gives_text}
 use Rattle.basic_tree.specs.MachineStack.{Term, Several, Collect, MakeParenthesized, MakeElement, MakeCall, MakeNegative, MakePositive, MakeNot, Level, Exponent, Expect, Close, Do, MoreArguments, loosest}
 use Rattle.basic_tree.specs.MachineRun.{run}
 use Rattle.basic_tree.proofs.MachineSteps.{run_do, run_close, no_subscripts, no_arguments}
-use Rattle.basic_tree.proofs.MachineLeads.{Leads, at_level, words_parts}
+use Rattle.basic_tree.proofs.MachineLeads.{TreeLeads, at_level, words_parts}
 use Rattle.basic_tree.proofs.MachineComplete.{depth_of, opened, list_depth, whole, closing_follows, AllLead, one_of_list, closing_taken, arguments_lead, subscripts_lead, more_arguments_lead, takes_kind, small, known_function}
 use Rattle.basic_tree.proofs.MachineTrees.{Complete, atom_complete, prefixed_words, operation_leads, comparison_leads}
 
 -- ---- atoms
 
-literal_leads : (n c : ℕ) → c ≤ 32767 → Leads n 0 (Literal c)
+literal_leads : (n c : ℕ) → c ≤ 32767 → TreeLeads n 0 (Literal c)
 unfolding run
 literal_leads n c h = record { by = λ w r k vs fits s p. rw (takes_kind w false (Literal c) refl fits, small c h) refl }
 
-quoted_leads : (n : ℕ) (text : List ℕ) → Leads n 0 (Quoted text)
+quoted_leads : (n : ℕ) (text : List ℕ) → TreeLeads n 0 (Quoted text)
 unfolding run
 quoted_leads n text = record { by = λ w r k vs fits s p. rw (takes_kind w true (Quoted text) refl fits) refl }
 
-variable_leads : (n : ℕ) (name : Name) → Leads n 0 (Variable name)
+variable_leads : (n : ℕ) (name : Name) → TreeLeads n 0 (Variable name)
 unfolding run
 variable_leads n name = record { by = λ w r k vs fits s p. rw (takes_kind w name.text (Variable name) refl fits) (no_subscripts n r name k vs (p refl)) }
 
-element_leads : (n : ℕ) (name : Name) (a : Tree) (more : Trees) → IsTree a → AreTrees more → Leads n (level_of a) a → AllLead n more → AreSubscripts (AndTrees a more) → Leads (suc n) 0 (Element name (AndTrees a more))
+element_leads : (n : ℕ) (name : Name) (a : Tree) (more : Trees) → IsTree a → AreTrees more → TreeLeads n (level_of a) a → AllLead n more → AreSubscripts (AndTrees a more) → TreeLeads (suc n) 0 (Element name (AndTrees a more))
 unfolding run
 element_leads n name a more i is x xs h = record { by = λ w r k vs fits s p. rw (takes_kind w name.text (Element name (AndTrees a more)) refl fits) (subscripts_lead a more n i is x xs h (Do (MakeElement name) ∷ k) vs r ∙ run_do (suc n) (MakeElement name) r k (Several (AndTrees a more) ∷ vs)) }
 
-function_leads : (n : ℕ) (f : Function) (ts : Trees) → AreTrees ts → opened ts ≤ n → ((m : ℕ) → list_depth ts ≤ m → AllLead m ts) → Fill (arguments_of f) ts → Leads n 0 (FunctionOf f ts)
+function_leads : (n : ℕ) (f : Function) (ts : Trees) → AreTrees ts → opened ts ≤ n → ((m : ℕ) → list_depth ts ≤ m → AllLead m ts) → Fill (arguments_of f) ts → TreeLeads n 0 (FunctionOf f ts)
 unfolding run
 function_leads n f ts i d x h = record { by = λ w r k vs fits s p. rw (known_function f, takes_kind w (gives_text f) (FunctionOf f ts) refl fits, append_assoc) (arguments_lead ts n i d x (arguments_of f) h f r k vs) }
 
-bare_call_leads : (n : ℕ) (name : Name) → Leads n 0 (Call name NoTrees)
+bare_call_leads : (n : ℕ) (name : Name) → TreeLeads n 0 (Call name NoTrees)
 unfolding run
 bare_call_leads n name = record { by = λ w r k vs fits s p. rw (takes_kind w name.text (Call name NoTrees) refl fits) (no_arguments n r name k vs (p refl)) }
 
-call_leads : (n : ℕ) (name : Name) (a : Tree) (more : Trees) → IsTree a → AreTrees more → Leads n (level_of a) a → AllLead n more → Leads (suc n) 0 (Call name (AndTrees a more))
+call_leads : (n : ℕ) (name : Name) (a : Tree) (more : Trees) → IsTree a → AreTrees more → TreeLeads n (level_of a) a → AllLead n more → TreeLeads (suc n) 0 (Call name (AndTrees a more))
 unfolding run
 call_leads n name a more i is x xs = record {
   by = λ w r k vs fits s p.
@@ -59,7 +59,7 @@ inside_fits want.Number a f = f
 inside_fits want.Text a f = f
 inside_fits want.Either a f = f
 
-parenthesized_leads : (n : ℕ) (a : Tree) → IsTree a → Complete n a → Leads (suc n) 0 (Parenthesized a)
+parenthesized_leads : (n : ℕ) (a : Tree) → IsTree a → Complete n a → TreeLeads (suc n) 0 (Parenthesized a)
 unfolding run
 parenthesized_leads n a i c = record {
   by = λ w r k vs fits s p.

@@ -59,7 +59,7 @@ first_at zero w = w
 first_at (suc l) w = first_ranked (rank_of (suc l)) w
 
 -- the words of a tree lead the machine to the tree
-pub record Leads (n l : ℕ) (t : Tree) : Type 0 where
+pub record TreeLeads (n l : ℕ) (t : Tree) : Type 0 where
   pub by : (w : Want) (r : List Word) (k : List Symbol) (vs : Values) → Fits (first_at l w) t → Follows l r → Parted t r → run n (words (steps_of t) ++ r) (Level l w ∷ k) vs ≡ run n r (more_at l w ++ k) (Term t ∷ vs)
 
 fits_side : (w : Want) (t : Tree) → Fits w t → Fits (side w) t
@@ -92,7 +92,7 @@ skip_more n zero w r k t vs f h = refl
 skip_more n (suc l) w r k t vs f h = skip_ranked (rank_of (suc l)) n (suc l) w r k t vs f h
 
 -- an operand at its level, as a whole
-pub operand : (n l : ℕ) (t : Tree) → Leads n l t → (w : Want) (r : List Word) (k : List Symbol) (vs : Values) → Fits w t → Follows (suc l) r → Parted t r → run n (words (steps_of t) ++ r) (Level l w ∷ k) vs ≡ run n r k (Term t ∷ vs)
+pub operand : (n l : ℕ) (t : Tree) → TreeLeads n l t → (w : Want) (r : List Word) (k : List Symbol) (vs : Values) → Fits w t → Follows (suc l) r → Parted t r → run n (words (steps_of t) ++ r) (Level l w ∷ k) vs ≡ run n r k (Term t ∷ vs)
 operand n l t h w r k vs f s p = h.by w r k vs (fits_first l w t f) s.0 p ∙ skip_more n l w r k t vs f s.1
 
 -- ---- how a tree begins
@@ -150,11 +150,11 @@ no_not_first (Comparison a o b) r i h = subst (λ x. First is_not x) (sym (words
 
 -- ---- from a level to a looser one
 
--- as Leads at the level behind l, whose rank is x
+-- as TreeLeads at the level behind l, whose rank is x
 abbrev RankedLeads : Rank → ℕ → ℕ → Tree → Type 0
 RankedLeads x n l t = (w : Want) (r : List Word) (k : List Symbol) (vs : Values) → Fits (first_ranked x w) t → Follows (suc l) r → Parted t r → run n (words (steps_of t) ++ r) (Level (suc l) w ∷ k) vs ≡ run n r (more_ranked x (suc l) w ++ k) (Term t ∷ vs)
 
-raise_ranked : (x : Rank) (n l : ℕ) (t : Tree) → rank_of (suc l) ≡ x → IsTree t → level_of t ≤ l → Leads n l t → RankedLeads x n l t
+raise_ranked : (x : Rank) (n l : ℕ) (t : Tree) → rank_of (suc l) ≡ x → IsTree t → level_of t ≤ l → TreeLeads n l t → RankedLeads x n l t
 raise_ranked Signs n l t e i h d = λ w r k vs f s p. run_signs n l w (words (steps_of t) ++ r) k vs e (no_sign_first t r i (at_sign l e h)) ∙ operand n l t d w r k vs f s p where
   at_sign : (l : ℕ) → rank_of (suc l) ≡ Signs → level_of t ≤ l → level_of t ≤ 1
   at_sign l e h =
@@ -168,15 +168,15 @@ raise_ranked Nots n l t e i h d = λ w r k vs f s p. run_nots n l w (words (step
       omega (arith, six, h)
 raise_ranked Chain n l t e i h d = λ w r k vs f s p. run_chain n l w (words (steps_of t) ++ r) k vs e ∙ operand n l t d w r (More (suc l) ∷ k) vs f s p
 
-pub raise_leads : (n l : ℕ) (t : Tree) → IsTree t → level_of t ≤ l → Leads n l t → Leads n (suc l) t
+pub raise_leads : (n l : ℕ) (t : Tree) → IsTree t → level_of t ≤ l → TreeLeads n l t → TreeLeads n (suc l) t
 raise_leads n l t i h d = record { by = raise_ranked (rank_of (suc l)) n l t refl i h d }
 
 -- to any looser level
-to_level : (d l m : ℕ) (n : ℕ) (t : Tree) → m ≡ d + l → IsTree t → level_of t ≤ l → Leads n l t → Leads n m t
-to_level zero l m n t e i h x = subst (λ (y : ℕ). Leads n y t) (sym (e ∙ omega arith)) x
+to_level : (d l m : ℕ) (n : ℕ) (t : Tree) → m ≡ d + l → IsTree t → level_of t ≤ l → TreeLeads n l t → TreeLeads n m t
+to_level zero l m n t e i h x = subst (λ (y : ℕ). TreeLeads n y t) (sym (e ∙ omega arith)) x
 to_level (suc d) l m n t e i h x =
     let same : suc (d + l) ≡ m = omega (arith, e) in
-    subst (λ (y : ℕ). Leads n y t) same (raise_leads n (d + l) t i (omega (arith, h)) (to_level d l (d + l) n t refl i h x))
+    subst (λ (y : ℕ). TreeLeads n y t) same (raise_leads n (d + l) t i (omega (arith, h)) (to_level d l (d + l) n t refl i h x))
 
-pub at_level : (l m : ℕ) (n : ℕ) (t : Tree) → l ≤ m → IsTree t → level_of t ≤ l → Leads n l t → Leads n m t
+pub at_level : (l m : ℕ) (n : ℕ) (t : Tree) → l ≤ m → IsTree t → level_of t ≤ l → TreeLeads n l t → TreeLeads n m t
 at_level l m n t le i h x = to_level (m - l) l m n t (omega (arith, le)) i h x

@@ -1,4 +1,4 @@
--- Where the machine stops: some expression begins with what it passed, and none goes on with the word that it refused.
+-- Where the machine stops: nothing that it takes goes on with the word that it refused.
 use Rattle.std.proofs.Common.{subst, ◌≡◌, ℕ, zero, suc, ◌+◌, List, [], ◌∷◌, ◌++◌, length, Some, None, Ok, Err, refl, sym, ap, ◌∙◌, append_assoc, arith}
 use Rattle.std.proofs.lemmas.List.{append-nil}
 use Rattle.basic_tree.specs.declared.kinds.Want.{Want}
@@ -14,15 +14,6 @@ use Rattle.basic_tree.proofs.MachineForms.{taken_whole}
 use Rattle.basic_tree.specs.Trees.{Tree}
 use Rattle.basic_tree.proofs.MachineTurns.{ends, TurnBack, end_back, turn_back}
 use Rattle.basic_tree.proofs.MachinePasses.{left, left_short, Further, turn_more, passes}
-
--- some expression begins with the words that were passed
-pub viable : (w : Want) (p r : List Word) → left (run most_levels (p ++ r) (Level loosest w ∷ []) []) ≡ r → Begins w p
-viable w p r h =
-    let at = passes p r most_levels (Level loosest w ∷ []) [] h in
-    let f = fill at.1 at.2 in
-    let s = at.3.spells f.0 f.1 f.2 in
-    let same = ap (λ x. x ++ words f.0) (sym at.3.spelled) ∙ sym (words_append at.3.steps f.0) ∙ ap (λ x. words x) (s.2 ∙ ap (λ x. steps_of s.0 ++ x) s.4.0 ∙ append-nil (steps_of s.0)) in
-    (words f.0, s.0, record { tree = s.3.tree; kind = s.3.kind; spelling = same })
 
 -- a word is refused, or all that was expected has ended, whatever the levels
 stops : (d : ℕ) (c : Word) (r : List Word) (n : ℕ) (k : List Symbol) (vs : Values) → left (run n (c ∷ r) k vs) ≡ c ∷ r → (run n (c ∷ r) k vs ≡ Err (TooDeep (c ∷ r)) → ⊥) → (q : List Word) → left (run (n + d) (c ∷ q) k vs) ≡ c ∷ q
@@ -42,15 +33,6 @@ goes_no_further d p c r n k vs h nd q =
     let left_over : at.0 + 0 ≡ at.0 = omega arith in
     let here = ap (λ i. run i (p ++ c ∷ r) k vs) (sym none) ∙ at.3.runs 0 (c ∷ r) ∙ ap (λ i. run i (c ∷ r) at.1 at.2) left_over in
     ap left (at.3.runs d (c ∷ q)) ∙ stops d c r at.0 at.1 at.2 (ap left (sym here) ∙ h) (λ e. nd (here ∙ e)) q
-
--- no expression begins with the words that were passed and the one that was refused
-pub no_more : (w : Want) (p : List Word) (c : Word) (r : List Word) → left (run most_levels (p ++ c ∷ r) (Level loosest w ∷ []) []) ≡ c ∷ r → (run most_levels (p ++ c ∷ r) (Level loosest w ∷ []) [] ≡ Err (TooDeep (c ∷ r)) → ⊥) → Begins w (p ++ c ∷ []) → ⊥
-no_more w p c r h nd b =
-    let d = depth_of b.1 in
-    let whole = taken_whole (most_levels + d) w ((p ++ c ∷ []) ++ b.0) b.1 b.2 (omega arith) in
-    let further = goes_no_further d p c r most_levels (Level loosest w ∷ []) [] h nd b.0 in
-    let same : c ∷ b.0 ≡ [] = sym further ∙ ap (λ x. left (run (most_levels + d) x (Level loosest w ∷ []) [])) (sym (append_assoc p (c ∷ []) b.0)) ∙ ap left whole in
-    absurd cc
 
 -- what was taken has been spelled, where the machine ends
 abbrev pub values : Outcome → Values
@@ -75,16 +57,3 @@ ended (c ∷ r) n k vs u h = go (turn k n vs (Some c)) refl h where
 pub words_of_ends : (c : ℕ) → words (ends c []) ≡ []
 words_of_ends zero = refl
 words_of_ends (suc c) = words_of_ends c
-
--- where the machine ends, the words that it passed are an expression, with the tree that it made
-pub read : (w : Want) (p r : List Word) (t : Tree) → run most_levels (p ++ r) (Level loosest w ∷ []) [] ≡ Ok (Term t ∷ [], r) → IsExpr w p t
-read w p r t h =
-    let at = passes p r most_levels (Level loosest w ∷ []) [] (ap left h) in
-    let none : most_levels + 0 ≡ most_levels = omega arith in
-    let left_over : at.0 + 0 ≡ at.0 = omega arith in
-    let here = ap (λ i. run i (p ++ r) (Level loosest w ∷ []) []) (sym none) ∙ at.3.runs 0 r ∙ ap (λ i. run i r at.1 at.2) left_over in
-    let e = ended r at.0 at.1 at.2 (Term t ∷ []) (sym here ∙ h) in
-    let s = at.3.spells (ends e.0 []) (Term t ∷ []) e.1 in
-    let same : s.0 ≡ t = ap top s.4.1 in
-    let spelling = sym at.3.spelled ∙ sym (append-nil (words at.3.steps)) ∙ ap (λ x. words at.3.steps ++ x) (sym (words_of_ends e.0)) ∙ sym (words_append at.3.steps (ends e.0 [])) ∙ ap (λ x. words x) (s.2 ∙ ap (λ x. steps_of s.0 ++ x) s.4.0 ∙ append-nil (steps_of s.0)) in
-    subst (λ x. IsExpr w p x) same (record { tree = s.3.tree; kind = s.3.kind; spelling = spelling })

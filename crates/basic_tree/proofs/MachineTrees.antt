@@ -16,12 +16,12 @@ use Rattle.basic_tree.specs.MachineStarts.{side, relations}
 use Rattle.basic_tree.specs.MachineMoves.{right_of}
 use Rattle.basic_tree.specs.MachineRun.{run}
 use Rattle.basic_tree.proofs.MachineSteps.{First, is_opening, is_plus_or_minus, run_do}
-use Rattle.basic_tree.proofs.MachineLeads.{Follows, Parted, Leads, more_at, first_at, operand, at_level, words_parts, no_sign_first}
+use Rattle.basic_tree.proofs.MachineLeads.{Follows, Parted, TreeLeads, more_at, first_at, operand, at_level, words_parts, no_sign_first}
 use Rattle.basic_tree.proofs.MachineComplete.{fits_want}
 
 -- the words of a tree lead to it at its level, and behind `^`
 pub record Complete (n : ℕ) (t : Tree) : Type 0 where
-  pub leads : Leads n (level_of t) t
+  pub leads : TreeLeads n (level_of t) t
   pub exponent : is_exponent t ≡ true → Fits want.Number t → (r : List Word) (k : List Symbol) (vs : Values) → Parted t r → run n (words (steps_of t) ++ r) (Exponent ∷ k) vs ≡ run n r k (Term t ∷ vs)
 
 -- behind `^` an atom is read as elsewhere
@@ -33,9 +33,9 @@ run_exponent n (Punctuation sign.Minus ∷ ts) k vs h = absurd cc
 run_exponent n (Punctuation s ∷ ts) k vs h = refl
 run_exponent n (t ∷ ts) k vs h = refl
 
-pub atom_complete : (n : ℕ) (t : Tree) → IsTree t → level_of t ≡ 0 → Leads n 0 t → Complete n t
+pub atom_complete : (n : ℕ) (t : Tree) → IsTree t → level_of t ≡ 0 → TreeLeads n 0 t → Complete n t
 atom_complete n t i e h = record {
-  leads = subst (λ (l : ℕ). Leads n l t) (sym e) h;
+  leads = subst (λ (l : ℕ). TreeLeads n l t) (sym e) h;
   exponent = λ x f r k vs p. run_exponent n (words (steps_of t) ++ r) k vs (no_sign_first t r i (omega (arith, e))) ∙ h.by want.Number r k vs f tt p;
 }
 
@@ -92,7 +92,7 @@ right_leads operator.Xor n b i c h x e j r k vs s p = right_at n 8 b i c (omega 
 right_leads operator.Imp n b i c h x e j r k vs s p = right_at n 9 b i c (omega (arith, h)) (want_of x) r k vs (fits_want x b e) s p
 right_leads operator.Eqv n b i c h x e j r k vs s p = right_at n 10 b i c (omega (arith, h)) (want_of x) r k vs (fits_want x b e) s p
 
-pub operation_leads : (n : ℕ) (o : Operator) (a b : Tree) → IsTree (Operation a o b) → Complete n a → Complete n b → Leads n (operator_level o) (Operation a o b)
+pub operation_leads : (n : ℕ) (o : Operator) (a b : Tree) → IsTree (Operation a o b) → Complete n a → Complete n b → TreeLeads n (operator_level o) (Operation a o b)
 operation_leads n o a b i ca cb = record {
   by = λ w r k vs fits s p.
       let left = at_level (level_of a) (operator_level o) n a i.2 i.0 (omega arith) ca.leads in
@@ -132,7 +132,7 @@ relation_taken n want.Text q a b e f ts k vs = absurd cc
 relation_taken n want.Either relation.Equal a b e f ts k vs = refl
 relation_taken n want.Either q a b e f ts k vs = refl
 
-pub comparison_leads : (n : ℕ) (q : Relation) (a b : Tree) → IsTree (Comparison a q b) → Complete n a → Complete n b → Leads n 5 (Comparison a q b)
+pub comparison_leads : (n : ℕ) (q : Relation) (a b : Tree) → IsTree (Comparison a q b) → Complete n a → Complete n b → TreeLeads n 5 (Comparison a q b)
 comparison_leads n q a b i ca cb = record {
   by = λ w r k vs fits s p.
       let left = at_level (level_of a) 5 n a i.2 i.0 (omega arith) ca.leads in

@@ -1,5 +1,5 @@
 -- Words have one answer: they are one whole, or they are refused at one place for one cause.
-use Rattle.std.proofs.Common.{subst, ◌≡◌, ℕ, ◌+◌, ◌-◌, ◌<◌, ◌≤◌, All, List, [], ◌++◌, length, take, drop, Some, None, Ok, Err, refl, sym, ap, ◌∙◌, append_assoc, arith, length-drop}
+use Rattle.std.proofs.Common.{subst, ◌≡◌, ℕ, ◌+◌, ◌-◌, ◌<◌, ◌≤◌, All, List, [], ◌++◌, length, take, drop, Some, None, Ok, Err, refl, sym, ap, ◌∙◌, append_assoc, arith}
 use Rattle.std.proofs.lemmas.List.{append-nil, take-append-drop, take-take, take_all, length-take-le}
 use Rattle.std.proofs.lemmas.List.Elements.{All-take}
 use Rattle.basic_tree.specs.declared.kinds.Want.{Want}
@@ -9,8 +9,8 @@ use Rattle.basic_tree.specs.Tokens.{Reading, tokens_of}
 use Rattle.basic_tree.specs.SpellingWords.{Word, Step, words_of, levels, most_levels, too_deep}
 use Rattle.basic_tree.specs.Trees.{Tree, LineTree}
 use Rattle.basic_tree.specs.SpellingExpressions.{steps_of, IsExpr}
-use Rattle.basic_tree.specs.SpellingStatements.{line_steps, IsLine}
-use Rattle.basic_tree.specs.GrammarPlaces.{IsFlatTo, between, IsLimit, IsRead, IsWrong, IsDeep, RefusesExpr, IsWrongLine, IsDeepLine, IsReadLine, RefusesLine}
+use Rattle.basic_tree.specs.SpellingStatements.{line_steps}
+use Rattle.basic_tree.specs.GrammarPlaces.{Whole, Expression, Line, Begins, BeginsFlat, IsLimit, IsDeep, IsRefused, between, IsRead, RefusesExpr, IsReadLine, RefusesLine}
 use Rattle.basic_tree.specs.declared.tokens.Refusal.{Refusal}
 use Rattle.basic_tree.specs.LineVerdicts.{SpelledBy, RefusedBy, HasTree, RefusedFor}
 use Rattle.basic_tree.specs.AnswerLaws.{OneExprAnswer, OneLineAnswer, OneBytesAnswer, OneVerdict}
@@ -18,18 +18,6 @@ use Rattle.basic_tree.proofs.DeepLevels.{all_within, within_before, not_within}
 use Rattle.basic_tree.proofs.LevelsSettled.{line_levels, expression_levels}
 use Rattle.basic_tree.proofs.OneLine.{one_line_lem}
 use Rattle.basic_tree.proofs.OneTree.{one_tree_lem}
-
--- what words are, with the steps that spell it
-abbrev Whole : Type 1
-Whole = List Word → List Step → Type 0
-
--- the words up to a place begin a whole
-abbrev Begun : Whole → List Word → ℕ → Type 0
-Begun whole ws i = (rest : List Word) × (g : List Step) × whole (take i ws ++ rest) g
-
--- and none of them is too deep
-abbrev FlatTo : Whole → List Word → ℕ → Type 0
-FlatTo whole ws i = (rest : List Word) × (g : List Step) × whole (take i ws ++ rest) g × IsFlatTo i g
 
 -- the words up to and with the one at a place begin a whole in which it is the first that is too deep
 abbrev DeepAt : Whole → List Word → ℕ → Type 0
@@ -49,19 +37,19 @@ cut_sooner ws rest i j le =
 whole_sooner : (whole : Whole) (ws rest : List Word) (i j : ℕ) (g : List Step) → i ≤ j → whole (take j ws ++ rest) g → whole (take i ws ++ (drop i (take j ws) ++ rest)) g
 whole_sooner whole ws rest i j g le h = subst (λ (x : List Word). whole x g) (cut_sooner ws rest i j le) h
 
-begun_sooner : (whole : Whole) (ws : List Word) (i j : ℕ) → i ≤ j → Begun whole ws j → Begun whole ws i
+begun_sooner : (whole : Whole) (ws : List Word) (i j : ℕ) → i ≤ j → Begins whole (take j ws) → Begins whole (take i ws)
 begun_sooner whole ws i j le b = (drop i (take j ws) ++ b.0, b.1, whole_sooner whole ws b.0 i j b.1 le b.2)
 
 -- what is read is flat to its end
-flat_of_read : (whole : Whole) (ws : List Word) (i : ℕ) (g : List Step) → whole (take i ws) g → too_deep g ≡ None → FlatTo whole ws i
+flat_of_read : (whole : Whole) (ws : List Word) (i : ℕ) (g : List Step) → whole (take i ws) g → too_deep g ≡ None → BeginsFlat whole ws i
 flat_of_read whole ws i g h flat = ([], g, subst (λ (x : List Word). whole x g) (sym (append-nil (take i ws))) h, All-take (λ level. level ≤ most_levels) i (levels 0 g) (all_within (levels 0 g) flat))
 
 -- up to a word that is too deep it is flat
-flat_of_deep : (whole : Whole) (ws : List Word) (i : ℕ) → DeepAt whole ws i → FlatTo whole ws i
+flat_of_deep : (whole : Whole) (ws : List Word) (i : ℕ) → DeepAt whole ws i → BeginsFlat whole ws i
 flat_of_deep whole ws i d = (drop i (take (i + 1) ws) ++ d.0, d.1, whole_sooner whole ws d.0 i (i + 1) d.1 (omega arith) d.2, within_before (levels 0 d.1) i d.3)
 
 -- nothing that begins so is flat behind a word that is too deep
-flat_ends : (whole : Whole) → Settled whole → (ws : List Word) (i j : ℕ) → i < length ws → DeepAt whole ws i → FlatTo whole ws j → i < j → ⊥
+flat_ends : (whole : Whole) → Settled whole → (ws : List Word) (i j : ℕ) → i < length ws → DeepAt whole ws i → BeginsFlat whole ws j → i < j → ⊥
 flat_ends whole settled ws i j inside d f lt =
     let same = settled (take (i + 1) ws) d.0 (drop (i + 1) (take j ws) ++ f.0) d.1 f.1 d.2 (whole_sooner whole ws f.0 (i + 1) j f.1 (omega (arith, lt)) f.2) in
     let long : length (take (i + 1) ws) ≡ i + 1 = length-take-le (i + 1) ws (omega (arith, inside)) in
@@ -77,57 +65,45 @@ one_deep : (whole : Whole) → Settled whole → (ws : List Word) (i j : ℕ) �
 one_deep whole settled ws i j a b x y =
     equal i j (flat_ends whole settled ws i j a x (flat_of_deep whole ws j y)) (flat_ends whole settled ws j i b y (flat_of_deep whole ws i x))
 
--- ---- lines
+-- ---- one place, one cause
 
-abbrev LineWhole : Whole
-LineWhole ws g = (l : LineTree) × IsLine ws l × (g ≡ line_steps l)
+-- no whole begins with more words than up to the limit
+none_beyond : (whole : Whole) (ws : List Word) (j k : ℕ) → IsLimit whole ws j → k ≤ length ws → Begins whole (take k ws) → j < k → ⊥
+none_beyond whole ws j k a inside b lt = a.no_more (omega (arith, lt, inside)) (begun_sooner whole ws (j + 1) k (omega (arith, lt)) b)
 
-lines_settled : Settled LineWhole
-lines_settled p q r g h a b = rw (a.2, b.2) (line_levels p q r a.0 b.0 a.1 b.1)
+one_limit : (whole : Whole) (ws : List Word) (j k : ℕ) → IsLimit whole ws j → IsLimit whole ws k → j ≡ k
+one_limit whole ws j k a b = equal j k (none_beyond whole ws j k a b.within b.begins) (none_beyond whole ws k j b a.within a.begins)
 
-line_begun : (ws : List Word) (k : ℕ) → IsWrongLine ws k → Begun LineWhole ws k
-line_begun ws k a = (a.flat.0, line_steps a.flat.1, (a.flat.1, a.flat.2, refl))
-
-line_flat : (ws : List Word) (k : ℕ) → IsWrongLine ws k → FlatTo LineWhole ws k
-line_flat ws k a = (a.flat.0, line_steps a.flat.1, (a.flat.1, a.flat.2, refl), a.flat.3)
-
-line_deep : (ws : List Word) (k : ℕ) → IsDeepLine ws k → DeepAt LineWhole ws k
-line_deep ws k a = (a.opens.0, line_steps a.opens.1, (a.opens.1, a.opens.2, refl), a.opens.3)
-
--- no line goes on as far as to behind the word that is refused
-no_further : (ws : List Word) (j k : ℕ) → IsWrongLine ws j → k ≤ length ws → Begun LineWhole ws k → j < k → ⊥
-no_further ws j k a inside b lt =
-    let sooner = begun_sooner LineWhole ws (j + 1) k (omega (arith, lt)) b in
-    a.no_more (omega (arith, lt, inside)) (sooner.0, sooner.2.0, sooner.2.1)
-
-all_words : (ws : List Word) (l : LineTree) → IsLine ws l → LineWhole (take (length ws) ws) (line_steps l)
-all_words ws l h = (l, subst (λ (x : List Word). IsLine x l) (sym (take_all (length ws) ws (omega arith))) h, refl)
-
-wrong_and_deep : (ws : List Word) (j k : ℕ) → IsWrongLine ws j → IsDeepLine ws k → ⊥
-wrong_and_deep ws j k a b =
-    let d = line_deep ws k b in
-    let begun : Begun LineWhole ws (k + 1) = (d.0, d.1, d.2) in
-    either (no_further ws j (k + 1) a (omega (arith, b.within)) begun) (flat_ends LineWhole lines_settled ws k j b.within d (line_flat ws j a)) where
+-- where words are flat to the limit none is too deep
+flat_and_deep : (whole : Whole) → Settled whole → (ws : List Word) (j k : ℕ) → IsLimit whole ws j → BeginsFlat whole ws j → IsDeep whole ws k → ⊥
+flat_and_deep whole settled ws j k a f b =
+    let d = b.opens in
+    either (none_beyond whole ws j (k + 1) a (omega (arith, b.within)) (d.0, d.1, d.2)) (flat_ends whole settled ws k j b.within d f) where
       either : (j < k + 1 → ⊥) → (k < j → ⊥) → ⊥
       either x y = omega (arith, x, y)
 
+refusals : (whole : Whole) → Settled whole → (ws : List Word) (j k : ℕ) (x y : List Word) (c d : Cause) → IsRefused whole ws j x c → IsRefused whole ws k y d → (j ≡ k) × (c ≡ d)
+refusals whole settled ws j k x y cause.Syntax cause.Syntax a b = (one_limit whole ws j k a.limit b.limit, refl)
+refusals whole settled ws j k x y cause.TooDeep cause.TooDeep a b = (one_deep whole settled ws j k a.within b.within a.opens b.opens, refl)
+refusals whole settled ws j k x y cause.Syntax cause.TooDeep a b = absurd (flat_and_deep whole settled ws j k a.limit a.flat b)
+refusals whole settled ws j k x y cause.TooDeep cause.Syntax a b = absurd (flat_and_deep whole settled ws k j b.limit b.flat a)
+refusals whole settled ws j k x y cause.Syntax d a b = absurd b
+refusals whole settled ws j k x y cause.TooDeep d a b = absurd b
+refusals whole settled ws j k x y c d a b = absurd a
+
+-- ---- lines
+
+lines_settled : Settled Line
+lines_settled p q r g h a b = rw (a.2, b.2) (line_levels p q r a.0 b.0 a.1 b.1)
+
 line_refusals : (ws : List Word) (j k : ℕ) (c d : Cause) → RefusesLine ws j c → RefusesLine ws k d → (j ≡ k) × (c ≡ d)
-line_refusals ws j k cause.Syntax cause.Syntax a b = (equal j k (no_further ws j k a b.within (line_begun ws k b)) (no_further ws k j b a.within (line_begun ws j a)), refl)
-line_refusals ws j k cause.TooDeep cause.TooDeep a b = (one_deep LineWhole lines_settled ws j k a.within b.within (line_deep ws j a) (line_deep ws k b), refl)
-line_refusals ws j k cause.Syntax cause.TooDeep a b = absurd (wrong_and_deep ws j k a b)
-line_refusals ws j k cause.TooDeep cause.Syntax a b = absurd (wrong_and_deep ws k j b a)
-line_refusals ws j k cause.Syntax d a b = absurd b
-line_refusals ws j k cause.TooDeep d a b = absurd b
-line_refusals ws j k c d a b = absurd a
+line_refusals ws j k c d a b = refusals Line lines_settled ws j k ws ws c d a b
 
 line_apart : (ws : List Word) (k : ℕ) (l : LineTree) (c : Cause) → IsReadLine ws l → RefusesLine ws k c → ⊥
-line_apart ws k l cause.Syntax a b =
-    let whole = all_words ws l a.line in
-    let begun : Begun LineWhole ws (length ws) = ([], line_steps l, subst (λ (x : List Word). LineWhole x (line_steps l)) (sym (append-nil (take (length ws) ws))) whole) in
-    neither b.within (no_further ws k (length ws) b (omega arith) begun) (λ at_end. b.none at_end l a.line) where
-      neither : k ≤ length ws → (k < length ws → ⊥) → (k ≡ length ws → ⊥) → ⊥
-      neither x y z = omega (arith, x, y, z)
-line_apart ws k l cause.TooDeep a b = flat_ends LineWhole lines_settled ws k (length ws) b.within (line_deep ws k b) (flat_of_read LineWhole ws (length ws) (line_steps l) (all_words ws l a.line) a.flat) b.within
+line_apart ws k l cause.Syntax a b = b.none (line_steps l) (l, a.line, refl)
+line_apart ws k l cause.TooDeep a b =
+    let whole : Line (take (length ws) ws) (line_steps l) = subst (λ (x : List Word). Line x (line_steps l)) (sym (take_all (length ws) ws (omega arith))) (l, a.line, refl) in
+    flat_ends Line lines_settled ws k (length ws) b.within b.opens (flat_of_read Line ws (length ws) (line_steps l) whole a.flat) b.within
 line_apart ws k l c a b = absurd b
 
 pub one_line_answer : OneLineAnswer
@@ -162,77 +138,36 @@ one_bytes_answer = record {
 }
 
 pub one_verdict_lem : OneVerdict
-one_verdict_lem line HasTree HasTree a b = refl
-one_verdict_lem line HasTree (RefusedFor d) a b = absurd (bytes_apart (tokens_of line) a.0 b.0 a.1 b.1)
-one_verdict_lem line (RefusedFor c) HasTree a b = absurd (bytes_apart (tokens_of line) b.0 a.0 b.1 a.1)
+one_verdict_lem line (HasTree l) (HasTree m) a b = ap HasTree (bytes_read (tokens_of line) l m a b)
+one_verdict_lem line (HasTree l) (RefusedFor d) a b = absurd (bytes_apart (tokens_of line) l b.0 a b.1)
+one_verdict_lem line (RefusedFor c) (HasTree l) a b = absurd (bytes_apart (tokens_of line) l a.0 b a.1)
 one_verdict_lem line (RefusedFor c) (RefusedFor d) a b = ap RefusedFor (sym a.2 ∙ ap (λ (r : Refusal). r.cause) (bytes_refused (tokens_of line) a.0 b.0 a.1 b.1) ∙ b.2)
 
 -- ---- expressions
 
-abbrev ExprWhole : Want → Whole
-ExprWhole w ws g = (t : Tree) × IsExpr w ws t × (g ≡ steps_of t)
-
-expressions_settled : (w : Want) → Settled (ExprWhole w)
+expressions_settled : (w : Want) → Settled (Expression w)
 expressions_settled w p q r g h a b = rw (a.2, b.2) (expression_levels w w p q r a.0 b.0 a.1 b.1)
 
-limit_begun : (w : Want) (ws : List Word) (from k : ℕ) → IsLimit w ws from k → Begun (ExprWhole w) (drop from ws) (k - from)
-limit_begun w ws from k a = (a.begins.0, steps_of a.begins.1, (a.begins.1, a.begins.2, refl))
-
-expr_flat : (w : Want) (ws : List Word) (from k : ℕ) → IsWrong w ws from k → FlatTo (ExprWhole w) (drop from ws) (k - from)
-expr_flat w ws from k a = (a.flat.0, steps_of a.flat.1, (a.flat.1, a.flat.2, refl), a.flat.3)
-
-one_behind : (from k : ℕ) → from ≤ k → (k + 1) - from ≡ (k - from) + 1
-one_behind from k le = omega (arith, le)
-
-expr_deep : (w : Want) (ws : List Word) (from k : ℕ) → IsDeep w ws from k → DeepAt (ExprWhole w) (drop from ws) (k - from)
-expr_deep w ws from k a = (
-  a.opens.0,
-  steps_of a.opens.1,
-  (a.opens.1, subst (λ (n : ℕ). IsExpr w (take n (drop from ws) ++ a.opens.0) a.opens.1) (one_behind from k a.after) a.opens.2, refl),
-  a.opens.3,
-)
-
-inside : (ws : List Word) (from k : ℕ) → from ≤ k → k < length ws → k - from < length (drop from ws)
-inside ws from k after lt = omega (arith, after, lt, length-drop from ws)
-
--- no expression goes on as far as to behind the limit
-none_beyond : (w : Want) (ws : List Word) (from j k : ℕ) → IsLimit w ws from j → k ≤ length ws → Begun (ExprWhole w) (drop from ws) (k - from) → j < k → ⊥
-none_beyond w ws from j k a within b lt =
-    let sooner = begun_sooner (ExprWhole w) (drop from ws) ((j + 1) - from) (k - from) (omega (arith, lt)) b in
-    a.no_more (omega (arith, lt, within)) (sooner.0, sooner.2.0, sooner.2.1)
-
-one_limit : (w : Want) (ws : List Word) (from j k : ℕ) → IsLimit w ws from j → IsLimit w ws from k → j ≡ k
-one_limit w ws from j k a b = equal j k (none_beyond w ws from j k a b.within (limit_begun w ws from k b)) (none_beyond w ws from k j b a.within (limit_begun w ws from j a))
-
--- where words are flat to the limit none is too deep
-flat_and_deep : (w : Want) (ws : List Word) (from j k : ℕ) → IsLimit w ws from j → FlatTo (ExprWhole w) (drop from ws) (j - from) → IsDeep w ws from k → ⊥
-flat_and_deep w ws from j k a f b =
-    let d = expr_deep w ws from k b in
-    let begun : Begun (ExprWhole w) (drop from ws) ((k + 1) - from) = (b.opens.0, steps_of b.opens.1, (b.opens.1, b.opens.2, refl)) in
-    neither a.after b.after (none_beyond w ws from j (k + 1) a (omega (arith, b.within)) begun) (flat_ends (ExprWhole w) (expressions_settled w) (drop from ws) (k - from) (j - from) (inside ws from k b.after b.within) d f) where
-      neither : from ≤ j → from ≤ k → (j < k + 1 → ⊥) → (k - from < j - from → ⊥) → ⊥
-      neither x y z v = omega (arith, x, y, z, v)
+-- places that are as far behind another
+same_place : (from j k : ℕ) → from ≤ j → from ≤ k → j - from ≡ k - from → j ≡ k
+same_place from j k a b e = omega (arith, e, a, b)
 
 expr_read : (w : Want) (ws : List Word) (from j k : ℕ) (t u : Tree) → IsRead w ws from t j → IsRead w ws from u k → (t ≡ u) × (j ≡ k)
 expr_read w ws from j k t u a b =
-    let same = one_limit w ws from j k a.limit b.limit in
+    let same = same_place from j k a.after b.after (one_limit (Expression w) (drop from ws) (j - from) (k - from) a.limit b.limit) in
     (one_tree_lem w w (between ws from j) t u a.expression (subst (λ (n : ℕ). IsExpr w (between ws from n) u) (sym same) b.expression), same)
 
 expr_refusals : (w : Want) (ws : List Word) (from j k : ℕ) (c d : Cause) → RefusesExpr w ws from j c → RefusesExpr w ws from k d → (j ≡ k) × (c ≡ d)
-expr_refusals w ws from j k cause.Syntax cause.Syntax a b = (one_limit w ws from j k a.limit b.limit, refl)
-expr_refusals w ws from j k cause.TooDeep cause.TooDeep a b =
-    let same = one_deep (ExprWhole w) (expressions_settled w) (drop from ws) (j - from) (k - from) (inside ws from j a.after a.within) (inside ws from k b.after b.within) (expr_deep w ws from j a) (expr_deep w ws from k b) in
-    (omega (arith, same, a.after, b.after), refl)
-expr_refusals w ws from j k cause.Syntax cause.TooDeep a b = absurd (flat_and_deep w ws from j k a.limit (expr_flat w ws from j a) b)
-expr_refusals w ws from j k cause.TooDeep cause.Syntax a b = absurd (flat_and_deep w ws from k j b.limit (expr_flat w ws from k b) a)
-expr_refusals w ws from j k cause.Syntax d a b = absurd b
-expr_refusals w ws from j k cause.TooDeep d a b = absurd b
-expr_refusals w ws from j k c d a b = absurd a
+expr_refusals w ws from j k c d a b =
+    let same = refusals (Expression w) (expressions_settled w) (drop from ws) (j - from) (k - from) (between ws from j) (between ws from k) c d a.1 b.1 in
+    (same_place from j k a.0 b.0 same.0, same.1)
 
 expr_apart : (w : Want) (ws : List Word) (from j k : ℕ) (t : Tree) (c : Cause) → IsRead w ws from t j → RefusesExpr w ws from k c → ⊥
-expr_apart w ws from j k t cause.Syntax a b = b.none t (subst (λ (n : ℕ). IsExpr w (between ws from n) t) (one_limit w ws from j k a.limit b.limit) a.expression)
-expr_apart w ws from j k t cause.TooDeep a b = flat_and_deep w ws from j k a.limit (flat_of_read (ExprWhole w) (drop from ws) (j - from) (steps_of t) (t, a.expression, refl) a.flat) b
-expr_apart w ws from j k t c a b = absurd b
+expr_apart w ws from j k t cause.Syntax a b =
+    let same = same_place from j k a.after b.0 (one_limit (Expression w) (drop from ws) (j - from) (k - from) a.limit b.1.limit) in
+    b.1.none (steps_of t) (t, subst (λ (n : ℕ). IsExpr w (between ws from n) t) same a.expression, refl)
+expr_apart w ws from j k t cause.TooDeep a b = flat_and_deep (Expression w) (expressions_settled w) (drop from ws) (j - from) (k - from) a.limit (flat_of_read (Expression w) (drop from ws) (j - from) (steps_of t) (t, a.expression, refl) a.flat) b.1
+expr_apart w ws from j k t c a b = absurd b.1
 
 pub one_expr_answer : OneExprAnswer
 one_expr_answer = record { read = expr_read; refused = expr_refusals; apart = expr_apart }

@@ -8,7 +8,7 @@ use Rattle.basic_tree.specs.Words.{keywords, signs}
 use Rattle.std.specs.Char.{is_ascii_digit, is_ascii_alphabetic}
 use Rattle.std.proofs.lemmas.Bool.{le-ltb}
 use Rattle.basic_tree.specs.Tokens.{Lexeme, is_blank, is_quote, is_type_mark, is_word, longest_length, keyword_front, name_end, name_front, begins_function, is_floating, closed_front, letter_front, digit_front, quote_front, sign_front, front_of, cuts, quote_after, items_from, width, with_tokens, read_on, tokens_from}
-use Rattle.basic_tree.specs.TokenLaws.{Fits, AreCut, moved, moved_reading, moved_from, StartsAt}
+use Rattle.basic_tree.specs.TokenLaws.{LiesIn, AreCut, moved, moved_reading, moved_from, StartsAt}
 use Rattle.basic_tree.specs.declared.tokens.TokenKind.{TokenKind}
 use Rattle.basic_tree.specs.declared.tokens.TokenKind.TheVariants as kind
 use Rattle.basic_tree.specs.declared.tokens.Cause.{Cause}
@@ -208,7 +208,7 @@ module _ (g b : ℕ) (x y : List ℕ) (place : ℕ) (is : is_blank g ≡ true)
   at_front (front.Token k len) ts e h s =
       let token : Lexeme = record { kind = k; start = place; bytes = take len (b ∷ x ++ y) } in
       let split = with_ok (token ∷ []) ts (tokens_from (place + 1) (len - 1) (x ++ y)) h in
-      let fits : Fits (front.Token k len) (b ∷ x ++ y) = subst (λ f. Fits f (b ∷ x ++ y)) e (front_fits (b ∷ x ++ y) (omega arith)) in
+      let fits : LiesIn (front.Token k len) (b ∷ x ++ y) = subst (λ f. LiesIn f (b ∷ x ++ y)) e (front_fits (b ∷ x ++ y) (omega arith)) in
       let later : StartsAt (place + suc (length x)) split.0 = behind_token token split.0 refl (subst (StartsAt (place + suc (length x))) (sym split.2) s) in
       let reach : len ≤ suc (length x) = reaches len split.0 fits.0 split.1 later (nat_lt (place + suc (length x)) (place + 1 + (len - 1))) refl in
       let stays : front_of (b ∷ x ++ g ∷ y) ≡ front.Token k len = token_stays g (b ∷ x) y k len (blank_is_gap g is) fits.0 reach e in

@@ -3,7 +3,7 @@ use Rattle.std.proofs.Common.{◌≡◌, ℕ, zero, suc, ◌+◌, ◌-◌, ◌<�
 use Rattle.std.specs.Prelude.{Ok, Err, Option, None, max, if◌then◌else◌}
 use Rattle.std.proofs.lemmas.List.{drop-drop, length-take-le, take_at, drop_at}
 use Rattle.basic_tree.specs.Tokens.{Lexeme, Reading, front_of, cuts, quote_after, items_from, width, with_tokens, read_on, tokens_from}
-use Rattle.basic_tree.specs.TokenLaws.{Fits, IsSlice, AreCut}
+use Rattle.basic_tree.specs.TokenLaws.{LiesIn, IsSlice, AreCut}
 use Rattle.basic_tree.specs.declared.tokens.TokenKind.{TokenKind}
 use Rattle.basic_tree.specs.declared.tokens.TokenKind.TheVariants as kind
 use Rattle.basic_tree.specs.declared.tokens.Front.{Front}
@@ -63,7 +63,7 @@ with_ok first ts (Err refusal) e = absurd (cc)
 
 module _ (line : List ℕ) (place b : ℕ) (rest : List ℕ) (e : b ∷ rest ≡ drop place line) (inside : place < length line)
     (again : (n : ℕ) (ts : List Lexeme) → tokens_from (place + 1) n rest ≡ Ok ts → AreCut line (place + 1 + n) ts) where
-  cut_here : (f : Front) (ts : List Lexeme) → Fits f (b ∷ rest) → read_on place (b ∷ rest) f (tokens_from (place + 1) (width f - 1) rest) ≡ Ok ts → AreCut line place ts
+  cut_here : (f : Front) (ts : List Lexeme) → LiesIn f (b ∷ rest) → read_on place (b ∷ rest) f (tokens_from (place + 1) (width f - 1) rest) ≡ Ok ts → AreCut line place ts
   cut_here front.Blank ts fits h = cut_earlier line place (place + 1 + 0) ts (omega arith) (again 0 ts h)
   cut_here front.Comment ts fits h = let same : [] ≡ ts = cc in subst (AreCut line place) same tt
   cut_here front.Data ts fits h =

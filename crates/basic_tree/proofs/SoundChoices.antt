@@ -11,7 +11,7 @@ use Rattle.basic_tree.specs.declared.parts.Separator.TheVariants as separator
 use Rattle.basic_tree.specs.SpellingWords.{Step}
 use Rattle.basic_tree.specs.Trees.{Tree, PrintedTree, PrintItemTree, PromptTree, ElseTree, NoElse, Else, StatementTree, IfThen, IfGoto, Dim, DimFile, Def, Let, Print, Input, InputLine}
 use Rattle.basic_tree.specs.SpellingExpressions.{is_text, Fits, want_of}
-use Rattle.basic_tree.specs.SpellingPieces.{target, many, after_commas, optional, sign_of, closing}
+use Rattle.basic_tree.specs.SpellingPieces.{target, many, after_commas, optional, sign_piece, closing}
 use Rattle.basic_tree.specs.SpellingParts.{shape, file_shape, value, is_parted, kind_of_first, name, element_size}
 use Rattle.basic_tree.specs.SpellingStatements.{has_else, clause_wants_else, clause_pieces, else_pieces}
 use Rattle.basic_tree.specs.MachineStack.{Value, Stated, TargetItem, ShapeItem, FileItem, NameItem, Shapes, FileShapes, Form, TakeKey, MoreOf}
@@ -88,7 +88,7 @@ def_sound p v h =
           let w = value_read f.0 (n.0 ∷ names_in more.0) closed.0 v closed.2 in
           said Head (Def f.0 (n.0 ∷ names_in more.0) w.0) p v w.2
           (fixed h.1 (fixed f.2 (holds (few_names n.0 more.0 more.3) (fixed x.1 (name_of n.2 tt
-          (regrouped (after_commas name (names_in more.0)) (sign_of sign.Closing ∷ closing ∷ []) (optional (λ t. value f.0.text t) w.0)
+          (regrouped (after_commas name (names_in more.0)) (sign_piece sign.Closing ∷ closing ∷ []) (optional (λ t. value f.0.text t) w.0)
           (listed (items_steps more.0) more.2 (names_spelled (NameItem n.0 ∷ []) more.0 more.3) (fixed closed.1 (fixed refl w.1)))))))))
           refl (refl, refl)
       | inr x ↦

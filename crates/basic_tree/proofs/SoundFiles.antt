@@ -9,7 +9,7 @@ use Rattle.basic_tree.specs.declared.parts.OpenFor.TheVariants as purpose
 use Rattle.basic_tree.specs.SpellingWords.{Word, Step, words}
 use Rattle.basic_tree.specs.Trees.{Tree, StatementTree, Open, Close, Get, Put, Unlock, Field, Chain, CloseChannelTree, FieldPartTree}
 use Rattle.basic_tree.specs.SpellingExpressions.{steps_of}
-use Rattle.basic_tree.specs.SpellingPieces.{Piece, key, number, sign_of, perhaps}
+use Rattle.basic_tree.specs.SpellingPieces.{Piece, key, number, sign_piece, perhaps}
 use Rattle.basic_tree.specs.SpellingParts.{option_of, first_word, last_word, may_follow}
 use Rattle.basic_tree.specs.MachineStack.{Value, Stated, ChannelItem, FieldItem, Channels, TakeKey, TakeSign, ExprOf}
 use Rattle.basic_tree.specs.MachineForms.{chains, begins_value, list_form, channels_in, parts_in, says, number_option, cluster_form, options_form, file_form}
@@ -105,7 +105,7 @@ options_read s p v (inr x) = (None, None, None, ended x.0, x.1)
 abbrev file_pieces : Bool → Tree → Option Tree → Option Tree → Option Tree → List Piece
 file_pieces hash c r s m =
     key keyword.As ∷ key keyword.File
-    ∷ (perhaps hash (sign_of sign.Hash) ++ number c
+    ∷ (perhaps hash (sign_piece sign.Hash) ++ number c
     ∷ (option_of keyword.RecordSize r ++ option_of keyword.ClusterSize s ++ option_of keyword.Mode m))
 
 record FileRead (file : Tree) (purpose : OpenFor) (p : List Step) (v : Value) : Type 0 where

@@ -9,6 +9,7 @@ pub mod MachineStack
 pub mod MachineStarts
 pub mod GrammarTables
 pub mod GrammarWords
+pub mod Limits
 pub mod LineVerdicts
 pub mod SpellingExpressions
 pub mod SpellingParts

@@ -25,12 +25,13 @@ RefusedBy (Err first) refusal = first ≡ refusal
 abbrev pub Refuses : List ℕ → Refusal → Type 0
 Refuses line refusal = RefusedBy (tokens_of line) refusal
 
+-- the line that the bytes spell, or why they spell none
 pub data Verdict : Type 0 where
-  HasTree : Verdict
+  HasTree : LineTree → Verdict
   RefusedFor : Cause → Verdict
 
 abbrev pub IsJudged : List ℕ → Verdict → Type 0
-IsJudged line HasTree = (l : LineTree) × Spells line l
+IsJudged line (HasTree l) = Spells line l
 IsJudged line (RefusedFor cause) = (refusal : Refusal) × Refuses line refusal × (refusal.cause ≡ cause)
 
 -- what judges lines, and does it by the grammar

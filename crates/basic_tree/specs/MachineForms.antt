@@ -1,5 +1,6 @@
 -- The forms of statements: what each expects word by word, and the tree that it makes. No promise speaks of it: it carries proofs alone.
-use Rattle.std.specs.Prelude.{ℕ, ◌&&◌, nat_lt, Bool, true, false, List, [], ◌∷◌, ◌++◌, length, Option, Some, None}
+use Rattle.std.specs.Prelude.{ℕ, ◌+◌, ◌&&◌, nat_lt, Bool, true, false, List, [], ◌∷◌, ◌++◌, length, Option, Some, None}
+use Rattle.basic_tree.specs.Limits.{most_number}
 use Rattle.basic_tree.specs.declared.names.Name.{Name}
 use Rattle.basic_tree.specs.declared.tokens.Keyword.{Keyword}
 use Rattle.basic_tree.specs.declared.tokens.Keyword.TheVariants as keyword
@@ -29,7 +30,7 @@ key_begins k = is_known (function_of k)
 
 -- a word with which an expression may begin
 abbrev pub begins_value : Word → Bool
-begins_value (Number n) = nat_lt n 32768
+begins_value (Number n) = nat_lt n (most_number + 1)
 begins_value (Quotation text) = true
 begins_value (Named name) = true
 begins_value (FnNamed name) = true

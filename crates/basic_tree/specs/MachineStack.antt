@@ -1,6 +1,7 @@
 -- What is still expected behind the words so far: a stack of symbols, and the trees made so far. No promise speaks of it: it carries proofs alone.
-use Rattle.std.specs.Prelude.{ℕ, List, [], ◌∷◌, ◌++◌, ◌&&◌, nat_lt, Bool, Option, Some}
+use Rattle.std.specs.Prelude.{ℕ, ◌+◌, List, [], ◌∷◌, ◌++◌, ◌&&◌, nat_lt, Bool, Option, Some}
 use Rattle.std.specs.Int.{is_power_of_two}
+use Rattle.basic_tree.specs.Limits.{most_number}
 use Rattle.basic_tree.specs.declared.names.Name.{Name}
 use Rattle.basic_tree.specs.declared.tokens.Keyword.{Keyword}
 use Rattle.basic_tree.specs.declared.tokens.Sign.{Sign}
@@ -58,8 +59,8 @@ pub data Limit : Type 0 where
   Size : Limit
 
 abbrev pub within : Limit → ℕ → Bool
-within LineNumber n = nat_lt 0 n && nat_lt n 32768
-within Bound n = nat_lt n 32768
+within LineNumber n = nat_lt 0 n && nat_lt n (most_number + 1)
+within Bound n = nat_lt n (most_number + 1)
 within Size n = is_power_of_two n && nat_lt 1 n && nat_lt n 513
 
 -- what is expected of a statement, and what behind each part that stands there

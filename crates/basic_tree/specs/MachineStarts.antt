@@ -1,5 +1,6 @@
 -- How an expression of a level begins with a word, and what is expected behind it. No promise speaks of it: it carries proofs alone.
-use Rattle.std.specs.Prelude.{ℕ, zero, suc, ◌==◌, nat_lt, not, if◌then◌else◌, List, [], ◌∷◌, ◌++◌, Bool, true, false, cond, Option, Some, None}
+use Rattle.std.specs.Prelude.{ℕ, zero, suc, ◌+◌, ◌==◌, nat_lt, not, if◌then◌else◌, List, [], ◌∷◌, ◌++◌, Bool, true, false, cond, Option, Some, None}
+use Rattle.basic_tree.specs.Limits.{most_number}
 use Rattle.basic_tree.specs.declared.tokens.Keyword.TheVariants as keyword
 use Rattle.basic_tree.specs.declared.tokens.Sign.TheVariants as sign
 use Rattle.basic_tree.specs.declared.expressions.Function.{Function}
@@ -50,7 +51,7 @@ function_start w vs (Some f) =
     if_takes w (gives_text f) (starts false (Several NoTrees ∷ vs) (arguments_expected (arguments_of f) ++ Do (MakeFunction f) ∷ []))
 
 abbrev pub atom : Want → Values → Word → Option Start
-atom w vs (Number n) = if_takes w false (cond (nat_lt n 32768) (starts false (Term (Literal n) ∷ vs) []) None)
+atom w vs (Number n) = if_takes w false (cond (nat_lt n (most_number + 1)) (starts false (Term (Literal n) ∷ vs) []) None)
 atom w vs (Quotation text) = if_takes w true (starts false (Term (Quoted text) ∷ vs) [])
 atom w vs (Named name) = if_takes w name.text (starts false vs (Subscripts name ∷ []))
 atom w vs (FnNamed name) = if_takes w name.text (starts false vs (Arguments name ∷ []))

@@ -1,5 +1,6 @@
 -- Which trees are expressions, and the words that spell each.
 use Rattle.std.specs.Prelude.{◌≡◌, ℕ, ◌<◌, ◌≤◌, Bool, true, false, not, ◌||◌, List, [], ◌∷◌, ◌++◌}
+use Rattle.basic_tree.specs.Limits.{most_number}
 use Rattle.basic_tree.specs.declared.tokens.Keyword.TheVariants as keyword
 use Rattle.basic_tree.specs.declared.tokens.Sign.{Sign}
 use Rattle.basic_tree.specs.declared.tokens.Sign.TheVariants as sign
@@ -106,7 +107,7 @@ AreSubscripts (AndTrees a (AndTrees b more)) = Fill (want.Number ∷ want.Number
 
 abbrev mutual
   pub IsTree : Tree → Type 0
-  IsTree (Literal n) = n ≤ 32767
+  IsTree (Literal n) = n ≤ most_number
   IsTree (Quoted text) = Unit {0}
   IsTree (Variable name) = Unit {0}
   IsTree (Element name subscripts) = AreTrees subscripts × AreSubscripts subscripts

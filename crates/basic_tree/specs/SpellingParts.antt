@@ -15,19 +15,19 @@ use Rattle.basic_tree.specs.declared.parts.OpenFor.TheVariants as purpose
 use Rattle.basic_tree.specs.SpellingWords.{Word, Punctuation, Named, FnNamed, Quotation, Plain, words}
 use Rattle.basic_tree.specs.Trees.{Tree, PrintedTree, Value, Tab, ModifierTree, If, Unless, While, Until, ForModifier, PrintItemTree, PrintChannelTree, PromptTree, ChainLineTree, CloseChannelTree, FieldPartTree}
 use Rattle.basic_tree.specs.SpellingExpressions.{steps_of, is_text, want_of}
-use Rattle.basic_tree.specs.SpellingPieces.{Piece, Fixed, Expression, NameOf, LiteralOf, Holds, key, sign_of, opening, opening_parenthesis, closing, number, bound, perhaps, optional, many}
+use Rattle.basic_tree.specs.SpellingPieces.{Piece, Fixed, Expression, NameOf, LiteralOf, Holds, key, sign_piece, opening, opening_parenthesis, closing, number, bound, perhaps, optional, many}
 
 -- ---- shapes of arrays
 
 abbrev pub shape : Shape → List Piece
 shape s =
     NameOf want.Either s.name ∷ opening_parenthesis ∷ bound s.first
-    ∷ (optional (λ second. sign_of sign.Comma ∷ bound second ∷ []) s.second ++ sign_of sign.Closing ∷ closing ∷ [])
+    ∷ (optional (λ second. sign_piece sign.Comma ∷ bound second ∷ []) s.second ++ sign_piece sign.Closing ∷ closing ∷ [])
 
 -- the bytes of an element: a power of two from 2 to 512, of a text array alone
 abbrev pub element_size : Name → ℕ → List Piece
 element_size name n =
-    Holds name.text ∷ sign_of sign.Equal ∷ LiteralOf (is_power_of_two n && nat_lt 1 n && nat_lt n 513) n ∷ []
+    Holds name.text ∷ sign_piece sign.Equal ∷ LiteralOf (is_power_of_two n && nat_lt 1 n && nat_lt n 513) n ∷ []
 
 abbrev pub file_shape : FileShape → List Piece
 file_shape s = shape s.shape ++ optional (λ size. element_size s.shape.name size) s.size
@@ -35,22 +35,22 @@ file_shape s = shape s.shape ++ optional (λ size. element_size s.shape.name siz
 -- ---- PRINT, INPUT and their channels
 
 abbrev pub separator_piece : Separator → Piece
-separator_piece separator.Comma = sign_of sign.Comma
-separator_piece separator.Semicolon = sign_of sign.Semicolon
+separator_piece separator.Comma = sign_piece sign.Comma
+separator_piece separator.Semicolon = sign_piece sign.Semicolon
 
 abbrev pub printed : PrintedTree → List Piece
 printed (Value t) = Expression want.Either t ∷ []
-printed (Tab t) = key keyword.Tab ∷ opening_parenthesis ∷ number t ∷ sign_of sign.Closing ∷ closing ∷ []
+printed (Tab t) = key keyword.Tab ∷ opening_parenthesis ∷ number t ∷ sign_piece sign.Closing ∷ closing ∷ []
 
 abbrev pub print_item : PrintItemTree → List Piece
 print_item item = printed item.printed ++ separator_piece item.separator ∷ []
 
 -- `#` and a channel
 abbrev pub channel : Tree → List Piece
-channel t = sign_of sign.Hash ∷ number t ∷ []
+channel t = sign_piece sign.Hash ∷ number t ∷ []
 
 abbrev pub print_channel : PrintChannelTree → List Piece
-print_channel c = channel c.number ++ perhaps c.comma (sign_of sign.Comma)
+print_channel c = channel c.number ++ perhaps c.comma (sign_piece sign.Comma)
 
 -- behind the channel of PRINT a comma stands where items follow
 abbrev pub is_parted : Option PrintChannelTree → List PrintItemTree → Option PrintedTree → Bool
@@ -59,7 +59,7 @@ is_parted (Some c) [] None = true
 is_parted (Some c) items last = c.comma
 
 abbrev pub channel_and_comma : Tree → List Piece
-channel_and_comma t = channel t ++ sign_of sign.Comma ∷ []
+channel_and_comma t = channel t ++ sign_piece sign.Comma ∷ []
 
 abbrev pub prompt : PromptTree → List Piece
 prompt p = Fixed (Plain (Quotation p.text)) ∷ separator_piece p.separator ∷ []
@@ -74,7 +74,7 @@ is_one a b = true
 -- `= start TO limit` and perhaps `STEP step`
 abbrev pub range : Name → Tree → Tree → Option Tree → List Piece
 range v start limit step =
-    NameOf want.Number v ∷ sign_of sign.Equal ∷ number start ∷ key keyword.To ∷ number limit
+    NameOf want.Number v ∷ sign_piece sign.Equal ∷ number start ∷ key keyword.To ∷ number limit
     ∷ optional (λ t. key keyword.Step ∷ number t ∷ []) step
 
 -- a modifier's word opens a level, in which its expressions stand
@@ -93,11 +93,11 @@ name n = NameOf want.Either n ∷ []
 -- parameters in parentheses, where there are any
 abbrev pub parameters : List Name → List Piece
 parameters [] = []
-parameters (n ∷ ns) = opening_parenthesis ∷ (many name (n ∷ ns) ++ sign_of sign.Closing ∷ closing ∷ [])
+parameters (n ∷ ns) = opening_parenthesis ∷ (many name (n ∷ ns) ++ sign_piece sign.Closing ∷ closing ∷ [])
 
 -- `=` and a value of a kind
 abbrev pub value : Bool → Tree → List Piece
-value is_textual t = sign_of sign.Equal ∷ Expression (want_of is_textual) t ∷ []
+value is_textual t = sign_piece sign.Equal ∷ Expression (want_of is_textual) t ∷ []
 
 -- the kind of the first target, which all have
 abbrev pub kind_of_first : List Tree → Bool
@@ -143,10 +143,10 @@ open_for purpose.Either = []
 
 -- a comma, a word and a number
 abbrev pub option_of : Keyword → Option Tree → List Piece
-option_of word t = optional (λ n. sign_of sign.Comma ∷ key word ∷ number n ∷ []) t
+option_of word t = optional (λ n. sign_piece sign.Comma ∷ key word ∷ number n ∷ []) t
 
 abbrev pub close_channel : CloseChannelTree → List Piece
-close_channel c = perhaps c.hash (sign_of sign.Hash) ++ number c.number ∷ []
+close_channel c = perhaps c.hash (sign_piece sign.Hash) ++ number c.number ∷ []
 
 abbrev pub field_part : FieldPartTree → List Piece
 field_part p = number p.width ∷ key keyword.As ∷ NameOf want.Text p.name ∷ []

@@ -1,5 +1,6 @@
 -- What statements are spelled from: words, expressions, names and literals; parts that may be left out, and lists.
-use Rattle.std.specs.Prelude.{◌≡◌, ℕ, ◌&&◌, Bool, true, false, nat_lt, if◌then◌else◌, List, [], ◌∷◌, ◌++◌, Option, Some, None}
+use Rattle.std.specs.Prelude.{◌≡◌, ℕ, ◌+◌, ◌&&◌, Bool, true, false, nat_lt, if◌then◌else◌, List, [], ◌∷◌, ◌++◌, Option, Some, None}
+use Rattle.basic_tree.specs.Limits.{most_number}
 use Rattle.basic_tree.specs.declared.names.Name.{Name}
 use Rattle.basic_tree.specs.declared.tokens.Keyword.{Keyword}
 use Rattle.basic_tree.specs.declared.tokens.Sign.{Sign}
@@ -50,8 +51,8 @@ ArePieces (p ∷ pieces) = IsPiece p × ArePieces pieces
 abbrev pub key : Keyword → Piece
 key k = Fixed (Plain (Key k))
 
-abbrev pub sign_of : Sign → Piece
-sign_of s = Fixed (Plain (Punctuation s))
+abbrev pub sign_piece : Sign → Piece
+sign_piece s = Fixed (Plain (Punctuation s))
 
 -- a word that opens a level of nesting, and the end of a level
 abbrev pub opening : Keyword → Piece
@@ -71,15 +72,15 @@ text t = Expression want.Text t
 
 -- the number of a line
 abbrev pub line : ℕ → Piece
-line n = LiteralOf (nat_lt 0 n && nat_lt n 32768) n
+line n = LiteralOf (nat_lt 0 n && nat_lt n (most_number + 1)) n
 
 -- the number of a line, or 0
 abbrev pub line_or_zero : ℕ → Piece
-line_or_zero n = LiteralOf (nat_lt n 32768) n
+line_or_zero n = LiteralOf (nat_lt n (most_number + 1)) n
 
 -- a bound of an array, or the channel of DIM
 abbrev pub bound : ℕ → Piece
-bound n = LiteralOf (nat_lt n 32768) n
+bound n = LiteralOf (nat_lt n (most_number + 1)) n
 
 -- a variable or an element of an array
 abbrev pub is_target : Tree → Bool
@@ -108,7 +109,7 @@ each pieces (a ∷ more) = pieces a ++ each pieces more
 -- each behind a comma
 abbrev pub after_commas : {A : Type 0} → (A → List Piece) → List A → List Piece
 after_commas pieces [] = []
-after_commas pieces (a ∷ more) = sign_of sign.Comma ∷ (pieces a ++ after_commas pieces more)
+after_commas pieces (a ∷ more) = sign_piece sign.Comma ∷ (pieces a ++ after_commas pieces more)
 
 -- one or more, with commas between
 abbrev pub many : {A : Type 0} → (A → List Piece) → List A → List Piece

@@ -7,7 +7,7 @@ use Rattle.basic_tree.specs.declared.kinds.Want.TheVariants as want
 use Rattle.basic_tree.specs.SpellingWords.{Word, FnNamed, Item, Step, Plain, words}
 use Rattle.basic_tree.specs.Trees.{ClauseTree, LineClause, StatementClause, ElseTree, NoElse, Else, StatementTree, IfThen, IfGoto, Modified, For, Next, FnEnd, Data, Dim, DimFile, Def, Let, Result, Print, Input, InputLine, Read, Restore, Goto, Gosub, Return, OnGoto, OnGosub, OnErrorGoto, Resume, Stop, End, Chain, Sleep, Open, Close, Get, Put, Unlock, Field, Lset, Rset, Kill, Rename, LineTree}
 use Rattle.basic_tree.specs.SpellingExpressions.{want_of}
-use Rattle.basic_tree.specs.SpellingPieces.{Piece, Fixed, NameOf, Holds, pieces_steps, ArePieces, key, sign_of, opening, closing, number, text, line, line_or_zero, bound, target, perhaps, optional, each, many}
+use Rattle.basic_tree.specs.SpellingPieces.{Piece, Fixed, NameOf, Holds, pieces_steps, ArePieces, key, sign_piece, opening, closing, number, text, line, line_or_zero, bound, target, perhaps, optional, each, many}
 use Rattle.basic_tree.specs.SpellingParts.{shape, file_shape, printed, print_item, channel, print_channel, is_parted, channel_and_comma, prompt, is_one, range, modifier, parameters, value, kind_of_first, chain_line, open_for, option_of, close_channel, field_part}
 
 -- ---- where a statement may stand
@@ -75,7 +75,7 @@ abbrev mutual
   pieces_of (Data list) = key keyword.Data ∷ items list
   pieces_of (Dim shapes) = key keyword.Dim ∷ many shape shapes
   pieces_of (DimFile c shapes) =
-      key keyword.Dim ∷ sign_of sign.Hash ∷ bound c ∷ sign_of sign.Comma ∷ many file_shape shapes
+      key keyword.Dim ∷ sign_piece sign.Hash ∷ bound c ∷ sign_piece sign.Comma ∷ many file_shape shapes
   pieces_of (Def f ps v) =
       key keyword.Def ∷ Fixed (Plain (FnNamed f)) ∷ Holds (nat_lt (length ps) 6)
       ∷ (parameters ps ++ optional (λ t. value f.text t) v)
@@ -107,7 +107,7 @@ abbrev mutual
   pieces_of (Open file purpose hash c record_size cluster_size mode) =
       key keyword.Open ∷ text file
       ∷ (open_for purpose ++ key keyword.As ∷ key keyword.File
-      ∷ (perhaps hash (sign_of sign.Hash) ++ number c
+      ∷ (perhaps hash (sign_piece sign.Hash) ++ number c
       ∷ (option_of keyword.RecordSize record_size ++ option_of keyword.ClusterSize cluster_size ++ option_of keyword.Mode mode)))
   pieces_of (Close cs) = key keyword.Close ∷ many close_channel cs
   pieces_of (Get c block) = key keyword.Get ∷ (channel c ++ option_of keyword.Record block)
@@ -135,7 +135,7 @@ statement_pieces s = pieces_of s ++ closings s
 abbrev pub line_pieces : LineTree → List Piece
 line_pieces l =
     optional statement_pieces l.first
-    ++ each (λ statement. sign_of sign.Colon ∷ optional statement_pieces statement) l.others
+    ++ each (λ statement. sign_piece sign.Colon ∷ optional statement_pieces statement) l.others
 
 abbrev pub line_steps : LineTree → List Step
 line_steps l = pieces_steps (line_pieces l)

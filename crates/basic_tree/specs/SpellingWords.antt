@@ -3,6 +3,7 @@ use Rattle.std.specs.Prelude.{ℕ, ◌+◌, ◌-◌, ◌==◌, nat_lt, min, if�
 use Rattle.std.specs.Char.{is_ascii_digit, to_ascii_uppercase}
 use Rattle.std.specs.List.{prefix_len}
 use Rattle.std.specs.Str.Parse.{digits_value}
+use Rattle.basic_tree.specs.Limits.{most_number}
 use Rattle.basic_tree.specs.Tokens.{Lexeme, keyword_of, sign_of}
 use Rattle.basic_tree.specs.declared.names.Name.{Name}
 use Rattle.basic_tree.specs.declared.tokens.Keyword.{Keyword}
@@ -48,12 +49,12 @@ abbrev pub sign_or_item : List ℕ → Option Sign → Word
 sign_or_item bytes (Some sign) = Punctuation (one_sign sign)
 sign_or_item bytes None = Item bytes
 
--- a literal by its value, where all above 32767 count alike (the scanner makes none)
+-- a literal by its value, where all above the greatest count alike (the scanner makes none)
 abbrev pub word_with : TokenKind → List ℕ → Word
 word_with kind.Keyword bytes = key_or_item bytes (keyword_of bytes)
 word_with kind.FnName bytes = FnNamed (name_of (drop 2 bytes))
 word_with kind.Variable bytes = Named (name_of bytes)
-word_with kind.Literal bytes = Number (min 32768 (digits_value 10 (take (prefix_len is_ascii_digit bytes) bytes)))
+word_with kind.Literal bytes = Number (min (most_number + 1) (digits_value 10 (take (prefix_len is_ascii_digit bytes) bytes)))
 word_with kind.Quoted bytes = Quotation (take (length bytes - 2) (drop 1 bytes))
 word_with kind.DataItem bytes = Item bytes
 word_with kind.Sign bytes = sign_or_item bytes (sign_of bytes)

@@ -7,10 +7,10 @@ use Rattle.basic_tree.specs.declared.tokens.Front.{Front}
 use Rattle.basic_tree.specs.declared.tokens.Front.TheVariants as front
 
 -- a token has at least one byte and lies in the rest of the line, and so do the four letters of DATA
-abbrev pub Fits : Front → List ℕ → Type 0
-Fits (front.Token k len) rest = (0 < len) × (len ≤ length rest)
-Fits front.Data rest = 4 ≤ length rest
-Fits other rest = Unit {0}
+abbrev pub LiesIn : Front → List ℕ → Type 0
+LiesIn (front.Token k len) rest = (0 < len) × (len ≤ length rest)
+LiesIn front.Data rest = 4 ≤ length rest
+LiesIn other rest = Unit {0}
 
 -- the bytes of a token are the slice of the line at its start
 pub record IsSlice (line : List ℕ) (token : Lexeme) : Type 0 where

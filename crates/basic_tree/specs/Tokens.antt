@@ -5,6 +5,7 @@ use Rattle.std.specs.List.{prefix_len}
 use Rattle.std.specs.Option.{option_map}
 use Rattle.std.specs.Str.Parse.{digits_value}
 pub use Rattle.basic_values.specs.Blanks.{is_blank}
+use Rattle.basic_tree.specs.Limits.{most_number}
 use Rattle.basic_tree.specs.Words.{keywords, signs}
 use Rattle.basic_tree.specs.declared.tokens.Keyword.{Keyword}
 use Rattle.basic_tree.specs.declared.tokens.Sign.{Sign}
@@ -88,21 +89,21 @@ letter_front rest =
     else name_front kind.Variable (name_end 0 rest) rest)
 
 -- what stands behind a run of digits and makes a floating number of it: a point, or E and a digit, or E, a sign and a digit
-abbrev pub is_exponent : List ℕ → Bool
-is_exponent behind =
+abbrev pub has_exponent : List ℕ → Bool
+has_exponent behind =
     is_ascii_digit (slice_index behind 1)
     || ((slice_index behind 1 == 43 || slice_index behind 1 == 45) && is_ascii_digit (slice_index behind 2))
 
 abbrev pub is_floating : List ℕ → Bool
 is_floating behind =
-    slice_index behind 0 == 46 || (to_ascii_uppercase (slice_index behind 0) == 69 && is_exponent behind)
+    slice_index behind 0 == 46 || (to_ascii_uppercase (slice_index behind 0) == 69 && has_exponent behind)
 
 -- at a digit: the run of digits, and `%` where it stands behind them
 unfoldable pub digit_front : List ℕ → Front
 digit_front rest =
     let len = prefix_len is_ascii_digit rest in
     if is_floating (drop len rest) then front.Refused cause.FloatingLiteral
-    else (if nat_lt 32767 (digits_value 10 (take len rest)) then front.Refused cause.NumberTooWide
+    else (if nat_lt most_number (digits_value 10 (take len rest)) then front.Refused cause.NumberTooWide
     else front.Token kind.Literal (if slice_index rest len == 37 then len + 1 else len))
 
 -- at a quote: all up to the next quote of its kind

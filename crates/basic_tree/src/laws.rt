@@ -1,7 +1,7 @@
 //! What a user relies on, as laws over the definitions: each is the contract of a function that does nothing.
 
 ghost use Rattle.basic_tree.specs.AnswerLaws.{LevelsAreSettled, OneExprAnswer, OneLineAnswer, OneBytesAnswer, OneVerdict};
-ghost use Rattle.basic_tree.specs.GrammarPlaces.{OneTree, OneLine, SpellingGivesBack};
+ghost use Rattle.basic_tree.specs.GrammarPlaces.{ExpressionsAreRead, OneTree, OneLine};
 ghost use Rattle.basic_tree.specs.LineVerdicts.{LinesAreJudged};
 ghost use Rattle.basic_tree.specs.TokenLaws.{TokensAreSlices, BlanksMoveTokens, BlanksSeparateTokens, LongestIsTaken};
 
@@ -40,9 +40,9 @@ pub fn lines_are_judged()
     ensures { LinesAreJudged }
 {}
 
-/// A line's words are given back by the spelling of its tree, and so are those of an expression.
-pub fn spelling_gives_back()
-    ensures { SpellingGivesBack }
+/// Behind each place words are read as an expression of the wanted kind, or refused.
+pub fn expressions_are_read()
+    ensures { ExpressionsAreRead }
 {}
 
 /// The level of nesting in which a word stands hangs on the words up to it, and on none behind it.
