@@ -1,6 +1,6 @@
 -- The words between two places, and those behind them.
-use Rattle.std.proofs.Common.{◌≡◌, ℕ, suc, ◌+◌, ◌-◌, ◌≤◌, ◌<◌, List, [], ◌∷◌, ◌++◌, length, take, drop, get_or, refl, sym, ap, ◌∙◌, append_assoc, arith, length-drop}
-use Rattle.std.proofs.lemmas.List.{take-append-drop, drop-drop, take_more, get_or-drop, length-take-le}
+use Rattle.std.proofs.Common.{◌≡◌, ℕ, suc, ◌+◌, ◌-◌, ◌≤◌, ◌<◌, List, ◌∷◌, ◌++◌, length, drop, get_or, sym, ap, ◌∙◌, arith, length-drop}
+use Rattle.std.proofs.lemmas.List.{take-append-drop, drop-drop}
 use Rattle.std.proofs.Math.Seq.{drop-cons}
 use Rattle.basic_tree.specs.SpellingWords.{Word, Number}
 use Rattle.basic_tree.specs.GrammarPlaces.{between}

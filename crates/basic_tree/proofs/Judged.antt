@@ -6,7 +6,7 @@ use Rattle.basic_tree.specs.SpellingWords.{Word, words_of, most_levels}
 use Rattle.basic_tree.specs.declared.kinds.Want.{Want}
 use Rattle.basic_tree.specs.declared.tokens.Cause.{Cause}
 use Rattle.basic_tree.specs.declared.tokens.Cause.TheVariants as cause
-use Rattle.basic_tree.specs.Trees.{Tree, ClauseTree, StatementClause, LineTree}
+use Rattle.basic_tree.specs.Trees.{Tree, ClauseTree, StatementClause}
 use Rattle.basic_tree.specs.SpellingExpressions.{is_text}
 use Rattle.basic_tree.specs.Tokens.{Lexeme, Reading, tokens_of}
 use Rattle.basic_tree.specs.MachineStack.{Values, parsed, top, stated, below, Form, IfKey, IfSign, ExprIf, LiteralIf, QuotedIf, MoreItems, MoreOf, ClauseIn, Symbol, Level, loosest, MoreRelations, Go, Await, AwaitClause}

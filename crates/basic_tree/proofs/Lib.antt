@@ -62,3 +62,7 @@ pub mod SoundSentences
 pub mod SoundSimple
 pub mod TokenLemmas
 pub mod WholePlaces
+pub mod KeywordLemmas
+pub mod TableSpelling
+pub mod NameSpelling
+pub mod LineSpelling

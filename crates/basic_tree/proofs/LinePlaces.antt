@@ -1,5 +1,5 @@
 -- Where the machine stops at a line: for each stack that spells lines alone and takes each of them.
-use Rattle.std.proofs.Common.{subst, ◌≡◌, ℕ, ◌+◌, ◌<◌, ◌≤◌, List, [], ◌++◌, length, take, drop, None, Ok, Err, refl, sym, ap, ◌∙◌, arith}
+use Rattle.std.proofs.Common.{subst, ◌≡◌, ℕ, ◌+◌, ◌<◌, ◌≤◌, List, [], length, take, drop, None, Ok, Err, refl, sym, ap, ◌∙◌, arith}
 use Rattle.std.proofs.lemmas.List.{append-nil, take-append-drop, drop_all}
 use Rattle.basic_tree.specs.declared.tokens.Cause.TheVariants as cause
 use Rattle.basic_tree.specs.SpellingWords.{Word, Step, words, most_levels, too_deep}
@@ -7,7 +7,7 @@ use Rattle.basic_tree.specs.Trees.{LineTree}
 use Rattle.basic_tree.specs.SpellingStatements.{line_steps, IsLine}
 use Rattle.basic_tree.specs.GrammarPlaces.{Line, IsLimit, IsReadLine, RefusesLine, OneLine}
 use Rattle.basic_tree.specs.MachineStack.{Values, Symbol}
-use Rattle.basic_tree.specs.MachineRun.{Wrong, TooDeep, Outcome, run}
+use Rattle.basic_tree.specs.MachineRun.{Wrong, TooDeep, run}
 use Rattle.basic_tree.proofs.MachineSpelled.{Spelled}
 use Rattle.basic_tree.proofs.MachineLevels.{Above}
 use Rattle.basic_tree.proofs.MachinePlaces.{values}

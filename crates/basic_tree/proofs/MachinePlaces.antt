@@ -1,17 +1,9 @@
 -- Where the machine stops: nothing that it takes goes on with the word that it refused.
-use Rattle.std.proofs.Common.{subst, ◌≡◌, ℕ, zero, suc, ◌+◌, List, [], ◌∷◌, ◌++◌, length, Some, None, Ok, Err, refl, sym, ap, ◌∙◌, append_assoc, arith}
-use Rattle.std.proofs.lemmas.List.{append-nil}
-use Rattle.basic_tree.specs.declared.kinds.Want.{Want}
-use Rattle.basic_tree.specs.SpellingWords.{Word, words, most_levels}
-use Rattle.basic_tree.specs.SpellingExpressions.{steps_of, IsExpr}
-use Rattle.basic_tree.specs.GrammarPlaces.{Begins}
-use Rattle.basic_tree.specs.MachineStack.{Term, Values, top, Symbol, Level, loosest}
+use Rattle.std.proofs.Common.{subst, ◌≡◌, ℕ, zero, suc, ◌+◌, List, [], ◌∷◌, ◌++◌, length, Some, None, Ok, Err, refl, sym, ap, ◌∙◌, arith}
+use Rattle.basic_tree.specs.SpellingWords.{Word, words}
+use Rattle.basic_tree.specs.MachineStack.{Values, Symbol}
 use Rattle.basic_tree.specs.MachineRun.{Turn, Next, Ended, Stuck, Deep, turn, Wrong, TooDeep, Outcome, turned, run}
-use Rattle.basic_tree.proofs.MachineSpelled.{Spelled, fill}
-use Rattle.basic_tree.proofs.MachineLeads.{words_append}
-use Rattle.basic_tree.proofs.MachineComplete.{depth_of}
-use Rattle.basic_tree.proofs.MachineForms.{taken_whole}
-use Rattle.basic_tree.specs.Trees.{Tree}
+use Rattle.basic_tree.proofs.MachineSpelled.{Spelled}
 use Rattle.basic_tree.proofs.MachineTurns.{ends, TurnBack, end_back, turn_back}
 use Rattle.basic_tree.proofs.MachinePasses.{left, left_short, Further, turn_more, passes}
 

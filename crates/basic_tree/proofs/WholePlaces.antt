@@ -1,7 +1,7 @@
 -- Where the machine stops: for each stack that spells wholes of a sort alone and takes each of them.
-use Rattle.std.proofs.Common.{subst, ◌≡◌, ℕ, suc, ◌+◌, ◌<◌, ◌≤◌, List, [], ◌∷◌, ◌++◌, length, take, drop, get_or, Some, None, Ok, Err, refl, sym, ap, ◌∙◌, append_assoc, arith}
+use Rattle.std.proofs.Common.{subst, ◌≡◌, ℕ, suc, ◌+◌, ◌<◌, ◌≤◌, List, ◌∷◌, ◌++◌, length, take, drop, get_or, Some, Err, refl, sym, ap, ◌∙◌, append_assoc, arith}
 use Rattle.std.proofs.lemmas.List.{take-append-drop, take_more, length-take-le}
-use Rattle.basic_tree.specs.SpellingWords.{Word, Number, Step, Opens, words, most_levels, too_deep}
+use Rattle.basic_tree.specs.SpellingWords.{Word, Number, Step, Opens, words, most_levels}
 use Rattle.basic_tree.specs.GrammarPlaces.{Whole, Begins, IsFlatTo, BeginsFlat, IsLimit, IsDeep}
 use Rattle.basic_tree.specs.MachineStack.{Values, Symbol}
 use Rattle.basic_tree.specs.MachineRun.{TooDeep, Outcome, run}

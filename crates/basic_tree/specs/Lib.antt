@@ -11,6 +11,7 @@ pub mod GrammarTables
 pub mod GrammarWords
 pub mod Limits
 pub mod LineVerdicts
+pub mod ReadableWords
 pub mod SpellingExpressions
 pub mod SpellingParts
 pub mod SpellingPieces

@@ -1,7 +1,9 @@
 -- What a user relies on of tokens, over their definition alone.
 use Rattle.basic_tree.specs.declared.tokens.TokenKind.TheVariants as kind
-use Rattle.std.specs.Prelude.{◌≢◌, ◌⊎◌, ◌++◌, nat_lt, if◌then◌else◌, ◌≡◌, ℕ, ◌+◌, ◌<◌, ◌≤◌, max, true, List, [], ◌∷◌, length, map, take, drop, Contains, Ok, Err}
-use Rattle.basic_tree.specs.Tokens.{Lexeme, Reading, is_blank, stands, longest_length, tokens_from, tokens_of}
+use Rattle.std.specs.Prelude.{◌≢◌, ◌⊎◌, ◌++◌, nat_lt, if◌then◌else◌, ◌≡◌, ℕ, ◌+◌, ◌<◌, ◌≤◌, max, true, slice_index, List, [], ◌∷◌, length, map, take, drop, Contains, Some, Ok, Err}
+use Rattle.std.specs.Char.{is_ascii_alphabetic}
+use Rattle.basic_tree.specs.declared.tokens.Keyword.{Keyword}
+use Rattle.basic_tree.specs.Tokens.{Lexeme, Reading, is_blank, stands, longest_length, keyword_of, keyword_front, front_of, tokens_from, tokens_of}
 use Rattle.basic_tree.specs.Words.{keywords}
 use Rattle.basic_tree.specs.declared.tokens.Front.{Front}
 use Rattle.basic_tree.specs.declared.tokens.Front.TheVariants as front
@@ -38,9 +40,18 @@ moved_reading by (Err refusal) = Err (record { place = refusal.place + by; cause
 abbrev pub BlanksMoveTokens : Type 0
 BlanksMoveTokens = (place blank : ℕ) (rest : List ℕ) → is_blank blank ≡ true → tokens_from place 0 (blank ∷ rest) ≡ moved_reading 1 (tokens_from place 0 rest)
 
--- of the words that stand at the front the longest is taken: none of them is longer
-abbrev pub LongestIsTaken : Type 0
-LongestIsTaken = (word rest : List ℕ) → Contains (map (λ entry. entry.1) keywords) word → stands word rest ≡ true → length word ≤ longest_length keywords rest
+-- a keyword that bytes at the front spell, as long as the longest, is what stands there: a comment for REM, items for DATA, else its token
+pub record IsTaken (rest : List ℕ) (k : Keyword) (word : List ℕ) : Type 0 where
+  pub listed : Contains keywords (k, word)
+  pub there : stands word rest ≡ true
+  pub longest : length word ≡ longest_length keywords rest
+  pub spelled : keyword_of (take (length word) rest) ≡ Some k
+  pub front : front_of rest ≡ keyword_front (take (length word) rest)
+
+-- of the keywords that stand at the front none is longer than the longest; where one stands at a letter, one as long is taken
+pub record LongestIsTaken : Type 0 where
+  pub none_longer : (word rest : List ℕ) → Contains (map (λ entry. entry.1) keywords) word → stands word rest ≡ true → length word ≤ longest_length keywords rest
+  pub taken : (rest : List ℕ) → is_ascii_alphabetic (slice_index rest 0) ≡ true → 0 < longest_length keywords rest → (k : Keyword) × (word : List ℕ) × IsTaken rest k word
 
 -- a blank put in at a place moves the tokens that start there or behind it
 abbrev pub moved_from : ℕ → Lexeme → Lexeme

@@ -3,6 +3,7 @@
 ghost use Rattle.basic_tree.specs.AnswerLaws.{LevelsAreSettled, OneExprAnswer, OneLineAnswer, OneBytesAnswer, OneVerdict};
 ghost use Rattle.basic_tree.specs.GrammarPlaces.{ExpressionsAreRead, OneTree, OneLine};
 ghost use Rattle.basic_tree.specs.LineVerdicts.{LinesAreJudged};
+ghost use Rattle.basic_tree.specs.ReadableWords.{TreesAreSpelled};
 ghost use Rattle.basic_tree.specs.TokenLaws.{TokensAreSlices, BlanksMoveTokens, BlanksSeparateTokens, LongestIsTaken};
 
 /// The tokens of a line are slices of it, whose starts rise and of which no two overlap.
@@ -15,7 +16,7 @@ pub fn blanks_move_tokens()
     ensures { BlanksMoveTokens }
 {}
 
-/// Of the keywords that stand at a place none is longer than the one that is taken.
+/// Of the keywords that stand at a place one of the longest is taken, and it is the token.
 pub fn longest_is_taken()
     ensures { LongestIsTaken }
 {}
@@ -38,6 +39,11 @@ pub fn one_line()
 /// Every line of bytes has a tree, or is refused for a cause: there is a judge of all lines.
 pub fn lines_are_judged()
     ensures { LinesAreJudged }
+{}
+
+/// Every admissible line within the limit of levels is spelled by some bytes, and so is every expression.
+pub fn trees_are_spelled()
+    ensures { TreesAreSpelled }
 {}
 
 /// Behind each place words are read as an expression of the wanted kind, or refused.

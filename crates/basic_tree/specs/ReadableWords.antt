@@ -1,0 +1,72 @@
+-- Which words bytes can spell, and that every line and expression of such words is spelled by some bytes.
+use Rattle.std.specs.Prelude.{◌≡◌, ◌≢◌, ◌⊎◌, ℕ, ◌≤◌, true, false, List, [], ◌∷◌, length, All, Option, Some, None, Ok}
+use Rattle.std.specs.Char.{is_ascii_digit}
+use Rattle.basic_tree.specs.Limits.{most_number}
+use Rattle.basic_tree.specs.declared.names.Name.{Name}
+use Rattle.basic_tree.specs.declared.tokens.Keyword.TheVariants as keyword
+use Rattle.basic_tree.specs.declared.tokens.Sign.TheVariants as sign
+use Rattle.basic_tree.specs.declared.kinds.Want.{Want}
+use Rattle.basic_tree.specs.Tokens.{Lexeme, quote_after, cuts, tokens_of}
+use Rattle.basic_tree.specs.SpellingWords.{Word, Key, Punctuation, Named, FnNamed, Number, Quotation, Item, words_of, words, too_deep}
+use Rattle.basic_tree.specs.Trees.{Tree, LineTree}
+use Rattle.basic_tree.specs.SpellingExpressions.{steps_of, IsTree, Fits}
+use Rattle.basic_tree.specs.SpellingPieces.{ArePieces}
+use Rattle.basic_tree.specs.SpellingStatements.{line_pieces, line_steps}
+use Rattle.basic_tree.specs.GrammarPlaces.{IsRead}
+use Rattle.basic_tree.specs.LineVerdicts.{Spells}
+
+-- a digit, or none
+abbrev pub IsDigit : Option ℕ → Type 0
+IsDigit None = Unit {0}
+IsDigit (Some d) = is_ascii_digit d ≡ true
+
+-- a capital letter and perhaps a digit
+abbrev pub IsSpelledName : Name → Type 0
+IsSpelledName name = (65 ≤ name.letter) × (name.letter ≤ 90) × IsDigit name.digit
+
+-- one of the two quotes does not stand in the text
+abbrev pub IsQuotable : List ℕ → Type 0
+IsQuotable text = All (λ b. b ≢ 34) text ⊎ All (λ b. b ≢ 39) text
+
+-- a word by itself: REM takes the rest of its line away, DATA makes items of it, and `**` and `\` are other spellings of two signs
+abbrev pub IsReadable : Word → Type 0
+IsReadable (Key keyword.Rem) = ⊥
+IsReadable (Key keyword.Data) = ⊥
+IsReadable (Punctuation sign.DoubleStar) = ⊥
+IsReadable (Punctuation sign.Backslash) = ⊥
+IsReadable (Named name) = IsSpelledName name
+IsReadable (FnNamed name) = IsSpelledName name
+IsReadable (Number n) = n ≤ most_number
+IsReadable (Quotation text) = IsQuotable text
+IsReadable (Item bytes) = ⊥
+IsReadable other = Unit {0}
+
+-- ---- the items of DATA
+
+-- no comma stands outside quotes, where this quote is open before
+abbrev pub IsUncut : Option ℕ → List ℕ → Type 0
+IsUncut quote [] = Unit {0}
+IsUncut quote (b ∷ bytes) = (cuts quote b ≡ false) × IsUncut (quote_after quote b) bytes
+
+-- the quote that is open behind bytes
+abbrev pub quote_behind : Option ℕ → List ℕ → Option ℕ
+quote_behind quote [] = quote
+quote_behind quote (b ∷ bytes) = quote_behind (quote_after quote b) bytes
+
+-- items, of which the last alone may leave a quote open
+abbrev pub AreItems : List Word → Type 0
+AreItems [] = ⊥
+AreItems (Item bytes ∷ []) = IsUncut None bytes
+AreItems (Item bytes ∷ (w ∷ ws)) = IsUncut None bytes × (quote_behind None bytes ≡ None) × AreItems (w ∷ ws)
+AreItems (other ∷ ws) = ⊥
+
+-- readable words; behind DATA there are items to the end
+abbrev pub AreReadable : List Word → Type 0
+AreReadable [] = Unit {0}
+AreReadable (Key keyword.Data ∷ ws) = AreItems ws
+AreReadable (w ∷ ws) = IsReadable w × AreReadable ws
+
+-- every line within the limit of levels, of readable words, is spelled by some bytes, and so is every expression
+pub record TreesAreSpelled : Type 0 where
+  pub lines : (l : LineTree) → ArePieces (line_pieces l) → too_deep (line_steps l) ≡ None → AreReadable (words (line_steps l)) → (line : List ℕ) × Spells line l
+  pub expressions : (w : Want) (t : Tree) → IsTree t → Fits w t → too_deep (steps_of t) ≡ None → AreReadable (words (steps_of t)) → (line : List ℕ) × (tokens : List Lexeme) × (tokens_of line ≡ Ok tokens) × IsRead w (words_of tokens) 0 t (length tokens)
