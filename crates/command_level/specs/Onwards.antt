@@ -1,10 +1,11 @@
 -- What the session's onward words stand for.
 use Rattle.command_level.specs.declared.session.Onward.{Onward}
 use Rattle.command_level.specs.declared.session.Onward.TheVariants as onward
-use Rattle.job_model.specs.Job.{Job, Gives, Breaks, Ended, Gone}
-use Rattle.job_model.specs.Talk.{Session, Step}
+use Rattle.job_model.specs.Act.{Gives, Breaks, Gone, Left}
+use Rattle.job_model.specs.Talk.{Session, Step, Ended}
 
-abbrev pub goes : Onward → Job Session → Step
-goes onward.Next job = Gives tt job
-goes onward.Ended job = Breaks Ended job
-goes onward.Expired job = Breaks Gone job
+-- what is left of a line behind which the session is in this state
+abbrev pub goes : Onward → Session → Step
+goes onward.Next s = Gives tt s
+goes onward.Ended s = Breaks (Left Ended) s
+goes onward.Expired s = Breaks Gone s

@@ -2,6 +2,7 @@
 use Rattle.std.specs.Prelude.{ℕ, ◌≤◌, List, map, length}
 use Rattle.std.specs.Borrow.{Bor}
 use Rattle.std.specs.Option.{option_map}
+use Rattle.basic_values.specs.declared.lists.TheConstants.{LINE_LENGTH}
 use Rattle.basic_tree.specs.LineVerdicts as grammar
 use Rattle.command_level.specs.declared.logins.LoginForm.{LoginForm}
 use Rattle.command_level.specs.declared.commands.Command.{Command}
@@ -27,17 +28,19 @@ command_seen (code.Immediate statement) = model.Immediate statement.now
 
 -- what is to be judged is no longer than a line may be
 abbrev pub IsShort : model.Command → Type 0
-IsShort (model.Numbered statement) = length statement ≤ 255
-IsShort (model.Immediate statement) = length statement ≤ 255
+IsShort (model.Numbered statement) = length statement ≤ LINE_LENGTH
+IsShort (model.Immediate statement) = length statement ≤ LINE_LENGTH
 IsShort other = Unit {0}
 
-abbrev pub verdict_seen : Verdict → grammar.Verdict
-verdict_seen verdict.HasTree = grammar.HasTree
-verdict_seen (verdict.RefusedFor cause) = grammar.RefusedFor cause
+-- what the grammar says of a line, without its tree
+abbrev pub without_tree : grammar.Verdict → Verdict
+without_tree (grammar.HasTree tree) = verdict.HasTree
+without_tree (grammar.RefusedFor cause) = verdict.RefusedFor cause
 
 -- words, without where they lie in memory
 abbrev pub words_seen : List (Bor (List ℕ)) → List (List ℕ)
 words_seen words = map (λ word. word.now) words
 
 abbrev pub seen : Session → talk.Session
-seen session = record { account = session.account; screen = session.screen }
+seen session =
+    record { account = session.account; screen = session.screen; keys = session.keys.now }

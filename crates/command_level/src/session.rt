@@ -1,14 +1,19 @@
 //! The session of one terminal: its keys, the requests that they make, and its screen.
+//!
+//! It stands on what a key line asks for (`commands`), what the grammar says of one (`judging`), and a
+//! port to a monitor. Each method is the code of one act of `job_model`'s `Talk`: where it asks the
+//! port it follows that act's tree, and where it asks nothing it is equal to what the tree leaves.
+//! `serve` carries the promise of all of it: the session is the talk.
 
-ghost use Rattle.std.specs.Prelude.{◌≡◌, ◌≤◌, ℕ, List, length, IfOk, OnOk, OnErr};
+ghost use Rattle.std.specs.Prelude.{◌≡◌, ◌≤◌, ℕ, List, length, IfOk, OnErr};
 ghost use Rattle.monitor_calls.specs.Pairs.{Pair, requests, replies, Grew};
 ghost use Rattle.monitor_calls.specs.declared.calls.Request.TheVariants as request;
 ghost use Rattle.basic_tree.specs.MachineJudge.{judge_of};
-ghost use Rattle.basic_tree.specs.LineVerdicts.{HasTree};
 ghost use Rattle.job_model.specs.Commands.{print_of};
 ghost use Rattle.job_model.specs.Asking.{counts_as};
-ghost use Rattle.job_model.specs.Follow.{Does, Starts, Leads};
-ghost use Rattle.job_model.specs.Talk.{answered, entered, hello, log_out, numbered_text, immediate_text, visitor_acts, user_acts, line_acts, leave, IsTalk, BeginsTalk};
+ghost use Rattle.job_model.specs.Play.{at_start};
+ghost use Rattle.job_model.specs.Follow.{Follows, unless_memory};
+ghost use Rattle.job_model.specs.Talk.{answered, entered, hello, log_out, numbered_text, immediate_text, sum_text, visitor_acts, user_acts, line_acts, leave, TakesKey, IsTalk, BeginsTalk};
 ghost use Rattle.command_level.specs.Seen.{seen, login_seen, command_seen, IsShort};
 ghost use Rattle.command_level.specs.Onwards.{goes};
 ghost use Rattle.std.specs.Option.{option_map};
@@ -18,7 +23,7 @@ use crate::commands::{Command, command_of, print_of};
 use crate::judging::{Verdict, judge, refusal_text};
 use crate::logins::LoginForm;
 use crate::screen::Screen;
-use basic_values::{Fault, Int, KeyLine, NoMemory};
+use basic_values::{Fault, Int, KeyLine, LINE_LENGTH, NoMemory};
 use monitor_calls::{Account, Port, Reply, Request};
 use std::alloc::Global;
 
@@ -26,7 +31,7 @@ use std::alloc::Global;
 const NOT_IN_STAGE: &[u8] = b"?Not in this stage\r\n";
 
 /// Whether the session goes on behind a line.
-#[derive(Clone, Copy, Debug, PartialEq, Eq)]
+#[derive(Clone, Copy)]
 pub(crate) enum Onward {
     Next,
     /// It has ended by BYE.
@@ -35,18 +40,21 @@ pub(crate) enum Onward {
     Expired,
 }
 
-/// What is kept from line to line: the account that the session acts for, if it is logged in, and the screen.
-#[derive(Debug, Drop)]
-pub(crate) struct Session {
+/// What is kept from line to line: the account that the session acts for, if it is logged in, the
+/// screen, and the key lines that are left.
+#[derive(Drop)]
+pub(crate) struct Session<'a> {
     pub(crate) account: Option<Account>,
     pub(crate) screen: Screen,
+    pub(crate) keys: &'a [KeyLine],
 }
 
-/// The session of a terminal with these keys: what it shows when it has ended. It asks the port for what it wants of
-/// the monitor.
+/// The session of a terminal with these keys: what it shows when it has ended. It asks the port for
+/// what it wants of the monitor.
 pub fn serve<P: Port>(alloc: Global, keys: &[KeyLine], port: &mut P) -> Result<Screen, NoMemory>
     // The requests and the screen are those of the talk, whose lines the grammar judges.
-    ensures talk { IfOk result (λ screen. (pairs : List Pair) × Grew P.who P.log port.old port.new pairs
+    ensures talk { IfOk result (λ screen. (pairs : List Pair)
+        × Grew P.who P.log port.old port.new pairs
         × IsTalk keys.now (replies pairs) (requests pairs) screen) }
     // What was asked begins what the talk asks.
     ensures memory { OnErr result ((pairs : List Pair) × Grew P.who P.log port.old port.new pairs
@@ -55,28 +63,48 @@ pub fn serve<P: Port>(alloc: Global, keys: &[KeyLine], port: &mut P) -> Result<S
     let mut session = Session {
         account: None,
         screen: Screen::new(alloc),
+        keys,
     };
-    for line in keys {
+    while let Some(line) = session.next_key() {
         match session.take_line(alloc, line, port)? {
             Onward::Next => {}
-            Onward::Ended | Onward::Expired => return Ok(session.screen),
+            Onward::Ended => return Ok(session.screen),
+            Onward::Expired => {
+                session.screen.write(b"?Job expired\r\n")?;
+                return Ok(session.screen);
+            }
         }
     }
     session.leave(alloc, port)?;
     Ok(session.screen)
 }
 
-impl Session {
+impl<'a> Session<'a> {
+    /// The next key line, which is no longer among those that are left.
+    fn next_key(&mut self) -> Option<&'a KeyLine>
+        ensures { TakesKey (seen self.old) (seen self.new) (option_map (λ line. line.now) result) }
+    {
+        match self.keys {
+            [line, left @ ..] => {
+                self.keys = left;
+                Some(line)
+            }
+            [] => None,
+        }
+    }
+
     /// One key line: its echo, and what it asks for.
+    #[tactic(auto, using(crate::proofs::SessionLemmas::calls))]
     fn take_line<P: Port>(
         &mut self,
         alloc: Global,
         line: &KeyLine,
         port: &mut P,
     ) -> Result<Onward, NoMemory>
-        ensures same { P.who port.new ≡ P.who port.old }
-        ensures means { IfOk result (λ onward. Does (P.log port.old) (P.log port.new) (seen self.old) (seen self.new) (line_acts judge_of line.now) (goes onward)) }
-        ensures memory { OnErr result (Starts (P.log port.old) (P.log port.new) (seen self.old) (line_acts judge_of line.now)) }
+        ensures keys { self.new.keys ≡ self.old.keys }
+        ensures means { Follows P.who P.log port.old port.new at_start at_start
+            (line_acts judge_of line.now (seen self.old))
+            (unless_memory result (λ onward. goes onward (seen self.new))) }
     {
         let bytes = line.as_bytes();
         self.screen.echo(bytes)?;
@@ -88,15 +116,17 @@ impl Session {
     }
 
     /// What a command does before the login.
+    #[tactic(auto, using(crate::proofs::SessionLemmas::calls))]
     fn visitor_acts<P: Port>(
         &mut self,
         alloc: Global,
         command: &Command<'_>,
         port: &mut P,
     ) -> Result<Onward, NoMemory>
-        ensures same { P.who port.new ≡ P.who port.old }
-        ensures means { IfOk result (λ onward. Does (P.log port.old) (P.log port.new) (seen self.old) (seen self.new) (visitor_acts (command_seen command.now)) (goes onward)) }
-        ensures memory { OnErr result (Starts (P.log port.old) (P.log port.new) (seen self.old) (visitor_acts (command_seen command.now))) }
+        ensures keys { self.new.keys ≡ self.old.keys }
+        ensures means { Follows P.who P.log port.old port.new at_start at_start
+            (visitor_acts (command_seen command.now) (seen self.old))
+            (unless_memory result (λ onward. goes onward (seen self.new))) }
     {
         match command {
             Command::Hello(form) => self.hello(alloc, *form, port),
@@ -110,6 +140,7 @@ impl Session {
     }
 
     /// What a command does behind the login.
+    #[tactic(auto, using(crate::proofs::SessionLemmas::calls))]
     fn user_acts<P: Port>(
         &mut self,
         alloc: Global,
@@ -117,9 +148,10 @@ impl Session {
         port: &mut P,
     ) -> Result<Onward, NoMemory>
         requires { IsShort (command_seen command.now) }
-        ensures same { P.who port.new ≡ P.who port.old }
-        ensures means { IfOk result (λ onward. Does (P.log port.old) (P.log port.new) (seen self.old) (seen self.new) (user_acts judge_of (command_seen command.now)) (goes onward)) }
-        ensures memory { OnErr result (Starts (P.log port.old) (P.log port.new) (seen self.old) (user_acts judge_of (command_seen command.now))) }
+        ensures keys { self.new.keys ≡ self.old.keys }
+        ensures means { Follows P.who P.log port.old port.new at_start at_start
+            (user_acts judge_of (command_seen command.now) (seen self.old))
+            (unless_memory result (λ onward. goes onward (seen self.new))) }
     {
         match command {
             Command::Hello(_) => self.answer(b"?Already logged in\r\n"),
@@ -136,9 +168,13 @@ impl Session {
     }
 
     /// A program line, of which nothing is kept.
+    #[tactic(auto, using(crate::proofs::VerdictLemmas::texts))]
     fn store(&mut self, alloc: Global, statement: &[u8]) -> Result<Onward, NoMemory>
-        requires { length statement.now ≤ 255 }
-        ensures means { IfOk result (λ onward. Leads (seen self.old) (seen self.new) (answered (numbered_text (judge_of statement.now))) (goes onward)) }
+        requires { length statement.now ≤ LINE_LENGTH }
+        ensures keys { self.new.keys ≡ self.old.keys }
+        ensures means { IfOk result (λ onward.
+            answered (numbered_text (judge_of statement.now)) (seen self.old)
+            ≡ goes onward (seen self.new)) }
     {
         match judge(alloc, statement)? {
             Verdict::RefusedFor(cause) => self.answer(refusal_text(cause)),
@@ -147,9 +183,15 @@ impl Session {
     }
 
     /// A line of immediate mode, of which PRINT of one sum of literals runs.
+    #[tactic(auto, using(crate::proofs::VerdictLemmas::texts))]
     fn run(&mut self, alloc: Global, statement: &[u8]) -> Result<Onward, NoMemory>
-        requires { length statement.now ≤ 255 }
-        ensures means { IfOk result (λ onward. Leads (seen self.old) (seen self.new) (answered (immediate_text (judge_of statement.now) (print_of statement.now))) (goes onward)) }
+        requires { length statement.now ≤ LINE_LENGTH }
+        ensures keys { self.new.keys ≡ self.old.keys }
+        ensures means { IfOk result (λ onward.
+            answered
+            (immediate_text (judge_of statement.now) (print_of statement.now))
+            (seen self.old)
+            ≡ goes onward (seen self.new)) }
     {
         match judge(alloc, statement)? {
             Verdict::RefusedFor(cause) => self.answer(refusal_text(cause)),
@@ -159,7 +201,10 @@ impl Session {
 
     /// The value, where there is one to print.
     fn print(&mut self, value: Option<Int>) -> Result<Onward, NoMemory>
-        ensures means { IfOk result (λ onward. Leads (seen self.old) (seen self.new) (answered (immediate_text HasTree value)) (goes onward)) }
+        ensures keys { self.new.keys ≡ self.old.keys }
+        ensures means { IfOk result (λ onward.
+            answered (sum_text value) (seen self.old)
+            ≡ goes onward (seen self.new)) }
     {
         match value {
             Some(value) => {
@@ -172,7 +217,10 @@ impl Session {
 
     /// A command that is done: its text, and Ready.
     fn answer(&mut self, text: &[u8]) -> Result<Onward, NoMemory>
-        ensures means { IfOk result (λ onward. Leads (seen self.old) (seen self.new) (answered text.now) (goes onward)) }
+        ensures keys { self.new.keys ≡ self.old.keys }
+        ensures means { IfOk result (λ onward.
+            answered text.now (seen self.old)
+            ≡ goes onward (seen self.new)) }
     {
         self.screen.write(text)?;
         self.screen.write(b"Ready\r\n")?;
@@ -180,15 +228,17 @@ impl Session {
     }
 
     /// HELLO: a wrong form and a wrong login have one answer.
+    #[tactic(auto, using(crate::proofs::SessionLemmas::calls))]
     fn hello<P: Port>(
         &mut self,
         alloc: Global,
         form: Option<LoginForm>,
         port: &mut P,
     ) -> Result<Onward, NoMemory>
-        ensures same { P.who port.new ≡ P.who port.old }
-        ensures means { IfOk result (λ onward. Does (P.log port.old) (P.log port.new) (seen self.old) (seen self.new) (hello (option_map login_seen form)) (goes onward)) }
-        ensures memory { OnErr result (Starts (P.log port.old) (P.log port.new) (seen self.old) (hello (option_map login_seen form))) }
+        ensures keys { self.new.keys ≡ self.old.keys }
+        ensures means { Follows P.who P.log port.old port.new at_start at_start
+            (hello (option_map login_seen form) (seen self.old))
+            (unless_memory result (λ onward. goes onward (seen self.new))) }
     {
         match form {
             None => {
@@ -209,7 +259,10 @@ impl Session {
 
     /// What the reply to a login leads to. A reply that is none to it counts as Expired.
     fn enter(&mut self, account: Account, reply: &Reply) -> Result<Onward, NoMemory>
-        ensures means { IfOk result (λ onward. (password : List ℕ) → Leads (seen self.old) (seen self.new) (entered account (counts_as (request.Login account password) reply.now)) (goes onward)) }
+        ensures keys { self.new.keys ≡ self.old.keys }
+        ensures means { IfOk result (λ onward. (password : List ℕ) →
+            entered account (counts_as (request.Login account password) reply.now) (seen self.old)
+            ≡ goes onward (seen self.new)) }
     {
         match reply {
             Reply::Done => {
@@ -221,18 +274,18 @@ impl Session {
                 self.screen.write(b"Invalid entry - try again\r\n")?;
                 Ok(Onward::Next)
             }
-            Reply::Failed(_) | Reply::Expired => {
-                self.screen.write(b"?Job expired\r\n")?;
-                Ok(Onward::Expired)
-            }
+            Reply::Failed(_) | Reply::Expired => Ok(Onward::Expired),
         }
     }
 
-    /// BYE, and the end of the keys, behind the login. Whatever is replied to a logout counts as Done.
+    /// BYE, and the end of the keys, behind the login. Whatever is replied to a logout counts as
+    /// Done.
+    #[tactic(auto, using(crate::proofs::SessionLemmas::calls))]
     fn log_out<P: Port>(&mut self, alloc: Global, port: &mut P) -> Result<(), NoMemory>
-        ensures same { P.who port.new ≡ P.who port.old }
-        ensures means { OnOk result (Does (P.log port.old) (P.log port.new) (seen self.old) (seen self.new) log_out (goes Onward.Ended)) }
-        ensures memory { OnErr result (Starts (P.log port.old) (P.log port.new) (seen self.old) log_out) }
+        ensures keys { self.new.keys ≡ self.old.keys }
+        ensures means { Follows P.who P.log port.old port.new at_start at_start
+            (log_out (seen self.old))
+            (unless_memory result (λ done. goes Onward.Ended (seen self.new))) }
     {
         port.ask(alloc, Request::Logout)?;
         self.screen.write(b"Bye\r\n")?;
@@ -240,10 +293,12 @@ impl Session {
     }
 
     /// The end of the keys.
+    #[tactic(auto, using(crate::proofs::SessionLemmas::calls))]
     fn leave<P: Port>(&mut self, alloc: Global, port: &mut P) -> Result<(), NoMemory>
-        ensures same { P.who port.new ≡ P.who port.old }
-        ensures means { OnOk result (Does (P.log port.old) (P.log port.new) (seen self.old) (seen self.new) (leave self.old.account) (goes Onward.Ended)) }
-        ensures memory { OnErr result (Starts (P.log port.old) (P.log port.new) (seen self.old) (leave self.old.account)) }
+        ensures keys { self.new.keys ≡ self.old.keys }
+        ensures means { Follows P.who P.log port.old port.new at_start at_start
+            (leave self.old.account (seen self.old))
+            (unless_memory result (λ done. goes Onward.Ended (seen self.new))) }
     {
         match self.account {
             None => Ok(()),

@@ -1,11 +1,11 @@
--- Asking: a request is made, and the next reply is taken.
-use Rattle.std.specs.Prelude.{Bool, true, false, if◌then◌else◌, List, [], ◌∷◌, ◌++◌}
+-- Asking: a request is made, and it goes on by what the reply counts as.
+use Rattle.std.specs.Prelude.{Bool, true, false, if◌then◌else◌}
 use Rattle.monitor_calls.specs.declared.calls.Request.{Request}
 use Rattle.monitor_calls.specs.declared.calls.Request.TheVariants.{Login, Logout, Tick}
 use Rattle.monitor_calls.specs.declared.calls.Reply.{Reply}
 use Rattle.monitor_calls.specs.declared.calls.Reply.TheVariants.{Done, Failed, Expired}
 use Rattle.monitor_calls.specs.Volumes.{is_between}
-use Rattle.job_model.specs.Job.{Job, Got, Gives, Breaks, Waiting}
+use Rattle.job_model.specs.Act.{Act, Gives, Asks}
 
 -- which reply can be one to which request; errors are numbered from 1 to 70
 abbrev pub fits : Request → Reply → Bool
@@ -28,10 +28,5 @@ unfitting Tick = Expired
 abbrev pub counts_as : Request → Reply → Reply
 counts_as request reply = if fits request reply then reply else unfitting request
 
--- the next reply, where there is one
-abbrev pub reply_from : {S : Type 0} → List Reply → Request → Job S → Got S Reply
-reply_from [] request job = Breaks Waiting job
-reply_from (reply ∷ replies) request job = Gives (counts_as request reply) (record job { replies = replies })
-
-abbrev pub ask : {S : Type 0} → Request → Job S → Got S Reply
-ask request job = reply_from job.replies request (record job { requests = job.requests ++ request ∷ [] })
+abbrev pub ask : {L S : Type 0} → Request → S → Act L S Reply
+ask request s = Asks request (λ reply. Gives (counts_as request reply) s)

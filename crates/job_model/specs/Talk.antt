@@ -1,6 +1,7 @@
--- The talk of a terminal: the requests that its session makes and the bytes that it shows, given its keys and the replies.
--- A judge says of each line that is a statement whether the grammar has a tree for it, or why it refuses it.
-use Rattle.std.specs.Prelude.{◌≡◌, ℕ, List, [], ◌∷◌, ◌++◌, Option, Some, None, ℤ}
+-- The talk of a terminal: the requests that its session makes and the bytes that it shows, given its
+-- keys and the replies. A judge says of each line that is a statement which tree the grammar has for
+-- it, or why it refuses it.
+use Rattle.std.specs.Prelude.{◌≡◌, ℕ, zero, suc, List, [], ◌∷◌, ◌++◌, length, Option, Some, None, ℤ}
 use Rattle.monitor_calls.specs.declared.names.Account.{Account}
 use Rattle.monitor_calls.specs.declared.calls.Request.{Request}
 use Rattle.monitor_calls.specs.declared.calls.Request.TheVariants as request
@@ -8,113 +9,147 @@ use Rattle.monitor_calls.specs.declared.calls.Reply.{Reply}
 use Rattle.monitor_calls.specs.declared.calls.Reply.TheVariants.{Done, Failed, Expired}
 use Rattle.basic_values.specs.Numbers.{printed}
 use Rattle.basic_tree.specs.LineVerdicts.{Verdict, HasTree, RefusedFor, Judge, Judges}
-use Rattle.job_model.specs.Job.{Job, job_of, Got, Gives, Breaks, Ended, Gone, Waiting, ◌then◌}
+use Rattle.job_model.specs.Act.{Act, Gives, Breaks, Gone, Left, ◌then◌}
 use Rattle.job_model.specs.Asking.{ask}
 use Rattle.job_model.specs.Commands.{Login, Command, Hello, Bye, BadBye, Idle, Later, Numbered, Immediate, command_of, print_of}
-use Rattle.job_model.specs.Follow.{Begins}
+use Rattle.job_model.specs.Play.{at_start, fuel_for, play, End, Gave, Broke, Finished, Played, told_by}
+use Rattle.job_model.specs.PlayLaws.{Begins}
 use Rattle.job_model.specs.Texts.{line_end, ready, please_say_hello, invalid_entry, already_logged_in, illegal_command, not_in_stage, bye, job_expired, refusal_text}
 
--- the account that the session acts for, or none before its login, and the bytes on the screen
+-- THE SESSION
+
+-- the account that it acts for, or none before its login; the bytes on the screen; the keys left
 pub record Session : Type 0 where
   pub account : Option Account
   pub screen : List ℕ
+  pub keys : List (List ℕ)
+
+-- it is left by BYE, and at the end of its keys
+pub data Leaving : Type 0 where
+  Ended : Leaving
 
 abbrev pub Step : Type 0
-Step = Got Session Unit
+Step = Act Leaving Session Unit
 
 -- bytes are written at the end of the screen
-abbrev pub says : List ℕ → Job Session → Job Session
-says text job = record job { state = record job.state { screen = job.state.screen ++ text } }
+abbrev pub says : List ℕ → Session → Session
+says text s = record s { screen = s.screen ++ text }
 
-abbrev pub acts_for : Account → Job Session → Job Session
-acts_for account job = record job { state = record job.state { account = Some account } }
+abbrev pub acts_for : Account → Session → Session
+acts_for account s = record s { account = Some account }
+
+abbrev pub keys_are : List (List ℕ) → Session → Session
+keys_are keys s = record s { keys = keys }
 
 -- a command that is done, with what it writes before Ready
-abbrev pub answered : List ℕ → Job Session → Step
-answered text job = Gives tt (says ready (says text job))
+abbrev pub answered : List ℕ → Session → Step
+answered text s = Gives tt (says ready (says text s))
 
 -- HELLO: the reply decides
-abbrev pub entered : Account → Reply → Job Session → Step
-entered account Done job = Gives tt (says ready (acts_for account job))
-entered account (Failed number) job = Gives tt (says invalid_entry job)
-entered account Expired job = Breaks Gone (says job_expired job)
+abbrev pub entered : Account → Reply → Session → Step
+entered account Done s = Gives tt (says ready (acts_for account s))
+entered account (Failed number) s = Gives tt (says invalid_entry s)
+entered account Expired s = Breaks Gone s
 
-abbrev pub hello : Option Login → Job Session → Step
-hello None job = Gives tt (says invalid_entry job)
-hello (Some login) job = ask (request.Login login.account login.password) job then entered login.account
+abbrev pub hello : Option Login → Session → Step
+hello None s = Gives tt (says invalid_entry s)
+hello (Some login) s = ask (request.Login login.account login.password) s then entered login.account
 
 -- BYE, and the end of the keys: who is logged in logs out
-abbrev pub log_out : Job Session → Step
-log_out job = ask request.Logout job then λ reply job. Breaks Ended (says bye job)
+abbrev pub log_out : Session → Step
+log_out s = ask request.Logout s then λ reply s. Breaks (Left Ended) (says bye s)
 
-abbrev pub leave : Option Account → Job Session → Step
-leave None job = Breaks Ended job
-leave (Some account) job = log_out job
+abbrev pub leave : Option Account → Session → Step
+leave None s = Breaks (Left Ended) s
+leave (Some account) s = log_out s
 
 -- a program line: it is refused, or it would be stored
 abbrev pub numbered_text : Verdict → List ℕ
 numbered_text (RefusedFor cause) = refusal_text cause
-numbered_text HasTree = not_in_stage
+numbered_text (HasTree tree) = not_in_stage
 
 -- a line of immediate mode: it is refused, or it is done where it is PRINT of one sum of literals
+abbrev pub sum_text : Option ℤ → List ℕ
+sum_text (Some value) = printed value ++ line_end
+sum_text None = not_in_stage
+
 abbrev pub immediate_text : Verdict → Option ℤ → List ℕ
 immediate_text (RefusedFor cause) value = refusal_text cause
-immediate_text HasTree (Some value) = printed value ++ line_end
-immediate_text HasTree None = not_in_stage
+immediate_text (HasTree tree) value = sum_text value
 
-abbrev pub visitor_acts : Command → Job Session → Step
-visitor_acts (Hello login) job = hello login job
-visitor_acts Bye job = Breaks Ended job
-visitor_acts BadBye job = answered illegal_command job
-visitor_acts Idle job = Gives tt (says please_say_hello job)
-visitor_acts Later job = Gives tt (says please_say_hello job)
-visitor_acts (Numbered statement) job = Gives tt (says please_say_hello job)
-visitor_acts (Immediate statement) job = Gives tt (says please_say_hello job)
+abbrev pub visitor_acts : Command → Session → Step
+visitor_acts (Hello login) s = hello login s
+visitor_acts Bye s = Breaks (Left Ended) s
+visitor_acts BadBye s = answered illegal_command s
+visitor_acts Idle s = Gives tt (says please_say_hello s)
+visitor_acts Later s = Gives tt (says please_say_hello s)
+visitor_acts (Numbered statement) s = Gives tt (says please_say_hello s)
+visitor_acts (Immediate statement) s = Gives tt (says please_say_hello s)
 
-abbrev pub user_acts : Judge → Command → Job Session → Step
-user_acts judge (Hello login) job = answered already_logged_in job
-user_acts judge Bye job = log_out job
-user_acts judge BadBye job = answered illegal_command job
-user_acts judge Idle job = Gives tt job
-user_acts judge Later job = answered not_in_stage job
-user_acts judge (Numbered statement) job = answered (numbered_text (judge statement)) job
-user_acts judge (Immediate statement) job = answered (immediate_text (judge statement) (print_of statement)) job
+abbrev pub user_acts : Judge → Command → Session → Step
+user_acts judge (Hello login) s = answered already_logged_in s
+user_acts judge Bye s = log_out s
+user_acts judge BadBye s = answered illegal_command s
+user_acts judge Idle s = Gives tt s
+user_acts judge Later s = answered not_in_stage s
+user_acts judge (Numbered statement) s = answered (numbered_text (judge statement)) s
+user_acts judge (Immediate statement) s =
+    answered (immediate_text (judge statement) (print_of statement)) s
 
-abbrev pub acts : Judge → Option Account → Command → Job Session → Step
-acts judge None command job = visitor_acts command job
-acts judge (Some account) command job = user_acts judge command job
+abbrev pub acts : Judge → Option Account → Command → Session → Step
+acts judge None command s = visitor_acts command s
+acts judge (Some account) command s = user_acts judge command s
 
 -- one key line: its echo, and what it asks for
-abbrev pub line_acts : Judge → List ℕ → Job Session → Step
-line_acts judge line job = acts judge job.state.account (command_of line) (says (line ++ line_end) job)
+abbrev pub line_acts : Judge → List ℕ → Session → Step
+line_acts judge line s = acts judge s.account (command_of line) (says (line ++ line_end) s)
 
--- the key lines one after another, and then the end of the keys
-abbrev pub session : Judge → List (List ℕ) → Job Session → Step
-session judge [] job = leave job.state.account job
-session judge (line ∷ lines) job = line_acts judge line job then λ _ job. session judge lines job
+-- The next key line is taken, where there is one: it is no longer among those that are left.
+abbrev pub TakesKey : Session → Session → Option (List ℕ) → Type 0
+TakesKey s t None = (s.keys ≡ []) × (t ≡ s)
+TakesKey s t (Some line) = (s.keys ≡ line ∷ t.keys) × (t ≡ keys_are t.keys s)
+
+-- what is done with the next key line; behind the last one comes the end of the keys
+abbrev pub with_next : (List ℕ → Session → Step) → List (List ℕ) → Session → Step
+with_next act [] s = leave s.account s
+with_next act (line ∷ keys) s = act line (keys_are keys s)
+
+-- Key lines one after another, so many at the most. Each is taken from those that are left, so as
+-- many as there are at first are enough.
+abbrev pub session : Judge → ℕ → Session → Step
+session judge zero s = leave s.account s
+session judge (suc most) s =
+    with_next (λ line s. line_acts judge line s then λ _ s. session judge most s) s.keys s
 
 -- nobody is logged in, and nothing was written
-abbrev pub opening : Session
-opening = record { account = None; screen = [] }
+abbrev pub opening : List (List ℕ) → Session
+opening keys = record { account = None; screen = []; keys = keys }
 
--- the session has ended with these bytes, or it waits for a reply
-pub data Outcome : Type 0 where
-  Finished : List ℕ → Outcome
-  Waits : Outcome
+abbrev pub whole_session : Judge → List (List ℕ) → Step
+whole_session judge keys = session judge (length keys) (opening keys)
 
-abbrev pub told : Step → List Request × Outcome
-told (Gives done job) = (job.requests, Finished job.state.screen)
-told (Breaks Ended job) = (job.requests, Finished job.state.screen)
-told (Breaks Gone job) = (job.requests, Finished job.state.screen)
-told (Breaks Waiting job) = (job.requests, Waits)
+-- THE TALK
 
-abbrev pub talk : Judge → List (List ℕ) → List Reply → List Request × Outcome
-talk judge keys replies = told (session judge keys (job_of opening [] replies))
+-- the screen of a session that is over; whose calls are used up is told so
+abbrev pub shown : End Leaving Session Unit → List ℕ
+shown (Gave done s) = s.screen
+shown (Broke Gone s) = s.screen ++ job_expired
+shown (Broke why s) = s.screen
 
--- with a judge that judges by the grammar, these keys and replies make these requests, and the screen at the end
+abbrev pub talk : Judge → List (List ℕ) → List Reply → Played (List ℕ)
+talk judge keys replies =
+    told_by shown (play (whole_session judge keys) at_start (fuel_for replies) replies)
+
+-- It holds of the judge by the grammar: there is one, and it holds of whoever judges so.
+abbrev pub ByGrammar : (Judge → Type 0) → Type 0
+ByGrammar holds = ((judge : Judge) × Judges judge) × ((judge : Judge) → Judges judge → holds judge)
+
+-- the talk of these keys and replies makes these requests, and is finished with this screen
 abbrev pub IsTalk : List (List ℕ) → List Reply → List Request → List ℕ → Type 0
-IsTalk keys replies requests screen = (judge : Judge) × Judges judge × (talk judge keys replies ≡ (requests, Finished screen))
+IsTalk keys replies requests screen =
+    ByGrammar (λ judge. talk judge keys replies ≡ (requests, Finished screen))
 
--- with such a judge, these requests begin what the talk asks
+-- these requests begin what the talk asks
 abbrev pub BeginsTalk : List (List ℕ) → List Reply → List Request → Type 0
-BeginsTalk keys replies requests = (judge : Judge) × Judges judge × Begins requests (talk judge keys replies).0
+BeginsTalk keys replies requests =
+    ByGrammar (λ judge. Begins requests (talk judge keys replies).0)

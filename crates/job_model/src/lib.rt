@@ -1,4 +1,11 @@
-//! What a job means: the session of a terminal as a function of its keys, of the replies to its requests, and of a judge
-//! that says of its lines what the grammar says of them.
-//! Definitions, and the words in which calls over a port are told.
+//! What a job means: a tree, through which the replies of its port lead; the session of a terminal as
+//! such a tree, over its keys and a judge of its lines; and the talk, which is what playing that tree
+//! comes to.
+//!
+//! It holds definitions, and the lemmas by which calls over a port are put together. It stands on the
+//! grammar's verdicts, the monitor's requests and replies, and how numbers are printed.
+//!
+//! `laws::talk_ends`, `laws::talk_grows` and `laws::talk_is_one` carry the laws of the talk.
 #![tactic(auto)]
+
+pub mod laws;

@@ -1,0 +1,200 @@
+//! One key line each: what it shows before the login and behind it.
+
+use crate::talks::{
+    FLOATING_LITERAL, FLOATING_NAME, HELLO, NOT_IN_STAGE, OPEN_STRING, STRAY_BYTE, SYNTAX,
+    TOO_DEEP, TOO_WIDE, assert_talk, assert_user, assert_visitor,
+};
+use monitor_calls::Reply;
+use std::alloc::{AllocGlobal, Global};
+use std::test::Fail;
+
+#[test]
+fn lines_before_the_login(rt: HostRuntime) -> Result<(), Fail> {
+    for (line, shown) in [
+        ("", "Please say HELLO\n"),
+        (" \t ", "Please say HELLO\n"),
+        ("^Z", "Please say HELLO\n"),
+        ("^Z ", "Please say HELLO\n"),
+        ("PRINT 2%+3%", "Please say HELLO\n"),
+        ("PRINT", "Please say HELLO\n"),
+        ("HELLOX 100,5;DEMO", "Please say HELLO\n"),
+        ("HELL 100,5;DEMO", "Please say HELLO\n"),
+        ("100,5;DEMO", "Please say HELLO\n"),
+        ("BYES", "Please say HELLO\n"),
+        ("CAFÉ", "Please say HELLO\n"),
+        ("BYE X", "?Illegal command\nReady\n"),
+        (" bye1", "?Illegal command\nReady\n"),
+        ("BYE", ""),
+        (" bye \t", ""),
+    ] {
+        assert_visitor(&rt, line, shown)?;
+    }
+    assert_talk(&rt, &["BYE", HELLO], &[Reply::Done], "BYE\n", "")?;
+    let shown = "BYE X\n?Illegal command\nReady\nHELLO 100,5;DEMO\nReady\nBye\n";
+    let log = "Login 100,5;DEMO Done\nLogout Expired\n";
+    assert_talk(
+        &rt,
+        &["BYE X", HELLO],
+        &[Reply::Done, Reply::Expired],
+        shown,
+        log,
+    )
+}
+
+#[test]
+fn lines_behind_the_login(rt: HostRuntime) -> Result<(), Fail> {
+    for (line, shown) in [
+        ("", ""),
+        ("  \t", ""),
+        ("^Z", ""),
+        (" ^Z", ""),
+        ("HELLO", "?Already logged in\nReady\n"),
+        ("hello 100,6;OTHER", "?Already logged in\nReady\n"),
+        ("BYE X", "?Illegal command\nReady\n"),
+        ("BYE;", "?Illegal command\nReady\n"),
+        ("GOTO 10", NOT_IN_STAGE),
+        ("  A%=1", NOT_IN_STAGE),
+        ("!", NOT_IN_STAGE),
+        ("^Z ", FLOATING_NAME),
+        ("^z", FLOATING_NAME),
+        ("BYES", FLOATING_NAME),
+        ("CAFÉ", FLOATING_NAME),
+        ("A$=1.5", FLOATING_LITERAL),
+        ("A%=40000", TOO_WIDE),
+        ("A$='B\"", OPEN_STRING),
+        ("&", STRAY_BYTE),
+        ("A%=", SYNTAX),
+        ("GOTO 0", SYNTAX),
+    ] {
+        assert_user(&rt, line, shown)?;
+    }
+    Ok(())
+}
+
+#[test]
+fn sums_are_printed(rt: HostRuntime) -> Result<(), Fail> {
+    for (line, sum) in [
+        ("PRINT 2%+3%", " 5 "),
+        ("print2+3", " 5 "),
+        ("PRINT 0", " 0 "),
+        ("  Print\t 2%  +\t3  ", " 5 "),
+        ("PRINT 00002%+1", " 3 "),
+        ("PRINT 000000000000032767", " 32767 "),
+        ("PRINT 32767%+1%", "-32768 "),
+        ("PRINT 32767+32767", "-2 "),
+        ("PRINT 32767+32767+2", " 0 "),
+        ("PRINT 32767+32767+32767", " 32765 "),
+        ("PRINT 1+2+3+4+5+6+7+8+9+10", " 55 "),
+    ] {
+        let shown = format!(in rt.alloc(); "{sum}\nReady\n")?;
+        assert_user(&rt, line, shown.as_str())?;
+    }
+    Ok(())
+}
+
+#[test]
+fn what_is_no_sum(rt: HostRuntime) -> Result<(), Fail> {
+    for (line, shown) in [
+        ("PRINT", NOT_IN_STAGE),
+        ("PRINT ", NOT_IN_STAGE),
+        ("PRINT 1++2", NOT_IN_STAGE),
+        ("PRINT +1", NOT_IN_STAGE),
+        ("PRINT -1", NOT_IN_STAGE),
+        ("PRINT 2-1", NOT_IN_STAGE),
+        ("PRINT 2*3", NOT_IN_STAGE),
+        ("PRINT (2)", NOT_IN_STAGE),
+        ("PRINT A%", NOT_IN_STAGE),
+        ("PRINT 1;2", NOT_IN_STAGE),
+        ("PRINT 1:", NOT_IN_STAGE),
+        ("PRINT 1!", NOT_IN_STAGE),
+        ("PRINT 32768", TOO_WIDE),
+        ("PRINT 32768%", TOO_WIDE),
+        ("PRINT 1+32768", TOO_WIDE),
+        ("PRINT 18446744073709551617", TOO_WIDE),
+        ("PRINT 1 2", SYNTAX),
+        ("PRINT 1+", SYNTAX),
+        ("2+3", SYNTAX),
+        ("PRINT 2 %", STRAY_BYTE),
+        ("PRINT 2%%", STRAY_BYTE),
+        ("PRINT %", STRAY_BYTE),
+        ("PRINT %2", STRAY_BYTE),
+        ("PRINT 2.0", FLOATING_LITERAL),
+        ("PRINTX 1", FLOATING_NAME),
+        ("PR INT 1", FLOATING_NAME),
+    ] {
+        assert_user(&rt, line, shown)?;
+    }
+    Ok(())
+}
+
+#[test]
+fn words_of_a_later_stage(rt: HostRuntime) -> Result<(), Fail> {
+    for word in [
+        "NEW", "OLD", "SAVE", "REPLACE", "UNSAVE", "RUN", "RUNNH", "LIST", "LISTNH", "DELETE",
+        "RENAME", "CAT", "CONT", " list", "Cat",
+    ] {
+        assert_user(&rt, word, NOT_IN_STAGE)?;
+        let behind = format!(in rt.alloc(); "{word}& 1.5 \"")?;
+        assert_user(&rt, behind.as_str(), NOT_IN_STAGE)?;
+        let longer = format!(in rt.alloc(); "{word}Q")?;
+        assert_user(&rt, longer.as_str(), FLOATING_NAME)?;
+    }
+    Ok(())
+}
+
+#[test]
+fn program_lines(rt: HostRuntime) -> Result<(), Fail> {
+    for (line, shown) in [
+        ("10", NOT_IN_STAGE),
+        ("10 PRINT 1", NOT_IN_STAGE),
+        (" 10 PRINT 1%", NOT_IN_STAGE),
+        ("99999 GOTO 10", NOT_IN_STAGE),
+        ("10PRINT A", FLOATING_NAME),
+        ("10 LIST", FLOATING_NAME),
+        ("10.5", STRAY_BYTE),
+        ("10%", STRAY_BYTE),
+        ("10 20", SYNTAX),
+        ("10 PRINT 1.5", FLOATING_LITERAL),
+    ] {
+        assert_user(&rt, line, shown)?;
+    }
+    Ok(())
+}
+
+/// PRINT of a number in so many parentheses.
+fn print_in_parentheses(alloc: Global, depth: usize) -> Result<String, Fail> {
+    let mut line = String::from_str(alloc, "PRINT ")?;
+    for _ in 0..depth {
+        line.push_str("(")?;
+    }
+    line.push_str("1")?;
+    for _ in 0..depth {
+        line.push_str(")")?;
+    }
+    Ok(line)
+}
+
+#[test]
+fn levels_of_nesting(rt: HostRuntime) -> Result<(), Fail> {
+    let deepest = print_in_parentheses(rt.alloc(), 64)?;
+    assert_user(&rt, deepest.as_str(), NOT_IN_STAGE)?;
+    let deeper = print_in_parentheses(rt.alloc(), 65)?;
+    assert_user(&rt, deeper.as_str(), TOO_DEEP)
+}
+
+/// A line of 255 bytes, the most that there are.
+#[test]
+fn the_longest_lines(rt: HostRuntime) -> Result<(), Fail> {
+    let mut line = String::from_str(rt.alloc(), "PRINT 1")?;
+    for _ in 0..124 {
+        line.push_str("+1")?;
+    }
+    assert_eq!(rt; line.len(), 255);
+    assert_user(&rt, line.as_str(), " 125 \nReady\n")?;
+    let mut line = String::from_str(rt.alloc(), "HELLO")?;
+    for _ in 0..250 {
+        line.push_str("1")?;
+    }
+    assert_eq!(rt; line.len(), 255);
+    assert_visitor(&rt, line.as_str(), "Invalid entry - try again\n")
+}

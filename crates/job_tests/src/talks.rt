@@ -1,0 +1,144 @@
+//! How a session is tried: its keys, the replies of its port, what it shows and what it asks.
+
+use basic_values::{Fault, KeyLine};
+use command_level::serve;
+use monitor_calls::{Reply, Request, ScriptPort};
+use std::alloc::{AllocGlobal, Global};
+use std::process::Abort;
+use std::str;
+use std::test::Fail;
+
+pub(crate) const HELLO: &str = "HELLO 100,5;DEMO";
+
+pub(crate) const WRONG: &str = "Invalid entry - try again";
+
+pub(crate) const NOT_IN_STAGE: &str = "?Not in this stage\nReady\n";
+
+pub(crate) const FLOATING_NAME: &str = "?Floating variable\nReady\n";
+
+pub(crate) const FLOATING_LITERAL: &str = "?Floating literal\nReady\n";
+
+pub(crate) const TOO_WIDE: &str = "?Number too wide\nReady\n";
+
+pub(crate) const OPEN_STRING: &str = "?Open string\nReady\n";
+
+pub(crate) const STRAY_BYTE: &str = "?Stray byte\nReady\n";
+
+pub(crate) const SYNTAX: &str = "?Syntax error\nReady\n";
+
+pub(crate) const TOO_DEEP: &str = "?Expression too deep\nReady\n";
+
+fn key_lines(rt: &(impl AllocGlobal + Abort), keys: &[&str]) -> Result<Vec<KeyLine>, Fail> {
+    let mut lines = Vec::new(rt.alloc());
+    for line in keys {
+        let bytes = line.as_bytes();
+        assert!(rt; bytes.len() <= 255);
+        lines.push(KeyLine::of(rt.alloc(), bytes)?)?;
+    }
+    Ok(lines)
+}
+
+pub(crate) fn failed(number: u8) -> Reply {
+    Reply::Failed(Fault::new(number))
+}
+
+/// The text with CR and LF where it has LF.
+fn with_returns(alloc: Global, text: &str) -> Result<Vec<u8>, Fail> {
+    let mut bytes = Vec::new(alloc);
+    for byte in text.as_bytes() {
+        if *byte == b'\n' {
+            bytes.push(b'\r')?;
+        }
+        bytes.push(*byte)?;
+    }
+    Ok(bytes)
+}
+
+fn same_reply(reply: &Reply) -> Reply {
+    match reply {
+        Reply::Done => Reply::Done,
+        Reply::Failed(fault) => Reply::Failed(*fault),
+        Reply::Expired => Reply::Expired,
+    }
+}
+
+/// A reply as text.
+fn reply_told(alloc: Global, reply: &Reply) -> Result<String, Fail> {
+    match reply {
+        Reply::Done => Ok(String::from_str(alloc, "Done")?),
+        Reply::Failed(fault) => Ok(format!(in alloc; "Failed {}", fault.number())?),
+        Reply::Expired => Ok(String::from_str(alloc, "Expired")?),
+    }
+}
+
+/// A request as text.
+fn request_told(alloc: Global, request: &Request) -> Result<String, Fail> {
+    match request {
+        Request::Login { account, password } => {
+            let password = str::from_utf8(password.as_bytes())?;
+            let (project, programmer) = (account.project, account.programmer);
+            Ok(format!(in alloc; "Login {project},{programmer};{password}")?)
+        }
+        Request::Logout => Ok(String::from_str(alloc, "Logout")?),
+        Request::Tick => Ok(String::from_str(alloc, "Tick")?),
+    }
+}
+
+/// The log as text, with a line for each call.
+fn log_told(alloc: Global, log: &[(Request, Reply)]) -> Result<String, Fail> {
+    let mut text = String::new(alloc);
+    for (request, reply) in log {
+        text.push_str(request_told(alloc, request)?.as_str())?;
+        text.push_str(" ")?;
+        text.push_str(reply_told(alloc, reply)?.as_str())?;
+        text.push_str("\n")?;
+    }
+    Ok(text)
+}
+
+/// Asserts what the session of these keys shows, and what it asks of a port that replies this.
+pub(crate) fn assert_talk(
+    rt: &(impl AllocGlobal + Abort),
+    keys: &[&str],
+    replies: &[Reply],
+    screen: &str,
+    log: &str,
+) -> Result<(), Fail> {
+    let alloc = rt.alloc();
+    let lines = key_lines(rt, keys)?;
+    let mut script = Vec::new(alloc);
+    for reply in replies {
+        script.push(same_reply(reply))?;
+    }
+    let mut port = ScriptPort::new(alloc, script);
+    let shown = serve(alloc, lines.as_slice(), &mut port)?;
+    let want = with_returns(alloc, screen)?;
+    assert_eq!(rt; shown.bytes(), want.as_slice(), "of the keys {keys:?}");
+    assert_eq!(rt;
+        log_told(alloc, port.log())?.as_str(),
+        log,
+        "of the keys {keys:?}"
+    );
+    Ok(())
+}
+
+/// Asserts what a line shows before the login, where it asks nothing.
+pub(crate) fn assert_visitor(
+    rt: &(impl AllocGlobal + Abort),
+    line: &str,
+    shown: &str,
+) -> Result<(), Fail> {
+    let screen = format!(in rt.alloc(); "{line}\n{shown}")?;
+    assert_talk(rt, &[line], &[], screen.as_str(), "")
+}
+
+/// Asserts what a line shows behind the login, where it asks nothing.
+pub(crate) fn assert_user(
+    rt: &(impl AllocGlobal + Abort),
+    line: &str,
+    shown: &str,
+) -> Result<(), Fail> {
+    let screen = format!(in rt.alloc(); "{HELLO}\nReady\n{line}\n{shown}Bye\n")?;
+    let log = "Login 100,5;DEMO Done\nLogout Done\n";
+    assert_talk(rt, &[HELLO, line], &[Reply::Done], screen.as_str(), log)
+}
