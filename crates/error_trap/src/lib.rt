@@ -1,0 +1,9 @@
+//! The trap of a job's errors: what ON ERROR sets, what an error finds there, and what RESUME leaves.
+//!
+//! `raise`, `resume` and `on_error` carry the whole rule, one equation each.
+#![tactic(auto)]
+
+pub mod laws;
+mod trap;
+
+pub use trap::{Raised, Trap};

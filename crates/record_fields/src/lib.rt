@@ -1,0 +1,15 @@
+//! Record fields: the buffers of a job's channels, the parts of them that FIELD names, and what LSET and RSET write there.
+//!
+//! `layout` carries which parts some widths give; `lend`, `write_part`, `lset_part` and `rset_part` carry that a part
+//! is a range of its buffer and that a write replaces that range and nothing else.
+#![tactic(auto)]
+
+mod buffers;
+mod layouts;
+mod parts;
+mod writing;
+
+pub use buffers::{BUFFER_BYTES, Buffers, CHANNELS};
+pub use layouts::{layout, natural};
+pub use parts::{Part, lend, write_part};
+pub use writing::{lset, lset_part, rset, rset_part};
