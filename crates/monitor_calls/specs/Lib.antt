@@ -1,4 +1,6 @@
+pub mod FileNames
 pub mod Names
+pub mod Pages
 pub mod Pairs
 pub mod Proper
 pub mod Script

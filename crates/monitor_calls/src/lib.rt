@@ -2,14 +2,18 @@
 #![tactic(auto)]
 
 mod calls;
+mod files;
 mod names;
+mod pages;
 mod ports;
 mod records;
 mod script;
 mod volumes;
 
 pub use calls::{Entry, Reply, ReplyRoom, Request};
+pub use files::{FileEntry, FileName, OpenKind};
 pub use names::{Account, Short, TerminalName};
+pub use pages::Page;
 pub use ports::Port;
 pub use records::{RunRecord, Screen2};
 pub use script::ScriptPort;

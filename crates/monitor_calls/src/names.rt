@@ -9,14 +9,14 @@ use arrayvec::ArrayVec;
 use std::marker::Model;
 
 /// A project number and a programmer number, the manual's `[p,n]`.
-#[derive(Clone, Copy, Debug, PartialEq, Eq)]
+#[derive(Clone, Copy, Debug, PartialEq, Eq, Hash)]
 pub struct Account {
     pub project: u8,
     pub programmer: u8,
 }
 
 /// A text of 0 to 6 letters and digits: a password, a file's stem or extension, a receiver's name.
-#[derive(Clone, Copy)]
+#[derive(Clone, Copy, PartialEq, Eq, Hash)]
 pub struct Short {
     bytes: [u8; 6],
     len: u8,

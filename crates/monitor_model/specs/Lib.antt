@@ -1,7 +1,13 @@
+pub mod Allows
 pub mod Answer
+pub mod Files
 pub mod Good
 pub mod History
+pub mod Holds
+pub mod Jobs
 pub mod Laws
+pub mod Queues
+pub mod Refusals
 pub mod State
 pub use Rattle.monitor_calls.specs.Pairs
 pub use Rattle.monitor_calls.specs.Proper
