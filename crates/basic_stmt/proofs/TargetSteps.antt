@@ -6,7 +6,7 @@ use Rattle.basic_expr.specs.Reading.{First, RefusesAt, Stands}
 use Rattle.basic_tree.specs.declared.kinds.Want.{Want}
 use Rattle.basic_tree.specs.declared.names.Name.{Name}
 use Rattle.basic_tree.specs.SpellingWords.{Word, Named}
-use Rattle.basic_tree.specs.SpellingPieces.{is_target}
+use Rattle.basic_tree.specs.SpellingParts.{is_target}
 use Rattle.basic_tree.specs.Trees.{Tree}
 use Rattle.basic_tree.specs.GrammarPlaces.{between}
 use Rattle.basic_tree.specs.MachineStarts.{takes}

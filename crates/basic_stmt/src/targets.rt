@@ -1,7 +1,7 @@
 //! Targets: the variables and elements to which a statement gives values.
 
 ghost use Rattle.std.specs.Prelude.{◌≡◌, ℕ, false, ◌+◌, ◌<◌, ◌≤◌, length, IfOk, IfErr, MatchOption};
-ghost use Rattle.basic_tree.specs.SpellingPieces.{is_target};
+ghost use Rattle.basic_tree.specs.SpellingParts.{is_target};
 ghost use Rattle.basic_tree.specs.SpellingExpressions.{is_text};
 ghost use Rattle.basic_tree.specs.Trees.{Tree};
 ghost use Rattle.basic_tree.specs.TreeViews.{tree_of, target_of};

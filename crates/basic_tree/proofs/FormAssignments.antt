@@ -11,9 +11,10 @@ use Rattle.basic_tree.specs.declared.parts.OpenFor.TheVariants as purpose
 use Rattle.basic_tree.specs.SpellingWords.{Key, Punctuation, Named}
 use Rattle.basic_tree.specs.Trees.{Tree, Variable, Element, Def, Let, Open}
 use Rattle.basic_tree.specs.SpellingExpressions.{is_text, want_of}
-use Rattle.basic_tree.specs.SpellingPieces.{Piece, Expression, Holds, ArePieces, key, sign_piece, number, closing, target, optional, after_commas, many, perhaps}
-use Rattle.basic_tree.specs.SpellingParts.{name, value, option_of}
-use Rattle.basic_tree.specs.SpellingStatements.{pieces_of}
+use Rattle.basic_tree.specs.SpellingParts.{optional, perhaps}
+use Rattle.basic_tree.specs.MachinePieces.{Piece, Expression, Holds, ArePieces, key, sign_piece, number, closing, target, after_commas, many}
+use Rattle.basic_tree.specs.MachineParts.{name, value, option_of}
+use Rattle.basic_tree.specs.MachineStatements.{pieces_of}
 use Rattle.basic_tree.specs.MachineStack.{Value, Stated, TargetItem, NameItem, Targets, Parameters, Form, TakeSign, TakeClosing, ExprOf}
 use Rattle.basic_tree.specs.MachineForms.{says, list_form, targets_in, names_in, targets_form, value_form, opens, options_form, file_form}
 use Rattle.basic_tree.proofs.FormReads.{Reads, stopping, absent}

@@ -11,8 +11,7 @@ use Rattle.basic_tree.specs.SpellingWords.{Word, Key, Punctuation, Named, FnName
 use Rattle.basic_tree.specs.SpellingWords.{Item as ItemOf}
 use Rattle.basic_tree.specs.Trees.{Tree, Literal, Quoted, Variable, Element, FunctionOf, Call, Parenthesized, Negative, Positive, Not, Operation, Comparison}
 use Rattle.basic_tree.specs.SpellingExpressions.{mark, steps_of, is_text, Fits, level_of, IsTree}
-use Rattle.basic_tree.specs.SpellingPieces.{is_target}
-use Rattle.basic_tree.specs.SpellingParts.{first_word}
+use Rattle.basic_tree.specs.SpellingParts.{is_target, first_word}
 use Rattle.basic_tree.specs.declared.expressions.Operator.{Operator}
 use Rattle.basic_tree.specs.declared.expressions.Operator.TheVariants as operator
 use Rattle.basic_tree.specs.GrammarTables.{operator_level, operator_word, relation_sign}

@@ -1,8 +1,9 @@
 -- Every statement but IF, without modifiers: its words lead the machine from the form of its first word.
 use Rattle.std.proofs.Common.{◌≡◌, false, []}
 use Rattle.basic_tree.specs.Trees.{StatementTree, IfThen, IfGoto, Modified, For, Next, FnEnd, Data, Dim, DimFile, Def, Let, Result, Print, Input, InputLine, Read, Restore, Goto, Gosub, Return, OnGoto, OnGosub, OnErrorGoto, Resume, Stop, End, Chain, Sleep, Open, Close, Get, Put, Unlock, Field, Lset, Rset, Kill, Rename}
-use Rattle.basic_tree.specs.SpellingPieces.{ArePieces}
-use Rattle.basic_tree.specs.SpellingStatements.{is_if, closings, pieces_of}
+use Rattle.basic_tree.specs.SpellingStatements.{is_if}
+use Rattle.basic_tree.specs.MachinePieces.{ArePieces}
+use Rattle.basic_tree.specs.MachineStatements.{closings, pieces_of}
 use Rattle.basic_tree.proofs.FormSimple.{Begun, begun_fn_end, begun_restore, begun_return, begun_stop, begun_end, begun_next, begun_result, begun_goto, begun_gosub, begun_on_error, begun_resume, begun_sleep, begun_kill, begun_rename, begun_lset, begun_rset, begun_unlock, begun_get, begun_put, begun_for}
 use Rattle.basic_tree.proofs.FormStatements.{begun_read, begun_on_goto, begun_on_gosub, begun_close, begun_field, begun_dim, begun_dim_file, begun_data, begun_print, begun_input, begun_input_line}
 use Rattle.basic_tree.proofs.FormAssignments.{begun_let, begun_def, begun_open}

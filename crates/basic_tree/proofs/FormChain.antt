@@ -6,9 +6,9 @@ use Rattle.basic_tree.specs.declared.kinds.Want.TheVariants as want
 use Rattle.basic_tree.specs.SpellingWords.{Word, Key, Punctuation, Step, Plain, Opens, Closes, words}
 use Rattle.basic_tree.specs.Trees.{Tree, Literal, Quoted, Variable, Element, FunctionOf, Call, Parenthesized, Negative, Positive, Not, Operation, Comparison, NoTrees, AndTrees, ChainLineTree, Chain}
 use Rattle.basic_tree.specs.SpellingExpressions.{steps_of}
-use Rattle.basic_tree.specs.SpellingPieces.{Piece, Expression, Holds, IsPiece, ArePieces, pieces_steps, number}
 use Rattle.basic_tree.specs.SpellingParts.{first_word, last_word, is_name, may_follow}
-use Rattle.basic_tree.specs.SpellingStatements.{pieces_of}
+use Rattle.basic_tree.specs.MachinePieces.{Piece, Expression, Holds, IsPiece, ArePieces, pieces_steps, number}
+use Rattle.basic_tree.specs.MachineStatements.{pieces_of}
 use Rattle.basic_tree.specs.GrammarWords.{operator_of, relation_of}
 use Rattle.basic_tree.specs.MachineStack.{Value, Go, Await, Form, ExprOf, ExprIf}
 use Rattle.basic_tree.specs.MachineForms.{begins_value, chains}

@@ -5,9 +5,10 @@ use Rattle.basic_tree.specs.declared.tokens.Keyword.TheVariants as keyword
 use Rattle.basic_tree.specs.declared.tokens.Sign.TheVariants as sign
 use Rattle.basic_tree.specs.SpellingWords.{Word, Key, Punctuation, Step, words}
 use Rattle.basic_tree.specs.Trees.{StatementTree}
-use Rattle.basic_tree.specs.SpellingPieces.{pieces_steps, ArePieces}
-use Rattle.basic_tree.specs.SpellingParts.{modifier}
-use Rattle.basic_tree.specs.SpellingStatements.{is_if, is_head, closings, pieces_of}
+use Rattle.basic_tree.specs.SpellingStatements.{is_if, is_head}
+use Rattle.basic_tree.specs.MachinePieces.{pieces_steps, ArePieces}
+use Rattle.basic_tree.specs.MachineParts.{modifier}
+use Rattle.basic_tree.specs.MachineStatements.{closings, pieces_of}
 use Rattle.basic_tree.specs.MachineStack.{Value, Values, Stated, Modifying, Symbol, Go, Form}
 use Rattle.basic_tree.specs.MachineSentences.{Class, Choice, Head, Simple}
 use Rattle.basic_tree.specs.MachineRun.{run}

@@ -8,8 +8,9 @@ use Rattle.basic_tree.specs.declared.parts.Shape.{Shape}
 use Rattle.basic_tree.specs.declared.parts.FileShape.{FileShape}
 use Rattle.basic_tree.specs.SpellingWords.{Punctuation}
 use Rattle.basic_tree.specs.Trees.{Tree, CloseChannelTree, FieldPartTree}
-use Rattle.basic_tree.specs.SpellingPieces.{Piece, ArePieces, sign_piece, line, target, optional, after_commas, many}
-use Rattle.basic_tree.specs.SpellingParts.{shape, file_shape, element_size, name, close_channel, field_part}
+use Rattle.basic_tree.specs.SpellingParts.{optional}
+use Rattle.basic_tree.specs.MachinePieces.{Piece, ArePieces, sign_piece, line, target, after_commas, many}
+use Rattle.basic_tree.specs.MachineParts.{shape, file_shape, element_size, name, close_channel, field_part}
 use Rattle.basic_tree.specs.MachineStack.{Value, Item, TargetItem, ShapeItem, FileItem, NameItem, LineItem, ChannelItem, FieldItem, Sequence, Targets, Shapes, FileShapes, Parameters, Lines, Channels, FieldParts, Form, MoreOf}
 use Rattle.basic_tree.specs.MachineForms.{item_form, shape_form, size_form, has_room, list_form, targets_in, shapes_in, files_in, names_in, lines_in, channels_in, parts_in}
 use Rattle.basic_tree.proofs.PieceLists.{pieces_append, pieces_split}

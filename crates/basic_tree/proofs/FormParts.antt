@@ -12,7 +12,8 @@ use Rattle.basic_tree.specs.SpellingWords.{Item as ItemOf}
 use Rattle.basic_tree.specs.Trees.{Tree, Variable, Element, PrintItemTree, PrintChannelTree, Print}
 use Rattle.basic_tree.specs.Trees.{Value as ValueOf}
 use Rattle.basic_tree.specs.SpellingExpressions.{steps_of}
-use Rattle.basic_tree.specs.SpellingPieces.{Piece, Fixed, Expression, NameOf, LiteralOf, Holds, pieces_steps, IsPiece, ArePieces, key, sign_piece, closing, is_target}
+use Rattle.basic_tree.specs.SpellingParts.{is_target}
+use Rattle.basic_tree.specs.MachinePieces.{Piece, Fixed, Expression, NameOf, LiteralOf, Holds, pieces_steps, IsPiece, ArePieces, key, sign_piece, closing}
 use Rattle.basic_tree.specs.MachineStack.{Value, Values, Term, Stated, Symbol, Go, Await, Item, Sequence, Limit, within, Form, Made, TakeKey, TakeSign, TakeClosing, IfKey, IfSign, ExprOf, TargetOf, NameIn, FnNameIn, LiteralIn, LiteralIf, QuotedIf, ItemIn, MoreItems, MoreOf, MorePrinted}
 use Rattle.basic_tree.specs.MachineForms.{begins_value, key_begins, item_form, has_room, printed_form}
 use Rattle.basic_tree.specs.MachineMoves.{tab_form}

@@ -9,7 +9,7 @@ use Rattle.basic_tree.specs.declared.expressions.Function.TheVariants as functio
 use Rattle.basic_tree.specs.SpellingWords.{Word, Key, Punctuation, Named, FnNamed, Number, Quotation, Plain, Opens, Closes, words}
 use Rattle.basic_tree.specs.Trees.{Tree, Literal, Quoted, Variable, Element, FunctionOf, Call, Parenthesized, Negative, Positive, Not, Operation, Comparison}
 use Rattle.basic_tree.specs.SpellingExpressions.{steps_of, IsTree}
-use Rattle.basic_tree.specs.SpellingPieces.{Piece, Fixed, Expression, NameOf, LiteralOf, Holds, pieces_steps, ArePieces}
+use Rattle.basic_tree.specs.MachinePieces.{Piece, Fixed, Expression, NameOf, LiteralOf, Holds, pieces_steps, ArePieces}
 use Rattle.basic_tree.specs.GrammarTables.{function_keyword}
 use Rattle.basic_tree.specs.GrammarWords.{operator_of, relation_of}
 use Rattle.basic_tree.specs.MachineStack.{Value, Values, Symbol, Go, Form}

@@ -5,9 +5,9 @@ use Rattle.basic_tree.specs.declared.tokens.Keyword.{Keyword}
 use Rattle.basic_tree.specs.declared.tokens.Keyword.TheVariants as keyword
 use Rattle.basic_tree.specs.SpellingWords.{Word, Key, FnNamed, words}
 use Rattle.basic_tree.specs.Trees.{Tree, ModifierTree, If, Unless, While, Until, ForModifier, StatementTree, For, Next, FnEnd, Result, Restore, Goto, Gosub, Return, OnErrorGoto, Resume, Stop, End, Sleep, Get, Put, Unlock, Lset, Rset, Kill, Rename}
-use Rattle.basic_tree.specs.SpellingPieces.{Piece, pieces_steps, ArePieces, opening}
-use Rattle.basic_tree.specs.SpellingParts.{modifier, range}
-use Rattle.basic_tree.specs.SpellingStatements.{pieces_of}
+use Rattle.basic_tree.specs.MachinePieces.{Piece, pieces_steps, ArePieces, opening}
+use Rattle.basic_tree.specs.MachineParts.{modifier, range}
+use Rattle.basic_tree.specs.MachineStatements.{pieces_of}
 use Rattle.basic_tree.specs.MachineStack.{Value, Values, Stated, Modifying, Symbol, Go, Form, Made, TakeKey}
 use Rattle.basic_tree.specs.MachineForms.{says, range_form}
 use Rattle.basic_tree.specs.MachineSentences.{Sentence, sentence_of, modifier_of}

@@ -13,9 +13,10 @@ use Rattle.basic_tree.specs.SpellingWords.{Key, Punctuation, Plain}
 use Rattle.basic_tree.specs.SpellingWords.{Item as ItemOf}
 use Rattle.basic_tree.specs.Trees.{Tree, PrintedTree, Tab, PrintItemTree, PrintChannelTree, PromptTree, CloseChannelTree, FieldPartTree, StatementTree, Data, Dim, DimFile, Print, Input, InputLine, Read, OnGoto, OnGosub, Close, Field}
 use Rattle.basic_tree.specs.Trees.{Value as ValueOf}
-use Rattle.basic_tree.specs.SpellingPieces.{Piece, Fixed, ArePieces, line, target, optional, each, many}
-use Rattle.basic_tree.specs.SpellingParts.{shape, file_shape, printed, print_item, close_channel, field_part}
-use Rattle.basic_tree.specs.SpellingStatements.{pieces_of}
+use Rattle.basic_tree.specs.SpellingParts.{optional, each}
+use Rattle.basic_tree.specs.MachinePieces.{Piece, Fixed, ArePieces, line, target, many}
+use Rattle.basic_tree.specs.MachineParts.{shape, file_shape, printed, print_item, close_channel, field_part}
+use Rattle.basic_tree.specs.MachineStatements.{pieces_of}
 use Rattle.basic_tree.specs.MachineStack.{Value, Stated, TargetItem, ShapeItem, FileItem, LineItem, ChannelItem, FieldItem, Targets, Shapes, FileShapes, Lines, Channels, FieldParts, MoreItems, MorePrinted}
 use Rattle.basic_tree.specs.MachineForms.{says, targets_in, shapes_in, files_in, lines_in, channels_in, parts_in}
 use Rattle.basic_tree.specs.MachineSentences.{input_targets}

@@ -7,8 +7,9 @@ use Rattle.basic_tree.specs.declared.kinds.Want.TheVariants as want
 use Rattle.basic_tree.specs.SpellingWords.{Word, Key, Punctuation, Number, Plain, Opens, words}
 use Rattle.basic_tree.specs.Trees.{Tree, ClauseTree, LineClause, StatementClause, ElseTree, NoElse, Else, StatementTree, IfThen, IfGoto}
 use Rattle.basic_tree.specs.SpellingExpressions.{steps_of, Fits, IsTree}
-use Rattle.basic_tree.specs.SpellingPieces.{Holds, pieces_steps, ArePieces, closing}
-use Rattle.basic_tree.specs.SpellingStatements.{is_head, else_wants_else, clause_wants_else, has_else, closings, pieces_of, clause_pieces, else_pieces}
+use Rattle.basic_tree.specs.SpellingStatements.{is_head, else_wants_else, clause_wants_else, has_else}
+use Rattle.basic_tree.specs.MachinePieces.{Holds, pieces_steps, ArePieces, closing}
+use Rattle.basic_tree.specs.MachineStatements.{closings, pieces_of, clause_pieces, else_pieces}
 use Rattle.basic_tree.specs.MachineStack.{Values, Stated, Symbol, Go, Await, AwaitClause, Close, Form, ExprOf, IfKey, ClauseIn, LiteralIn, TakeKey, LineNumber, within}
 use Rattle.basic_tree.specs.MachineForms.{else_form, says}
 use Rattle.basic_tree.specs.MachineSentences.{Choice, if_form}

@@ -66,3 +66,5 @@ pub mod KeywordLemmas
 pub mod TableSpelling
 pub mod NameSpelling
 pub mod LineSpelling
+pub mod PiecesApart
+pub mod PiecesHold

@@ -5,9 +5,10 @@ use Rattle.basic_tree.specs.declared.tokens.Keyword.TheVariants as keyword
 use Rattle.basic_tree.specs.declared.tokens.Sign.TheVariants as sign
 use Rattle.basic_tree.specs.SpellingWords.{Word, Key, Punctuation, words}
 use Rattle.basic_tree.specs.Trees.{ModifierTree, StatementTree, Modified}
-use Rattle.basic_tree.specs.SpellingPieces.{Piece, pieces_steps, ArePieces}
-use Rattle.basic_tree.specs.SpellingParts.{modifier}
-use Rattle.basic_tree.specs.SpellingStatements.{is_if, is_head, wants_else, closings, pieces_of}
+use Rattle.basic_tree.specs.SpellingStatements.{is_if, is_head, wants_else}
+use Rattle.basic_tree.specs.MachinePieces.{Piece, pieces_steps, ArePieces}
+use Rattle.basic_tree.specs.MachineParts.{modifier}
+use Rattle.basic_tree.specs.MachineStatements.{closings, pieces_of}
 use Rattle.basic_tree.specs.MachineStack.{Value, Stated, Modifying, Modify, Symbol, Go, Do, Close, Modifiers, Form}
 use Rattle.basic_tree.specs.MachineSentences.{Class, Choice, Head, Simple, Sentence, sentence_of, key_modifier, modifier_of}
 use Rattle.basic_tree.specs.MachineRun.{run}

@@ -1,5 +1,5 @@
 -- Every line ends the levels that it opens, and no others: by its pieces.
-use Rattle.std.proofs.Common.{subst, ◌≡◌, ℕ, suc, Bool, true, false, List, [], ◌∷◌, ◌++◌, Option, Some, None, refl, sym, append_assoc}
+use Rattle.std.proofs.Common.{subst, ◌≡◌, ℕ, suc, Bool, true, false, List, [], ◌∷◌, ◌++◌, Option, Some, None, refl, sym, append_assoc, ◌∙◌}
 use Rattle.std.proofs.lemmas.List.{append-nil}
 use Rattle.basic_tree.specs.declared.names.Name.{Name}
 use Rattle.basic_tree.specs.declared.tokens.Sign.TheVariants as sign
@@ -15,10 +15,13 @@ use Rattle.basic_tree.specs.Trees.{Tree, PrintedTree, Value, Tab, ModifierTree, 
 use Rattle.basic_tree.specs.declared.tokens.Keyword.TheVariants as keyword
 use Rattle.basic_tree.specs.declared.kinds.Want.TheVariants as want
 use Rattle.basic_tree.specs.SpellingExpressions.{steps_of, want_of}
-use Rattle.basic_tree.specs.SpellingPieces.{Piece, Fixed, Expression, NameOf, LiteralOf, Holds, pieces_steps, closing, sign_piece, key, number, line, line_or_zero, target, perhaps, optional, each, after_commas, many}
-use Rattle.basic_tree.specs.SpellingParts.{shape, element_size, file_shape, separator_piece, printed, print_item, channel, print_channel, channel_and_comma, prompt, modifier, name, parameters, value, kind_of_first, chain_line, open_for, option_of, close_channel, field_part}
-use Rattle.basic_tree.specs.SpellingStatements.{closings, go, items, pieces_of, clause_pieces, else_pieces, statement_pieces, line_pieces, line_steps}
+use Rattle.basic_tree.specs.SpellingParts.{perhaps, optional, each, kind_of_first}
+use Rattle.basic_tree.specs.SpellingStatements.{line_steps}
+use Rattle.basic_tree.specs.MachinePieces.{Piece, Fixed, Expression, NameOf, LiteralOf, Holds, pieces_steps, closing, sign_piece, key, number, line, line_or_zero, target, after_commas, many}
+use Rattle.basic_tree.specs.MachineParts.{shape, element_size, file_shape, separator_piece, printed, print_item, channel, print_channel, channel_and_comma, prompt, modifier, name, parameters, value, chain_line, open_for, option_of, close_channel, field_part}
+use Rattle.basic_tree.specs.MachineStatements.{closings, go, items, pieces_of, clause_pieces, else_pieces, statement_pieces, line_pieces}
 use Rattle.basic_tree.proofs.MachineLevels.{Above, tree_above}
+use Rattle.basic_tree.proofs.PiecesApart.{line_same}
 use Rattle.basic_tree.proofs.MachineReads.{place_pieces, separated}
 
 -- from so many open levels the pieces lead to so many
@@ -229,4 +232,4 @@ pub line_level : (l : LineTree) → Balanced (line_pieces l)
 line_level l = both (place_pieces l.first) (each separated l.others) (place_level l.first) (each_level separated (λ s. place_level s) l.others)
 
 pub line_above : (l : LineTree) → Above 0 (line_steps l)
-line_above l = subst (λ q. Above 0 q) (append-nil (line_steps l)) (rises_above (line_pieces l) 0 0 [] (line_level l 0) tt)
+line_above l = subst (λ q. Above 0 q) (append-nil (pieces_steps (line_pieces l)) ∙ line_same l) (rises_above (line_pieces l) 0 0 [] (line_level l 0) tt)

@@ -3,9 +3,10 @@ use Rattle.std.proofs.Common.{◌≡◌, false, List, [], ◌∷◌, ◌++◌, r
 use Rattle.std.proofs.lemmas.List.{append-nil}
 use Rattle.basic_tree.specs.SpellingWords.{Step, Closes}
 use Rattle.basic_tree.specs.Trees.{ModifierTree, StatementTree, Modified}
-use Rattle.basic_tree.specs.SpellingPieces.{pieces_steps, ArePieces}
-use Rattle.basic_tree.specs.SpellingParts.{modifier}
-use Rattle.basic_tree.specs.SpellingStatements.{is_if, is_head, closings, pieces_of, statement_pieces}
+use Rattle.basic_tree.specs.SpellingStatements.{is_if, is_head}
+use Rattle.basic_tree.specs.MachinePieces.{pieces_steps, ArePieces}
+use Rattle.basic_tree.specs.MachineParts.{modifier}
+use Rattle.basic_tree.specs.MachineStatements.{closings, pieces_of, statement_pieces}
 use Rattle.basic_tree.proofs.PieceLists.{steps_append}
 use Rattle.basic_tree.proofs.MachineReads.{modifiers_steps, AreModifiers, modified_by}
 use Rattle.basic_tree.proofs.LineLeads.{parts_before, parts_behind, neither}

@@ -3,14 +3,17 @@ use Rattle.std.proofs.Common.{◌≡◌, ℕ, suc, ◌≤◌, List, [], ◌∷�
 use Rattle.std.proofs.lemmas.List.{append-nil}
 use Rattle.basic_tree.specs.SpellingWords.{Word, Step, words}
 use Rattle.basic_tree.specs.Trees.{LineTree, StatementTree}
-use Rattle.basic_tree.specs.SpellingPieces.{pieces_steps, each}
+use Rattle.basic_tree.specs.SpellingParts.{each}
 use Rattle.basic_tree.specs.SpellingStatements.{line_steps, IsLine}
+use Rattle.basic_tree.specs.MachinePieces.{pieces_steps}
 use Rattle.basic_tree.specs.MachineStack.{Values, Parsed, Symbol}
 use Rattle.basic_tree.specs.MachineRun.{Turn, Next, Ended, Stuck, Deep, turn, Wrong, turned, run}
 use Rattle.basic_tree.specs.MachineJudge.{line_symbols, line_values}
 use Rattle.basic_tree.proofs.MachineReads.{place_pieces, separated}
 use Rattle.basic_tree.proofs.MachineSpelled.{Spelled}
 use Rattle.basic_tree.proofs.MachinePasses.{left}
+use Rattle.basic_tree.proofs.PiecesApart.{line_same}
+use Rattle.basic_tree.proofs.PiecesHold.{pieces_admissible, admissible_pieces}
 use Rattle.basic_tree.proofs.PieceLists.{steps_append, pieces_append}
 use Rattle.basic_tree.proofs.LineLevels.{line_above}
 use Rattle.basic_tree.proofs.LinePlaces.{ReadsLines}
@@ -26,12 +29,12 @@ spells_line : (x : List Step) (u : Values) → Spelled line_symbols line_values 
 spells_line x u h =
     let m = h.4 in
     let l : LineTree = record { first = h.0; others = m.0 } in
-    let same : x ≡ line_steps l = h.2 ∙ ap (λ y. pieces_steps (place_pieces h.0) ++ y) (m.2 ∙ ap (λ y. pieces_steps (each separated m.0) ++ y) m.4.0 ∙ append-nil (pieces_steps (each separated m.0))) ∙ sym (steps_append (place_pieces h.0) (each separated m.0)) in
-    (l, same, record { pieces = pieces_append (place_pieces h.0) (each separated m.0) h.3 m.3; spelling = ap (λ y. words y) same }, m.4.1)
+    let same : x ≡ line_steps l = h.2 ∙ ap (λ y. pieces_steps (place_pieces h.0) ++ y) (m.2 ∙ ap (λ y. pieces_steps (each separated m.0) ++ y) m.4.0 ∙ append-nil (pieces_steps (each separated m.0))) ∙ sym (steps_append (place_pieces h.0) (each separated m.0)) ∙ line_same l in
+    (l, same, record { admissible = pieces_admissible l (pieces_append (place_pieces h.0) (each separated m.0) h.3 m.3); spelling = ap (λ y. words y) same }, m.4.1)
 
 takes_line : (ws : List Word) (l : LineTree) → IsLine ws l → (d : ℕ) × ((n : ℕ) → d ≤ n → run n ws line_symbols line_values ≡ Ok (made_line l, []))
 takes_line ws l h =
-    let t = line_leads l h.pieces in
+    let t = line_leads l (admissible_pieces l h.admissible) in
     (t.0, λ n e. ap (λ (x : List Word). run n x line_symbols line_values) h.spelling ∙ t.1 n e)
 
 apart_lines : (l m : LineTree) → made_line l ≡ made_line m → l ≡ m

@@ -22,8 +22,7 @@ use Rattle.basic_tree.specs.Tokens.{Lexeme, Reading, is_blank, is_floating, clos
 use Rattle.basic_tree.specs.SpellingWords.{Word, Key, Punctuation, Named, FnNamed, Number, Quotation, Item, word_of, words_of, words, too_deep}
 use Rattle.basic_tree.specs.Trees.{Tree, LineTree}
 use Rattle.basic_tree.specs.SpellingExpressions.{steps_of, IsTree, Fits, IsExpr}
-use Rattle.basic_tree.specs.SpellingPieces.{ArePieces}
-use Rattle.basic_tree.specs.SpellingStatements.{line_pieces, line_steps}
+use Rattle.basic_tree.specs.SpellingStatements.{line_steps, IsAdmissible}
 use Rattle.basic_tree.specs.GrammarPlaces.{IsRead, IsReadLine}
 use Rattle.basic_tree.specs.LineVerdicts.{SpelledBy, Spells}
 use Rattle.basic_tree.specs.ReadableWords.{IsQuotable, IsReadable, IsUncut, quote_behind, AreItems, AreReadable, TreesAreSpelled}
@@ -274,11 +273,11 @@ words_spelled (w ∷ ws) h = joined w ws (word_spelled w h.0) (words_spelled ws 
 
 -- ---- trees
 
-line_spelled : (l : LineTree) → ArePieces (line_pieces l) → too_deep (line_steps l) ≡ None → AreReadable (words (line_steps l)) → (line : List ℕ) × Spells line l
-line_spelled l pieces flat readable =
+line_spelled : (l : LineTree) → IsAdmissible l → too_deep (line_steps l) ≡ None → AreReadable (words (line_steps l)) → (line : List ℕ) × Spells line l
+line_spelled l admissible flat readable =
     let s = words_spelled (words (line_steps l)) readable in
     let t = s.reads 0 in
-    let read : IsReadLine (words_of t.0) l = record { line = record { pieces = pieces; spelling = t.2 }; flat = flat } in
+    let read : IsReadLine (words_of t.0) l = record { line = record { admissible = admissible; spelling = t.2 }; flat = flat } in
     (s.line, subst (λ (r : Reading). SpelledBy r l) (sym t.1) read)
 
 as_many : (tokens : List Lexeme) → length (words_of tokens) ≡ length tokens

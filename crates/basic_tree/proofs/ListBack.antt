@@ -11,8 +11,8 @@ use Rattle.basic_tree.specs.SpellingWords.{Word, Key, Punctuation, Named, Number
 use Rattle.basic_tree.specs.SpellingWords.{Item as ItemOf}
 use Rattle.basic_tree.specs.Trees.{PrintedTree, Value as ValueOf, Tab, PrintItemTree, PrintChannelTree, ClauseTree, Print}
 use Rattle.basic_tree.specs.SpellingExpressions.{mark, steps_of}
-use Rattle.basic_tree.specs.SpellingPieces.{Piece, pieces_steps, ArePieces}
-use Rattle.basic_tree.specs.SpellingParts.{shape, element_size, printed, print_item, separator_piece}
+use Rattle.basic_tree.specs.MachinePieces.{Piece, pieces_steps, ArePieces}
+use Rattle.basic_tree.specs.MachineParts.{shape, element_size, printed, print_item, separator_piece}
 use Rattle.basic_tree.specs.MachineStack.{Value, Stated, Values, Item, TargetItem, ShapeItem, FileItem, NameItem, LineItem, ChannelItem, FieldItem, Sequence, Targets, Shapes, FileShapes, Parameters, Lines, Channels, FieldParts, Form, Made, TakeKey, TakeSign, TakeClosing, IfKey, IfSign, ExprOf, ExprIf, TargetOf, NameIn, FnNameIn, LiteralIn, LiteralIf, QuotedIf, ItemIn, MoreItems, MoreOf, MorePrinted, ClauseIn, Close, Go}
 use Rattle.basic_tree.specs.MachineForms.{begins_value, has_room, item_form, shape_form, size_form, printed_form}
 use Rattle.basic_tree.specs.MachineMoves.{Move, Takes, Skips, Refuses, expression, expression_if, more_of_list, tab_form, more_printed, form_move_with}

@@ -6,9 +6,10 @@ use Rattle.basic_tree.specs.SpellingWords.{Word, Key, Punctuation, Named, FnName
 use Rattle.basic_tree.specs.SpellingWords.{Item as ItemOf}
 use Rattle.basic_tree.specs.Trees.{Tree, Variable, PrintedTree, ModifierTree, PrintItemTree, ClauseTree, StatementTree, Modified, Print}
 use Rattle.basic_tree.specs.SpellingExpressions.{mark, steps_of, Fits, IsTree}
-use Rattle.basic_tree.specs.SpellingPieces.{Piece, Expression, Holds, pieces_steps, ArePieces, is_target, line, optional, each, sign_piece}
-use Rattle.basic_tree.specs.SpellingParts.{shape, file_shape, printed, print_item, name, modifier, close_channel, field_part, first_word}
-use Rattle.basic_tree.specs.SpellingStatements.{clause_pieces, statement_pieces}
+use Rattle.basic_tree.specs.SpellingParts.{is_target, optional, each, first_word}
+use Rattle.basic_tree.specs.MachinePieces.{Piece, Expression, Holds, pieces_steps, ArePieces, line, sign_piece}
+use Rattle.basic_tree.specs.MachineParts.{shape, file_shape, printed, print_item, name, modifier, close_channel, field_part}
+use Rattle.basic_tree.specs.MachineStatements.{clause_pieces, statement_pieces}
 use Rattle.basic_tree.specs.MachineStack.{Value, Stated, Item, TargetItem, ShapeItem, FileItem, NameItem, LineItem, ChannelItem, FieldItem, Sequence, Targets, Shapes, FileShapes, Parameters, Lines, Channels, FieldParts, within, Form, Made, TakeKey, TakeSign, TakeClosing, IfKey, IfSign, ExprOf, ExprIf, TargetOf, NameIn, FnNameIn, LiteralIn, LiteralIf, QuotedIf, ItemIn, MoreItems, MoreOf, MorePrinted, ClauseIn}
 use Rattle.basic_tree.specs.MachineForms.{has_room}
 

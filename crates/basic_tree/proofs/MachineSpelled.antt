@@ -11,7 +11,8 @@ use Rattle.basic_tree.specs.Trees.{Tree, Literal, Quoted, Variable, Call, Compar
 use Rattle.basic_tree.specs.SpellingExpressions.{mark, steps_of, more_steps, is_text, Fits, level_of, is_exponent, IsTree, AreTrees}
 use Rattle.basic_tree.specs.GrammarTables.{relation_level}
 use Rattle.basic_tree.specs.MachineStack.{Value, Term, Several, Stated, Parsed, Values, top, several, stated, parsed, below, with_statement, made, others, Limit, LineNumber, Bound, Size, within, Form, Made, TakeKey, TakeSign, TakeClosing, IfKey, IfSign, ExprOf, ExprIf, TargetOf, NameIn, FnNameIn, LiteralIn, LiteralIf, QuotedIf, ItemIn, MoreItems, MoreOf, MorePrinted, ClauseIn, Symbol, Level, More, MoreRelations, Exponent, Expect, Opening, Close, Do, Subscripts, SecondSubscript, Arguments, MoreArguments, Go, Await, AwaitClause, Modifiers, OneStatement, MoreStatements}
-use Rattle.basic_tree.specs.SpellingPieces.{pieces_steps, ArePieces, each}
+use Rattle.basic_tree.specs.SpellingParts.{each}
+use Rattle.basic_tree.specs.MachinePieces.{pieces_steps, ArePieces}
 use Rattle.basic_tree.proofs.MachineReads.{Reads, modifiers_steps, AreModifiers, modified_by, place_pieces, separated}
 
 -- a tree of a level and a wanted kind

@@ -3,15 +3,19 @@ use Rattle.std.proofs.Common.{◌≡◌, ◌+◌, max, ℕ, ◌≤◌, false, no
 use Rattle.std.proofs.lemmas.List.{append-nil}
 use Rattle.basic_tree.specs.declared.tokens.Keyword.TheVariants as keyword
 use Rattle.basic_tree.specs.declared.tokens.Sign.TheVariants as sign
-use Rattle.basic_tree.specs.SpellingWords.{Word, Key, Punctuation, words}
+use Rattle.basic_tree.specs.SpellingWords.{Word, Key, Punctuation, Step, words}
 use Rattle.basic_tree.specs.Trees.{StatementTree, LineTree}
-use Rattle.basic_tree.specs.SpellingPieces.{Piece, pieces_steps, ArePieces, each}
-use Rattle.basic_tree.specs.SpellingStatements.{wants_else, closings, pieces_of, statement_pieces, line_pieces, line_steps}
+use Rattle.basic_tree.specs.SpellingParts.{each}
+use Rattle.basic_tree.specs.SpellingStatements.{wants_else, line_steps}
+use Rattle.basic_tree.specs.MachinePieces.{Piece, pieces_steps, ArePieces}
+use Rattle.basic_tree.specs.MachineStatements.{closings, pieces_of, statement_pieces, line_pieces}
 use Rattle.basic_tree.specs.MachineStack.{Values, Stated, Parsed, parsed, AddStatement, Symbol, Go, Do, OneStatement, MoreStatements}
 use Rattle.basic_tree.specs.MachineSentences.{Class, Choice, Head, Simple}
 use Rattle.basic_tree.specs.MachineMoves.{behind_class}
 use Rattle.basic_tree.specs.MachineRun.{Outcome, run}
 use Rattle.basic_tree.specs.GrammarPlaces.{OneLine}
+use Rattle.basic_tree.proofs.PiecesApart.{line_same}
+use Rattle.basic_tree.proofs.PiecesHold.{admissible_pieces}
 use Rattle.basic_tree.proofs.PieceLists.{steps_append}
 use Rattle.basic_tree.proofs.MachineReads.{place_pieces, separated}
 use Rattle.basic_tree.proofs.MachineSteps.{run_do}
@@ -101,7 +105,8 @@ line_leads l h =
     let d = others_lead l.others (parts_behind (place_pieces l.first) (each separated l.others) h) in (
       max b.bound d.bound,
       λ n le.
-          ap (λ ws. run n ws (OneStatement ∷ MoreStatements ∷ []) (Parsed [] ∷ [])) (two_words (place_pieces l.first) (each separated l.others))
+          ap (λ (x : List Step). run n (words x) (OneStatement ∷ MoreStatements ∷ []) (Parsed [] ∷ [])) (sym (line_same l))
+          ∙ ap (λ ws. run n ws (OneStatement ∷ MoreStatements ∷ []) (Parsed [] ∷ [])) (two_words (place_pieces l.first) (each separated l.others))
           ∙ b.by n (omega (arith, le)) (words (pieces_steps (each separated l.others))) [] (MoreStatements ∷ []) [] (others_finish l.others)
           ∙ d.by n (omega (arith, le)) (l.first ∷ []),
     )
@@ -116,8 +121,8 @@ line_made (Err e) = line_of []
 
 pub one_line_lem : OneLine
 one_line_lem ws l m a b =
-    let x = line_leads l a.pieces in
-    let y = line_leads m b.pieces in
+    let x = line_leads l (admissible_pieces l a.admissible) in
+    let y = line_leads m (admissible_pieces m b.admissible) in
     let n = x.0 + y.0 in
     let same = sym (x.1 n (omega arith)) ∙ ap (λ s. run n s (OneStatement ∷ MoreStatements ∷ []) (Parsed [] ∷ [])) (sym a.spelling ∙ b.spelling) ∙ y.1 n (omega arith) in
     ap (λ o. line_made o) same

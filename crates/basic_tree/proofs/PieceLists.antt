@@ -1,6 +1,6 @@
 -- Pieces of two parts: their steps, and that all are as their places want them.
 use Rattle.std.proofs.Common.{◌≡◌, List, [], ◌∷◌, ◌++◌, refl, sym, ap, ◌∙◌, append_assoc}
-use Rattle.basic_tree.specs.SpellingPieces.{Piece, piece_steps, pieces_steps, ArePieces}
+use Rattle.basic_tree.specs.MachinePieces.{Piece, piece_steps, pieces_steps, ArePieces}
 
 pub steps_append : (a b : List Piece) → pieces_steps (a ++ b) ≡ pieces_steps a ++ pieces_steps b
 steps_append [] b = refl

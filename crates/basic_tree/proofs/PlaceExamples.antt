@@ -7,8 +7,7 @@ use Rattle.basic_tree.specs.declared.expressions.Function.TheVariants as functio
 use Rattle.basic_tree.specs.SpellingWords.{too_deep}
 use Rattle.basic_tree.specs.Trees.{Tree, Literal, Quoted, Variable, Element, FunctionOf, Parenthesized, Negative, Not, Operation, Comparison, NoTrees, AndTrees, Value, If, LineClause, StatementClause, NoElse, Else, StatementTree, IfThen, Modified, Print, Stop, Chain, LineTree}
 use Rattle.basic_tree.specs.SpellingExpressions.{steps_of, IsTree}
-use Rattle.basic_tree.specs.SpellingPieces.{ArePieces}
-use Rattle.basic_tree.specs.SpellingStatements.{line_pieces, line_steps}
+use Rattle.basic_tree.specs.SpellingStatements.{line_steps, IsAdmissible}
 
 abbrev alone : StatementTree → LineTree
 alone s = record { first = Some s; others = [] }
@@ -21,25 +20,25 @@ text_name letter = record { letter = letter; digit = None; text = true }
 
 -- ---- lines and what is none
 
-a_sum : ArePieces (line_pieces (alone (Print None [] (Some (Value (Operation (Literal 2) operator.Plus (Literal 3)))))))
+a_sum : IsAdmissible (alone (Print None [] (Some (Value (Operation (Literal 2) operator.Plus (Literal 3))))))
 a_sum = grind arith
 
-else_of_the_nearest_if : ArePieces (line_pieces (alone (IfThen (Variable (number_name 65)) (StatementClause (IfThen (Variable (number_name 66)) (LineClause 10) (Else (LineClause 20)))) NoElse)))
+else_of_the_nearest_if : IsAdmissible (alone (IfThen (Variable (number_name 65)) (StatementClause (IfThen (Variable (number_name 66)) (LineClause 10) (Else (LineClause 20)))) NoElse))
 else_of_the_nearest_if = grind arith
 
-else_of_the_outer_if : ArePieces (line_pieces (alone (IfThen (Variable (number_name 65)) (StatementClause (IfThen (Variable (number_name 66)) (LineClause 10) NoElse)) (Else (LineClause 20))))) → ⊥
+else_of_the_outer_if : IsAdmissible (alone (IfThen (Variable (number_name 65)) (StatementClause (IfThen (Variable (number_name 66)) (LineClause 10) NoElse)) (Else (LineClause 20)))) → ⊥
 else_of_the_outer_if = grind arith
 
-a_line_behind_a_text : ArePieces (line_pieces (alone (Chain (Element (text_name 65) (AndTrees (Literal 5) NoTrees)) (Some (record { word = false; number = Parenthesized (Literal 6) })))))
+a_line_behind_a_text : IsAdmissible (alone (Chain (Element (text_name 65) (AndTrees (Literal 5) NoTrees)) (Some (record { word = false; number = Parenthesized (Literal 6) }))))
 a_line_behind_a_text = grind arith
 
-a_line_behind_a_name : ArePieces (line_pieces (alone (Chain (Variable (text_name 65)) (Some (record { word = false; number = Parenthesized (Literal 5) }))))) → ⊥
+a_line_behind_a_name : IsAdmissible (alone (Chain (Variable (text_name 65)) (Some (record { word = false; number = Parenthesized (Literal 5) })))) → ⊥
 a_line_behind_a_name = grind arith
 
-a_line_with_a_sign : ArePieces (line_pieces (alone (Chain (Variable (text_name 65)) (Some (record { word = false; number = Negative (Literal 5) }))))) → ⊥
+a_line_with_a_sign : IsAdmissible (alone (Chain (Variable (text_name 65)) (Some (record { word = false; number = Negative (Literal 5) })))) → ⊥
 a_line_with_a_sign = grind arith
 
-a_line_with_a_sign_behind_the_word : ArePieces (line_pieces (alone (Chain (Variable (text_name 65)) (Some (record { word = true; number = Negative (Literal 5) })))))
+a_line_with_a_sign_behind_the_word : IsAdmissible (alone (Chain (Variable (text_name 65)) (Some (record { word = true; number = Negative (Literal 5) }))))
 a_line_with_a_sign_behind_the_word = grind arith
 
 -- ---- levels of operators

@@ -5,9 +5,11 @@ use Rattle.basic_tree.specs.declared.tokens.Sign.TheVariants as sign
 use Rattle.basic_tree.specs.SpellingWords.{Word, Punctuation, Number, Step, Plain, Closes}
 use Rattle.basic_tree.specs.Trees.{Tree, ModifierTree, ClauseTree, LineClause, StatementClause, StatementTree, IfThen, IfGoto, Modified}
 use Rattle.basic_tree.specs.SpellingExpressions.{mark}
-use Rattle.basic_tree.specs.SpellingPieces.{pieces_steps, ArePieces, each}
-use Rattle.basic_tree.specs.SpellingParts.{modifier}
-use Rattle.basic_tree.specs.SpellingStatements.{is_if, is_head, closings, pieces_of, statement_pieces}
+use Rattle.basic_tree.specs.SpellingParts.{each}
+use Rattle.basic_tree.specs.SpellingStatements.{is_if, is_head}
+use Rattle.basic_tree.specs.MachinePieces.{pieces_steps, ArePieces}
+use Rattle.basic_tree.specs.MachineParts.{modifier}
+use Rattle.basic_tree.specs.MachineStatements.{closings, pieces_of, statement_pieces}
 use Rattle.basic_tree.specs.MachineStack.{Value, Stated, Modifying, Parsed, Values, top, stated, parsed, below, kept_stated, kept_parsed, with_statement, LineNumber, within, Form, ClauseIn, AddStatement, Modify, Symbol, Close, Do, Go, Await, AwaitClause, Modifiers, OneStatement, MoreStatements}
 use Rattle.basic_tree.specs.MachineSentences.{Class, Choice, Head, Simple, Sentence, sentence_of, modifier_of}
 use Rattle.basic_tree.specs.MachineMoves.{Move, Takes, Skips, Refuses, then_also, no_clause, behind_clause, clause_sentence, clause_move, form_move_with, form_move, behind_class, statement_move, one_statement, modified, modifiers, more_statements}

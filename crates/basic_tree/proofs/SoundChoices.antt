@@ -11,9 +11,11 @@ use Rattle.basic_tree.specs.declared.parts.Separator.TheVariants as separator
 use Rattle.basic_tree.specs.SpellingWords.{Step}
 use Rattle.basic_tree.specs.Trees.{Tree, PrintedTree, PrintItemTree, PromptTree, ElseTree, NoElse, Else, StatementTree, IfThen, IfGoto, Dim, DimFile, Def, Let, Print, Input, InputLine}
 use Rattle.basic_tree.specs.SpellingExpressions.{is_text, Fits, want_of}
-use Rattle.basic_tree.specs.SpellingPieces.{target, many, after_commas, optional, sign_piece, closing}
-use Rattle.basic_tree.specs.SpellingParts.{shape, file_shape, value, is_parted, kind_of_first, name, element_size}
-use Rattle.basic_tree.specs.SpellingStatements.{has_else, clause_wants_else, clause_pieces, else_pieces}
+use Rattle.basic_tree.specs.SpellingParts.{optional, is_parted, kind_of_first}
+use Rattle.basic_tree.specs.SpellingStatements.{has_else, clause_wants_else}
+use Rattle.basic_tree.specs.MachinePieces.{target, many, after_commas, sign_piece, closing}
+use Rattle.basic_tree.specs.MachineParts.{shape, file_shape, value, name, element_size}
+use Rattle.basic_tree.specs.MachineStatements.{clause_pieces, else_pieces}
 use Rattle.basic_tree.specs.MachineStack.{Value, Stated, TargetItem, ShapeItem, FileItem, NameItem, Shapes, FileShapes, Form, TakeKey, MoreOf}
 use Rattle.basic_tree.specs.MachineForms.{shape_form, size_form, targets_in, shapes_in, files_in, names_in, says, else_form, targets_form, value_form}
 use Rattle.basic_tree.specs.MachineSentences.{Choice, Head, Simple, if_form, dim_form, def_form, print_form, input_targets, input_form}

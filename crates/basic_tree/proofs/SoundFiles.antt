@@ -9,8 +9,9 @@ use Rattle.basic_tree.specs.declared.parts.OpenFor.TheVariants as purpose
 use Rattle.basic_tree.specs.SpellingWords.{Word, Step, words}
 use Rattle.basic_tree.specs.Trees.{Tree, StatementTree, Open, Close, Get, Put, Unlock, Field, Chain, CloseChannelTree, FieldPartTree}
 use Rattle.basic_tree.specs.SpellingExpressions.{steps_of}
-use Rattle.basic_tree.specs.SpellingPieces.{Piece, key, number, sign_piece, perhaps}
-use Rattle.basic_tree.specs.SpellingParts.{option_of, first_word, last_word, may_follow}
+use Rattle.basic_tree.specs.SpellingParts.{perhaps, first_word, last_word, may_follow}
+use Rattle.basic_tree.specs.MachinePieces.{Piece, key, number, sign_piece}
+use Rattle.basic_tree.specs.MachineParts.{option_of}
 use Rattle.basic_tree.specs.MachineStack.{Value, Stated, ChannelItem, FieldItem, Channels, TakeKey, TakeSign, ExprOf}
 use Rattle.basic_tree.specs.MachineForms.{chains, begins_value, list_form, channels_in, parts_in, says, number_option, cluster_form, options_form, file_form}
 use Rattle.basic_tree.specs.MachineSentences.{Simple, chain_form, open_form, field_form}

@@ -4,8 +4,8 @@ use Rattle.std.specs.Prelude.{nat_lt}
 use Rattle.basic_tree.specs.declared.names.Name.{Name}
 use Rattle.basic_tree.specs.declared.kinds.Want.{Want}
 use Rattle.basic_tree.specs.SpellingExpressions.{steps_of}
-use Rattle.basic_tree.specs.SpellingPieces.{line, target, after_commas}
-use Rattle.basic_tree.specs.SpellingParts.{shape, file_shape, name, close_channel, field_part}
+use Rattle.basic_tree.specs.MachinePieces.{line, target, after_commas}
+use Rattle.basic_tree.specs.MachineParts.{shape, file_shape, name, close_channel, field_part}
 use Rattle.basic_tree.specs.MachineStack.{Item, TargetItem, ShapeItem, FileItem, NameItem, LineItem, ChannelItem, FieldItem, Targets, Shapes, FileShapes, Parameters, Lines, Channels, FieldParts}
 use Rattle.basic_tree.specs.MachineForms.{targets_in, shapes_in, files_in, names_in, lines_in, channels_in, parts_in}
 use Rattle.basic_tree.proofs.MachineReads.{AreItems, items_steps}

@@ -6,9 +6,9 @@ use Rattle.basic_tree.specs.declared.kinds.Want.{Want}
 use Rattle.basic_tree.specs.SpellingWords.{Named, Number, Step, Plain}
 use Rattle.basic_tree.specs.Trees.{Tree, Variable, StatementTree, ModifierTree}
 use Rattle.basic_tree.specs.SpellingExpressions.{steps_of, Fits, IsTree}
-use Rattle.basic_tree.specs.SpellingPieces.{Piece, Fixed, Expression, NameOf, LiteralOf, Holds, pieces_steps, ArePieces}
-use Rattle.basic_tree.specs.SpellingParts.{modifier}
-use Rattle.basic_tree.specs.SpellingStatements.{closings, pieces_of}
+use Rattle.basic_tree.specs.MachinePieces.{Piece, Fixed, Expression, NameOf, LiteralOf, Holds, pieces_steps, ArePieces}
+use Rattle.basic_tree.specs.MachineParts.{modifier}
+use Rattle.basic_tree.specs.MachineStatements.{closings, pieces_of}
 use Rattle.basic_tree.specs.MachineStack.{Value, Stated, Modifying, Form}
 use Rattle.basic_tree.specs.MachineSentences.{Class}
 use Rattle.basic_tree.proofs.PieceLists.{steps_append, pieces_append}

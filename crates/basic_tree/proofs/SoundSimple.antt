@@ -6,8 +6,9 @@ use Rattle.basic_tree.specs.declared.kinds.Want.TheVariants as want
 use Rattle.basic_tree.specs.SpellingWords.{Step, Plain}
 use Rattle.basic_tree.specs.SpellingWords.{Item as ItemOf}
 use Rattle.basic_tree.specs.Trees.{Tree, If, Unless, While, Until, ForModifier, For, Next, FnEnd, Data, Result, Read, Restore, Goto, Gosub, Return, OnGoto, OnGosub, OnErrorGoto, Resume, Stop, End, Sleep, Lset, Rset, Kill, Rename}
-use Rattle.basic_tree.specs.SpellingPieces.{Fixed, each}
-use Rattle.basic_tree.specs.SpellingParts.{range}
+use Rattle.basic_tree.specs.SpellingParts.{each}
+use Rattle.basic_tree.specs.MachinePieces.{Fixed}
+use Rattle.basic_tree.specs.MachineParts.{range}
 use Rattle.basic_tree.specs.MachineStack.{Value, Stated, Modifying, TargetItem, LineItem, Targets, LineNumber, Bound, Made, TakeKey, ExprOf, LiteralIn, LiteralIf}
 use Rattle.basic_tree.specs.MachineForms.{list_form, targets_in, lines_in, says, range_form}
 use Rattle.basic_tree.specs.MachineSentences.{Head, Simple, for_form, next_form, data_form, result_form, go_form, on_form, lset_form, rset_form}

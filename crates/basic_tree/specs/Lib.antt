@@ -14,7 +14,6 @@ pub mod LineVerdicts
 pub mod ReadableWords
 pub mod SpellingExpressions
 pub mod SpellingParts
-pub mod SpellingPieces
 pub mod SpellingStatements
 pub mod SpellingWords
 pub mod StatementViews
@@ -23,3 +22,6 @@ pub mod Tokens
 pub mod TreeViews
 pub mod Trees
 pub mod Words
+pub mod MachinePieces
+pub mod MachineParts
+pub mod MachineStatements

@@ -10,8 +10,7 @@ use Rattle.basic_tree.specs.Tokens.{Lexeme, quote_after, cuts, tokens_of}
 use Rattle.basic_tree.specs.SpellingWords.{Word, Key, Punctuation, Named, FnNamed, Number, Quotation, Item, words_of, words, too_deep}
 use Rattle.basic_tree.specs.Trees.{Tree, LineTree}
 use Rattle.basic_tree.specs.SpellingExpressions.{steps_of, IsTree, Fits}
-use Rattle.basic_tree.specs.SpellingPieces.{ArePieces}
-use Rattle.basic_tree.specs.SpellingStatements.{line_pieces, line_steps}
+use Rattle.basic_tree.specs.SpellingStatements.{line_steps, IsAdmissible}
 use Rattle.basic_tree.specs.GrammarPlaces.{IsRead}
 use Rattle.basic_tree.specs.LineVerdicts.{Spells}
 
@@ -68,5 +67,5 @@ AreReadable (w ∷ ws) = IsReadable w × AreReadable ws
 
 -- every line within the limit of levels, of readable words, is spelled by some bytes, and so is every expression
 pub record TreesAreSpelled : Type 0 where
-  pub lines : (l : LineTree) → ArePieces (line_pieces l) → too_deep (line_steps l) ≡ None → AreReadable (words (line_steps l)) → (line : List ℕ) × Spells line l
+  pub lines : (l : LineTree) → IsAdmissible l → too_deep (line_steps l) ≡ None → AreReadable (words (line_steps l)) → (line : List ℕ) × Spells line l
   pub expressions : (w : Want) (t : Tree) → IsTree t → Fits w t → too_deep (steps_of t) ≡ None → AreReadable (words (steps_of t)) → (line : List ℕ) × (tokens : List Lexeme) × (tokens_of line ≡ Ok tokens) × IsRead w (words_of tokens) 0 t (length tokens)

@@ -1,10 +1,13 @@
--- The parts of statements: targets, shapes, items of PRINT, modifiers and the options of OPEN.
-use Rattle.std.specs.Prelude.{ℕ, ◌&&◌, ◌||◌, Bool, true, false, not, nat_lt, List, [], ◌∷◌, ◌++◌, Option, Some, None}
+-- The parts of statements: of each the words that spell it, and when it is admissible.
+use Rattle.std.specs.Prelude.{◌≡◌, ℕ, ◌+◌, ◌&&◌, ◌||◌, Bool, true, false, not, nat_lt, if◌then◌else◌, List, [], ◌∷◌, ◌++◌, Option, Some, None}
 use Rattle.std.specs.Int.{is_power_of_two}
+use Rattle.basic_tree.specs.Limits.{most_number}
 use Rattle.basic_tree.specs.declared.names.Name.{Name}
 use Rattle.basic_tree.specs.declared.tokens.Keyword.{Keyword}
 use Rattle.basic_tree.specs.declared.tokens.Keyword.TheVariants as keyword
+use Rattle.basic_tree.specs.declared.tokens.Sign.{Sign}
 use Rattle.basic_tree.specs.declared.tokens.Sign.TheVariants as sign
+use Rattle.basic_tree.specs.declared.kinds.Want.{Want}
 use Rattle.basic_tree.specs.declared.kinds.Want.TheVariants as want
 use Rattle.basic_tree.specs.declared.parts.Shape.{Shape}
 use Rattle.basic_tree.specs.declared.parts.FileShape.{FileShape}
@@ -12,45 +15,151 @@ use Rattle.basic_tree.specs.declared.parts.Separator.{Separator}
 use Rattle.basic_tree.specs.declared.parts.Separator.TheVariants as separator
 use Rattle.basic_tree.specs.declared.parts.OpenFor.{OpenFor}
 use Rattle.basic_tree.specs.declared.parts.OpenFor.TheVariants as purpose
-use Rattle.basic_tree.specs.SpellingWords.{Word, Punctuation, Named, FnNamed, Quotation, Plain, words}
-use Rattle.basic_tree.specs.Trees.{Tree, PrintedTree, Value, Tab, ModifierTree, If, Unless, While, Until, ForModifier, PrintItemTree, PrintChannelTree, PromptTree, ChainLineTree, CloseChannelTree, FieldPartTree}
-use Rattle.basic_tree.specs.SpellingExpressions.{steps_of, is_text, want_of}
-use Rattle.basic_tree.specs.SpellingPieces.{Piece, Fixed, Expression, NameOf, LiteralOf, Holds, key, sign_piece, opening, opening_parenthesis, closing, number, bound, perhaps, optional, many}
+use Rattle.basic_tree.specs.SpellingWords.{Word, Key, Punctuation, Named, FnNamed, Number, Quotation, Step, Plain, Opens, Closes, words}
+use Rattle.basic_tree.specs.Trees.{Tree, Variable, Element, PrintedTree, Value, Tab, ModifierTree, If, Unless, While, Until, ForModifier, PrintItemTree, PrintChannelTree, PromptTree, ChainLineTree, CloseChannelTree, FieldPartTree}
+use Rattle.basic_tree.specs.SpellingExpressions.{steps_of, Fits, IsTree, is_text}
+
+-- words and expressions in the order of the text
+abbrev pub Spelling : Type 0
+Spelling = List (List Step)
+
+abbrev pub steps_in : Spelling → List Step
+steps_in [] = []
+steps_in (steps ∷ more) = steps ++ steps_in more
+
+-- ---- single words
+
+abbrev pub keyed : Keyword → List Step
+keyed k = Plain (Key k) ∷ []
+
+abbrev pub signed : Sign → List Step
+signed s = Plain (Punctuation s) ∷ []
+
+-- a word that opens a level of nesting, and the end of a level
+abbrev pub opens : Keyword → List Step
+opens k = Opens (Key k) ∷ []
+
+abbrev pub opens_list : List Step
+opens_list = Opens (Punctuation sign.Opening) ∷ []
+
+abbrev pub closes : List Step
+closes = Closes ∷ []
+
+abbrev pub named : Name → List Step
+named n = Plain (Named n) ∷ []
+
+abbrev pub literal : ℕ → List Step
+literal n = Plain (Number n) ∷ []
+
+-- ---- parts that may be left out, and lists
+
+-- a word or sign that changes nothing
+abbrev pub perhaps : {B : Type 0} → Bool → B → List B
+perhaps stands p = if stands then p ∷ [] else []
+
+abbrev pub optional : {A B : Type 0} → (A → List B) → Option A → List B
+optional parts None = []
+optional parts (Some a) = parts a
+
+-- each behind the last
+abbrev pub each : {A B : Type 0} → (A → List B) → List A → List B
+each parts [] = []
+each parts (a ∷ more) = parts a ++ each parts more
+
+-- each behind a comma
+abbrev pub comma_each : {A : Type 0} → (A → Spelling) → List A → Spelling
+comma_each spelling [] = []
+comma_each spelling (a ∷ more) = signed sign.Comma ∷ (spelling a ++ comma_each spelling more)
+
+-- one or more, with commas between
+abbrev pub listed : {A : Type 0} → (A → Spelling) → List A → Spelling
+listed spelling [] = []
+listed spelling (a ∷ more) = spelling a ++ comma_each spelling more
+
+-- where there is one it is so
+abbrev pub IfThere : {A : Type 0} → (A → Type 0) → Option A → Type 0
+IfThere P None = Unit {0}
+IfThere P (Some a) = P a
+
+-- all are so
+abbrev pub Every : {A : Type 0} → (A → Type 0) → List A → Type 0
+Every P [] = Unit {0}
+Every P (a ∷ more) = P a × Every P more
+
+abbrev pub has_some : {A : Type 0} → List A → Bool
+has_some [] = false
+has_some (a ∷ more) = true
+
+-- there are some, and all are so
+abbrev pub Several : {A : Type 0} → (A → Type 0) → List A → Type 0
+Several P list = (has_some list ≡ true) × Every P list
+
+-- ---- expressions, names and numbers in statements
+
+-- an expression of a wanted kind
+abbrev pub IsOf : Want → Tree → Type 0
+IsOf w t = IsTree t × Fits w t
+
+-- the number of a line
+abbrev pub is_line_number : ℕ → Bool
+is_line_number n = nat_lt 0 n && nat_lt n (most_number + 1)
+
+-- a bound of an array, the channel of DIM, or the number of a line or 0
+abbrev pub is_bound : ℕ → Bool
+is_bound n = nat_lt n (most_number + 1)
+
+-- a variable or an element of an array
+abbrev pub is_target : Tree → Bool
+is_target (Variable name) = true
+is_target (Element name subscripts) = true
+is_target other = false
+
+abbrev pub IsTarget : Want → Tree → Type 0
+IsTarget w t = (is_target t ≡ true) × IsOf w t
 
 -- ---- shapes of arrays
 
-abbrev pub shape : Shape → List Piece
-shape s =
-    NameOf want.Either s.name ∷ opening_parenthesis ∷ bound s.first
-    ∷ (optional (λ second. sign_piece sign.Comma ∷ bound second ∷ []) s.second ++ sign_piece sign.Closing ∷ closing ∷ [])
+abbrev pub shape_spelling : Shape → Spelling
+shape_spelling s =
+    named s.name ∷ opens_list ∷ literal s.first
+    ∷ (optional (λ second. signed sign.Comma ∷ literal second ∷ []) s.second ++ signed sign.Closing ∷ closes ∷ [])
+
+abbrev pub IsShape : Shape → Type 0
+IsShape s = (is_bound s.first ≡ true) × IfThere (λ second. is_bound second ≡ true) s.second
 
 -- the bytes of an element: a power of two from 2 to 512, of a text array alone
-abbrev pub element_size : Name → ℕ → List Piece
-element_size name n =
-    Holds name.text ∷ sign_piece sign.Equal ∷ LiteralOf (is_power_of_two n && nat_lt 1 n && nat_lt n 513) n ∷ []
+abbrev pub is_size : ℕ → Bool
+is_size n = is_power_of_two n && nat_lt 1 n && nat_lt n 513
 
-abbrev pub file_shape : FileShape → List Piece
-file_shape s = shape s.shape ++ optional (λ size. element_size s.shape.name size) s.size
+abbrev pub file_shape_spelling : FileShape → Spelling
+file_shape_spelling s = shape_spelling s.shape ++ optional (λ size. signed sign.Equal ∷ literal size ∷ []) s.size
+
+abbrev pub IsFileShape : FileShape → Type 0
+IsFileShape s = IsShape s.shape × IfThere (λ size. (s.shape.name.text ≡ true) × (is_size size ≡ true)) s.size
 
 -- ---- PRINT, INPUT and their channels
 
-abbrev pub separator_piece : Separator → Piece
-separator_piece separator.Comma = sign_piece sign.Comma
-separator_piece separator.Semicolon = sign_piece sign.Semicolon
+abbrev pub separator_steps : Separator → List Step
+separator_steps separator.Comma = signed sign.Comma
+separator_steps separator.Semicolon = signed sign.Semicolon
 
-abbrev pub printed : PrintedTree → List Piece
-printed (Value t) = Expression want.Either t ∷ []
-printed (Tab t) = key keyword.Tab ∷ opening_parenthesis ∷ number t ∷ sign_piece sign.Closing ∷ closing ∷ []
+abbrev pub printed_spelling : PrintedTree → Spelling
+printed_spelling (Value t) = steps_of t ∷ []
+printed_spelling (Tab t) = keyed keyword.Tab ∷ opens_list ∷ steps_of t ∷ signed sign.Closing ∷ closes ∷ []
 
-abbrev pub print_item : PrintItemTree → List Piece
-print_item item = printed item.printed ++ separator_piece item.separator ∷ []
+abbrev pub IsPrinted : PrintedTree → Type 0
+IsPrinted (Value t) = IsOf want.Either t
+IsPrinted (Tab t) = IsOf want.Number t
+
+abbrev pub item_spelling : PrintItemTree → Spelling
+item_spelling item = printed_spelling item.printed ++ separator_steps item.separator ∷ []
 
 -- `#` and a channel
-abbrev pub channel : Tree → List Piece
-channel t = sign_piece sign.Hash ∷ number t ∷ []
+abbrev pub channel_spelling : Tree → Spelling
+channel_spelling t = signed sign.Hash ∷ steps_of t ∷ []
 
-abbrev pub print_channel : PrintChannelTree → List Piece
-print_channel c = channel c.number ++ perhaps c.comma (sign_piece sign.Comma)
+abbrev pub print_channel_spelling : PrintChannelTree → Spelling
+print_channel_spelling c = channel_spelling c.number ++ perhaps c.comma (signed sign.Comma)
 
 -- behind the channel of PRINT a comma stands where items follow
 abbrev pub is_parted : Option PrintChannelTree → List PrintItemTree → Option PrintedTree → Bool
@@ -58,11 +167,11 @@ is_parted None items last = true
 is_parted (Some c) [] None = true
 is_parted (Some c) items last = c.comma
 
-abbrev pub channel_and_comma : Tree → List Piece
-channel_and_comma t = channel t ++ sign_piece sign.Comma ∷ []
+abbrev pub channel_comma_spelling : Tree → Spelling
+channel_comma_spelling t = channel_spelling t ++ signed sign.Comma ∷ []
 
-abbrev pub prompt : PromptTree → List Piece
-prompt p = Fixed (Plain (Quotation p.text)) ∷ separator_piece p.separator ∷ []
+abbrev pub prompt_spelling : PromptTree → Spelling
+prompt_spelling p = (Plain (Quotation p.text) ∷ []) ∷ separator_steps p.separator ∷ []
 
 -- INPUT has a channel, a prompt or neither
 abbrev pub is_one : {A B : Type 0} → Option A → Option B → Bool
@@ -72,32 +181,39 @@ is_one a b = true
 -- ---- counting
 
 -- `= start TO limit` and perhaps `STEP step`
-abbrev pub range : Name → Tree → Tree → Option Tree → List Piece
-range v start limit step =
-    NameOf want.Number v ∷ sign_piece sign.Equal ∷ number start ∷ key keyword.To ∷ number limit
-    ∷ optional (λ t. key keyword.Step ∷ number t ∷ []) step
+abbrev pub range_spelling : Name → Tree → Tree → Option Tree → Spelling
+range_spelling v start limit step =
+    named v ∷ signed sign.Equal ∷ steps_of start ∷ keyed keyword.To ∷ steps_of limit
+    ∷ optional (λ t. keyed keyword.Step ∷ steps_of t ∷ []) step
+
+abbrev pub IsRange : Name → Tree → Tree → Option Tree → Type 0
+IsRange v start limit step = (v.text ≡ false) × IsOf want.Number start × IsOf want.Number limit × IfThere (λ t. IsOf want.Number t) step
 
 -- a modifier's word opens a level, in which its expressions stand
-abbrev pub modifier : ModifierTree → List Piece
-modifier (If t) = opening keyword.If ∷ number t ∷ []
-modifier (Unless t) = opening keyword.Unless ∷ number t ∷ []
-modifier (While t) = opening keyword.While ∷ number t ∷ []
-modifier (Until t) = opening keyword.Until ∷ number t ∷ []
-modifier (ForModifier v start limit step) = opening keyword.For ∷ range v start limit step
+abbrev pub modifier_spelling : ModifierTree → Spelling
+modifier_spelling (If t) = opens keyword.If ∷ steps_of t ∷ []
+modifier_spelling (Unless t) = opens keyword.Unless ∷ steps_of t ∷ []
+modifier_spelling (While t) = opens keyword.While ∷ steps_of t ∷ []
+modifier_spelling (Until t) = opens keyword.Until ∷ steps_of t ∷ []
+modifier_spelling (ForModifier v start limit step) = opens keyword.For ∷ range_spelling v start limit step
+
+abbrev pub IsModifier : ModifierTree → Type 0
+IsModifier (If t) = IsOf want.Number t
+IsModifier (Unless t) = IsOf want.Number t
+IsModifier (While t) = IsOf want.Number t
+IsModifier (Until t) = IsOf want.Number t
+IsModifier (ForModifier v start limit step) = IsRange v start limit step
 
 -- ---- functions of the program and assignments
 
-abbrev pub name : Name → List Piece
-name n = NameOf want.Either n ∷ []
-
 -- parameters in parentheses, where there are any
-abbrev pub parameters : List Name → List Piece
-parameters [] = []
-parameters (n ∷ ns) = opening_parenthesis ∷ (many name (n ∷ ns) ++ sign_piece sign.Closing ∷ closing ∷ [])
+abbrev pub parameters_spelling : List Name → Spelling
+parameters_spelling [] = []
+parameters_spelling (n ∷ ns) = opens_list ∷ (listed (λ m. named m ∷ []) (n ∷ ns) ++ signed sign.Closing ∷ closes ∷ [])
 
--- `=` and a value of a kind
-abbrev pub value : Bool → Tree → List Piece
-value is_textual t = sign_piece sign.Equal ∷ Expression (want_of is_textual) t ∷ []
+-- `=` and a value
+abbrev pub value_spelling : Tree → Spelling
+value_spelling t = signed sign.Equal ∷ steps_of t ∷ []
 
 -- the kind of the first target, which all have
 abbrev pub kind_of_first : List Tree → Bool
@@ -128,25 +244,30 @@ may_follow last (Some (Punctuation sign.Minus)) = false
 may_follow last (Some (Punctuation sign.Opening)) = not (is_name last)
 may_follow last other = true
 
-abbrev pub chain_line : Tree → ChainLineTree → List Piece
-chain_line program l =
-    perhaps l.word (key keyword.Line)
-    ++ Holds (l.word || may_follow (last_word (words (steps_of program))) (first_word (words (steps_of l.number))))
-    ∷ number l.number ∷ []
+abbrev pub chain_line_spelling : ChainLineTree → Spelling
+chain_line_spelling l = perhaps l.word (keyed keyword.Line) ++ steps_of l.number ∷ []
+
+abbrev pub IsChainLine : Tree → ChainLineTree → Type 0
+IsChainLine program l =
+    ((l.word || may_follow (last_word (words (steps_of program))) (first_word (words (steps_of l.number)))) ≡ true)
+    × IsOf want.Number l.number
 
 -- ---- files
 
-abbrev pub open_for : OpenFor → List Piece
-open_for purpose.Input = key keyword.For ∷ key keyword.Input ∷ []
-open_for purpose.Output = key keyword.For ∷ key keyword.Output ∷ []
-open_for purpose.Either = []
+abbrev pub purpose_spelling : OpenFor → Spelling
+purpose_spelling purpose.Input = keyed keyword.For ∷ keyed keyword.Input ∷ []
+purpose_spelling purpose.Output = keyed keyword.For ∷ keyed keyword.Output ∷ []
+purpose_spelling purpose.Either = []
 
 -- a comma, a word and a number
-abbrev pub option_of : Keyword → Option Tree → List Piece
-option_of word t = optional (λ n. sign_piece sign.Comma ∷ key word ∷ number n ∷ []) t
+abbrev pub option_spelling : Keyword → Option Tree → Spelling
+option_spelling word t = optional (λ n. signed sign.Comma ∷ keyed word ∷ steps_of n ∷ []) t
 
-abbrev pub close_channel : CloseChannelTree → List Piece
-close_channel c = perhaps c.hash (sign_piece sign.Hash) ++ number c.number ∷ []
+abbrev pub close_channel_spelling : CloseChannelTree → Spelling
+close_channel_spelling c = perhaps c.hash (signed sign.Hash) ++ steps_of c.number ∷ []
 
-abbrev pub field_part : FieldPartTree → List Piece
-field_part p = number p.width ∷ key keyword.As ∷ NameOf want.Text p.name ∷ []
+abbrev pub field_part_spelling : FieldPartTree → Spelling
+field_part_spelling p = steps_of p.width ∷ keyed keyword.As ∷ named p.name ∷ []
+
+abbrev pub IsFieldPart : FieldPartTree → Type 0
+IsFieldPart p = IsOf want.Number p.width × (p.name.text ≡ true)

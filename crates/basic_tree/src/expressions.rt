@@ -1,4 +1,4 @@
-//! Expressions as trees. Each variant is a form of the grammar, its fields in the order of the text.
+//! Expressions as trees. Each variant is a form of the grammar, its fields in the text's order.
 
 use crate::names::Name;
 use basic_values::Text;
@@ -74,12 +74,12 @@ pub enum Expr {
         first: Box<Expr>,
         second: Option<Box<Expr>>,
     },
-    /// A function of the language and its arguments: none for ERR, ERL and RECOUNT, else one to three.
+    /// A function of the language and its arguments, one to three; none for ERR, ERL and RECOUNT.
     Function {
         function: Function,
         arguments: Vec<Expr>,
     },
-    /// A function of the program, whose name stands behind FN, and its arguments, of which there may be none.
+    /// A function of the program, whose name stands behind FN, and its arguments, if any.
     Call {
         name: Name,
         arguments: Vec<Expr>,

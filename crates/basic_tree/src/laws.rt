@@ -1,10 +1,13 @@
-//! What a user relies on, as laws over the definitions: each is the contract of a function that does nothing.
+//! What a user relies on, as laws over the definitions.
+//! Each is the contract of a function that does nothing.
 
-ghost use Rattle.basic_tree.specs.AnswerLaws.{LevelsAreSettled, OneExprAnswer, OneLineAnswer, OneBytesAnswer, OneVerdict};
+ghost use Rattle.basic_tree.specs.AnswerLaws.{LevelsAreSettled, OneBytesAnswer, OneVerdict};
+ghost use Rattle.basic_tree.specs.AnswerLaws.{OneExprAnswer, OneLineAnswer};
 ghost use Rattle.basic_tree.specs.GrammarPlaces.{ExpressionsAreRead, OneTree, OneLine};
 ghost use Rattle.basic_tree.specs.LineVerdicts.{LinesAreJudged};
 ghost use Rattle.basic_tree.specs.ReadableWords.{TreesAreSpelled};
-ghost use Rattle.basic_tree.specs.TokenLaws.{TokensAreSlices, BlanksMoveTokens, BlanksSeparateTokens, LongestIsTaken};
+ghost use Rattle.basic_tree.specs.TokenLaws.{BlanksMoveTokens, BlanksSeparateTokens};
+ghost use Rattle.basic_tree.specs.TokenLaws.{LongestIsTaken, TokensAreSlices};
 
 /// The tokens of a line are slices of it, whose starts rise and of which no two overlap.
 pub fn tokens_are_slices()
@@ -41,7 +44,8 @@ pub fn lines_are_judged()
     ensures { LinesAreJudged }
 {}
 
-/// Every admissible line within the limit of levels is spelled by some bytes, and so is every expression.
+/// Every admissible line within the limit of levels is spelled by some bytes, where bytes spell
+/// each of its words, and so is every expression.
 pub fn trees_are_spelled()
     ensures { TreesAreSpelled }
 {}
@@ -56,7 +60,8 @@ pub fn levels_are_settled()
     ensures { LevelsAreSettled }
 {}
 
-/// From a place on, words are read as one expression up to one place, or refused at one place for one cause.
+/// From a place on, words are read as one expression up to one place, or refused at one place
+/// for one cause.
 pub fn expressions_have_one_answer()
     ensures { OneExprAnswer }
 {}

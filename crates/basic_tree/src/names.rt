@@ -1,6 +1,6 @@
 //! The names of variables, arrays and functions.
 
-/// A letter and perhaps a digit, of a number (`%`) or of a text (`$`). Letters are capitals, digits bytes.
+/// A capital letter and perhaps a digit, by their bytes, of a number (`%`) or of a text (`$`).
 #[derive(Clone, Copy, Debug, PartialEq, Eq, PartialOrd, Ord)]
 pub struct Name {
     pub letter: u8,

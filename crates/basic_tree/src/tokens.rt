@@ -148,7 +148,7 @@ pub enum Cause {
     TooDeep,
 }
 
-/// The first place that is refused, and why. The scanner counts bytes, the parser tokens, both from 0.
+/// The first place that is refused, and why. The scanner counts bytes, the parser tokens, from 0.
 #[derive(Clone, Copy, Debug, PartialEq, Eq)]
 pub struct Refusal {
     pub place: u16,

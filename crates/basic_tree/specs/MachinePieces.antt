@@ -1,6 +1,5 @@
--- What statements are spelled from: words, expressions, names and literals; parts that may be left out, and lists.
-use Rattle.std.specs.Prelude.{◌≡◌, ℕ, ◌+◌, ◌&&◌, Bool, true, false, nat_lt, if◌then◌else◌, List, [], ◌∷◌, ◌++◌, Option, Some, None}
-use Rattle.basic_tree.specs.Limits.{most_number}
+-- What statements are spelled from, with the conditions where a parser meets them. No promise speaks of it: it carries proofs alone.
+use Rattle.std.specs.Prelude.{◌≡◌, ℕ, Bool, true, false, List, [], ◌∷◌, ◌++◌}
 use Rattle.basic_tree.specs.declared.names.Name.{Name}
 use Rattle.basic_tree.specs.declared.tokens.Keyword.{Keyword}
 use Rattle.basic_tree.specs.declared.tokens.Sign.{Sign}
@@ -8,8 +7,9 @@ use Rattle.basic_tree.specs.declared.tokens.Sign.TheVariants as sign
 use Rattle.basic_tree.specs.declared.kinds.Want.{Want}
 use Rattle.basic_tree.specs.declared.kinds.Want.TheVariants as want
 use Rattle.basic_tree.specs.SpellingWords.{Key, Punctuation, Named, Number, Step, Plain, Opens, Closes}
-use Rattle.basic_tree.specs.Trees.{Tree, Variable, Element}
+use Rattle.basic_tree.specs.Trees.{Tree, Variable}
 use Rattle.basic_tree.specs.SpellingExpressions.{steps_of, Fits, IsTree}
+use Rattle.basic_tree.specs.SpellingParts.{is_line_number, is_bound, is_target}
 
 pub data Piece : Type 0 where
   -- a word, or the end of a level
@@ -72,39 +72,21 @@ text t = Expression want.Text t
 
 -- the number of a line
 abbrev pub line : ℕ → Piece
-line n = LiteralOf (nat_lt 0 n && nat_lt n (most_number + 1)) n
+line n = LiteralOf (is_line_number n) n
 
 -- the number of a line, or 0
 abbrev pub line_or_zero : ℕ → Piece
-line_or_zero n = LiteralOf (nat_lt n (most_number + 1)) n
+line_or_zero n = LiteralOf (is_bound n) n
 
 -- a bound of an array, or the channel of DIM
 abbrev pub bound : ℕ → Piece
-bound n = LiteralOf (nat_lt n (most_number + 1)) n
+bound n = LiteralOf (is_bound n) n
 
 -- a variable or an element of an array
-abbrev pub is_target : Tree → Bool
-is_target (Variable name) = true
-is_target (Element name subscripts) = true
-is_target other = false
-
 abbrev pub target : Want → Tree → List Piece
 target w t = Holds (is_target t) ∷ Expression w t ∷ []
 
--- ---- parts that may be left out, and lists
-
--- a word or sign that changes nothing
-abbrev pub perhaps : Bool → Piece → List Piece
-perhaps stands p = if stands then p ∷ [] else []
-
-abbrev pub optional : {A : Type 0} → (A → List Piece) → Option A → List Piece
-optional pieces None = []
-optional pieces (Some a) = pieces a
-
--- each behind the last
-abbrev pub each : {A : Type 0} → (A → List Piece) → List A → List Piece
-each pieces [] = []
-each pieces (a ∷ more) = pieces a ++ each pieces more
+-- ---- lists
 
 -- each behind a comma
 abbrev pub after_commas : {A : Type 0} → (A → List Piece) → List A → List Piece

@@ -1,0 +1,114 @@
+-- The pieces of parts of statements, with the conditions where a parser meets them. No promise speaks of it: it carries proofs alone.
+use Rattle.std.specs.Prelude.{ℕ, ◌||◌, Bool, List, [], ◌∷◌, ◌++◌, Option}
+use Rattle.basic_tree.specs.declared.names.Name.{Name}
+use Rattle.basic_tree.specs.declared.tokens.Keyword.{Keyword}
+use Rattle.basic_tree.specs.declared.tokens.Keyword.TheVariants as keyword
+use Rattle.basic_tree.specs.declared.tokens.Sign.TheVariants as sign
+use Rattle.basic_tree.specs.declared.kinds.Want.TheVariants as want
+use Rattle.basic_tree.specs.declared.parts.Shape.{Shape}
+use Rattle.basic_tree.specs.declared.parts.FileShape.{FileShape}
+use Rattle.basic_tree.specs.declared.parts.Separator.{Separator}
+use Rattle.basic_tree.specs.declared.parts.Separator.TheVariants as separator
+use Rattle.basic_tree.specs.declared.parts.OpenFor.{OpenFor}
+use Rattle.basic_tree.specs.declared.parts.OpenFor.TheVariants as purpose
+use Rattle.basic_tree.specs.SpellingWords.{Quotation, Plain, words}
+use Rattle.basic_tree.specs.Trees.{Tree, PrintedTree, Value, Tab, ModifierTree, If, Unless, While, Until, ForModifier, PrintItemTree, PrintChannelTree, PromptTree, ChainLineTree, CloseChannelTree, FieldPartTree}
+use Rattle.basic_tree.specs.SpellingExpressions.{steps_of, want_of}
+use Rattle.basic_tree.specs.SpellingParts.{perhaps, optional, first_word, last_word, may_follow, is_size}
+use Rattle.basic_tree.specs.MachinePieces.{Piece, Fixed, Expression, NameOf, LiteralOf, Holds, key, sign_piece, opening, opening_parenthesis, closing, number, bound, many}
+
+-- ---- shapes of arrays
+
+abbrev pub shape : Shape → List Piece
+shape s =
+    NameOf want.Either s.name ∷ opening_parenthesis ∷ bound s.first
+    ∷ (optional (λ second. sign_piece sign.Comma ∷ bound second ∷ []) s.second ++ sign_piece sign.Closing ∷ closing ∷ [])
+
+-- the bytes of an element: a power of two from 2 to 512, of a text array alone
+abbrev pub element_size : Name → ℕ → List Piece
+element_size name n =
+    Holds name.text ∷ sign_piece sign.Equal ∷ LiteralOf (is_size n) n ∷ []
+
+abbrev pub file_shape : FileShape → List Piece
+file_shape s = shape s.shape ++ optional (λ size. element_size s.shape.name size) s.size
+
+-- ---- PRINT, INPUT and their channels
+
+abbrev pub separator_piece : Separator → Piece
+separator_piece separator.Comma = sign_piece sign.Comma
+separator_piece separator.Semicolon = sign_piece sign.Semicolon
+
+abbrev pub printed : PrintedTree → List Piece
+printed (Value t) = Expression want.Either t ∷ []
+printed (Tab t) = key keyword.Tab ∷ opening_parenthesis ∷ number t ∷ sign_piece sign.Closing ∷ closing ∷ []
+
+abbrev pub print_item : PrintItemTree → List Piece
+print_item item = printed item.printed ++ separator_piece item.separator ∷ []
+
+-- `#` and a channel
+abbrev pub channel : Tree → List Piece
+channel t = sign_piece sign.Hash ∷ number t ∷ []
+
+abbrev pub print_channel : PrintChannelTree → List Piece
+print_channel c = channel c.number ++ perhaps c.comma (sign_piece sign.Comma)
+
+abbrev pub channel_and_comma : Tree → List Piece
+channel_and_comma t = channel t ++ sign_piece sign.Comma ∷ []
+
+abbrev pub prompt : PromptTree → List Piece
+prompt p = Fixed (Plain (Quotation p.text)) ∷ separator_piece p.separator ∷ []
+
+-- ---- counting
+
+-- `= start TO limit` and perhaps `STEP step`
+abbrev pub range : Name → Tree → Tree → Option Tree → List Piece
+range v start limit step =
+    NameOf want.Number v ∷ sign_piece sign.Equal ∷ number start ∷ key keyword.To ∷ number limit
+    ∷ optional (λ t. key keyword.Step ∷ number t ∷ []) step
+
+-- a modifier's word opens a level, in which its expressions stand
+abbrev pub modifier : ModifierTree → List Piece
+modifier (If t) = opening keyword.If ∷ number t ∷ []
+modifier (Unless t) = opening keyword.Unless ∷ number t ∷ []
+modifier (While t) = opening keyword.While ∷ number t ∷ []
+modifier (Until t) = opening keyword.Until ∷ number t ∷ []
+modifier (ForModifier v start limit step) = opening keyword.For ∷ range v start limit step
+
+-- ---- functions of the program and assignments
+
+abbrev pub name : Name → List Piece
+name n = NameOf want.Either n ∷ []
+
+-- parameters in parentheses, where there are any
+abbrev pub parameters : List Name → List Piece
+parameters [] = []
+parameters (n ∷ ns) = opening_parenthesis ∷ (many name (n ∷ ns) ++ sign_piece sign.Closing ∷ closing ∷ [])
+
+-- `=` and a value of a kind
+abbrev pub value : Bool → Tree → List Piece
+value is_textual t = sign_piece sign.Equal ∷ Expression (want_of is_textual) t ∷ []
+
+-- ---- CHAIN
+
+abbrev pub chain_line : Tree → ChainLineTree → List Piece
+chain_line program l =
+    perhaps l.word (key keyword.Line)
+    ++ Holds (l.word || may_follow (last_word (words (steps_of program))) (first_word (words (steps_of l.number))))
+    ∷ number l.number ∷ []
+
+-- ---- files
+
+abbrev pub open_for : OpenFor → List Piece
+open_for purpose.Input = key keyword.For ∷ key keyword.Input ∷ []
+open_for purpose.Output = key keyword.For ∷ key keyword.Output ∷ []
+open_for purpose.Either = []
+
+-- a comma, a word and a number
+abbrev pub option_of : Keyword → Option Tree → List Piece
+option_of word t = optional (λ n. sign_piece sign.Comma ∷ key word ∷ number n ∷ []) t
+
+abbrev pub close_channel : CloseChannelTree → List Piece
+close_channel c = perhaps c.hash (sign_piece sign.Hash) ++ number c.number ∷ []
+
+abbrev pub field_part : FieldPartTree → List Piece
+field_part p = number p.width ∷ key keyword.As ∷ NameOf want.Text p.name ∷ []
