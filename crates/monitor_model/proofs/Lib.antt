@@ -2,5 +2,6 @@ pub mod GoodLaw
 pub mod Histories
 pub mod JobLemmas
 pub mod Moves
+pub mod QueueLemmas
 mod Rows
 pub mod Tools
