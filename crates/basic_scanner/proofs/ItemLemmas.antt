@@ -47,3 +47,6 @@ item_last start line quote =
     let item : List ℕ = take (length line - start) (drop start line) in
     items_end start item quote line (length line) (omega arith)
     ∙ ap (λ b. record { kind = kind.DataItem; start = start; bytes = item } ∷ (if b then items_from (length line + 1) [] None (drop (length line + 1) line) else [])) (sym (le-ltb (length line) (length line) (omega arith)))
+
+-- what the search over an item goes by
+pub ruleset item_steps = (item_start, item_goes_on, item_cut, item_last)

@@ -5,6 +5,7 @@ ghost use Rattle.std.specs.Char.{is_ascii_digit};
 ghost use Rattle.std.specs.List.{prefix_len};
 ghost use Rattle.std.specs.Str.Parse.{AllDigits, digits_value};
 ghost use Rattle.basic_tree.specs.Tokens.{is_quote, is_type_mark, keyword_front, name_end, name_front, begins_function, letter_front, has_exponent, is_floating, digit_front, quote_front, sign_front, front_of};
+ghost use Rattle.basic_scanner.specs.Scan.{value_in_front};
 
 use crate::words::{is_word, keyword_length, sign_length, stands};
 use basic_tree::{Cause, Front, TokenKind};
@@ -131,7 +132,7 @@ fn capped_value(digits: &[u8]) -> u32
 
 /// The value of the digits at the front, 32768 for any above 32767.
 pub fn literal_value(bytes: &[u8]) -> u16
-    ensures { result ≡ min 32768 (digits_value 10 (take (prefix_len is_ascii_digit bytes.now) bytes.now)) }
+    ensures { result ≡ value_in_front bytes.now }
 {
     capped_value(&bytes[..digits_length(bytes)]) as u16
 }

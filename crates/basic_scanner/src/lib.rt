@@ -1,4 +1,5 @@
-//! From the bytes of a line to its tokens.
+//! From the bytes of a line to its tokens. It stands on the grammar's tokens in `basic_tree`.
+//! `scan` carries the promise: the tokens of the line exactly, or the first place that is refused.
 #![tactic(auto)]
 
 mod front;

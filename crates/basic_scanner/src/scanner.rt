@@ -1,10 +1,10 @@
 //! The tokens of a line.
 
 ghost use Rattle.std.specs.Prelude.{◌≡◌, ◌≤◌, ◌<◌, ◌+◌, ◌^◌, ◌++◌, ◌∷◌, [], take, drop, length, vec_len, slice_get, None, Some, OnOk, IfOk, IfErr};
-ghost use Rattle.basic_tree.specs.Tokens.{quote_after, cuts, items_from, tokens_of, front_of};
+ghost use Rattle.basic_tree.specs.Tokens.{quote_after, cuts, tokens_of, front_of};
 ghost use Rattle.basic_tree.specs.TokenLaws.{LiesIn, AreCut};
 ghost use Rattle.basic_scanner.specs.Lexemes.{lexeme_of, lexemes};
-ghost use Rattle.basic_scanner.specs.Scan.{Scans, item_and_more};
+ghost use Rattle.basic_scanner.specs.Scan.{Scans, Grew, item_and_more, items_at, token_at};
 
 use crate::front::{front_of, is_quote};
 use basic_tree::{Front, Refusal, TokenKind};
@@ -79,11 +79,11 @@ fn cuts(quote: Option<u8>, byte: u8) -> bool
 }
 
 /// The end of the item of DATA that begins at a place.
-#[tactic(auto, using(crate::proofs::ItemLemmas::item_start, crate::proofs::ItemLemmas::item_goes_on, crate::proofs::ItemLemmas::item_cut, crate::proofs::ItemLemmas::item_last))]
+#[tactic(auto, using(crate::proofs::ItemLemmas::item_steps))]
 fn item_end(line: &[u8], start: usize) -> usize
     requires { start ≤ length line.now }
     ensures within { (start ≤ result) × (result ≤ length line.now) }
-    ensures value { items_from start [] None (drop start line.now) ≡ item_and_more start result line.now }
+    ensures value { items_at start line.now ≡ item_and_more start result line.now }
 {
     let mut quote = None;
     for place in start..line.len() {
@@ -105,7 +105,8 @@ fn push<'a>(
 ) -> Result<(), NoMemory>
     requires within { start + len ≤ length line.now }
     requires short { length line.now ≤ LINE_LENGTH }
-    ensures tokens { OnOk result (lexemes tokens.new.items ≡ lexemes tokens.old.items ++ record { kind = kind; start = start; bytes = take len (drop start line.entry.now) } ∷ []) }
+    ensures tokens { let one = token_at kind start len line.entry.now in
+        OnOk result (Grew tokens.old.items tokens.new.items (one ∷ [])) }
     ensures count { OnOk result (vec_len tokens.new ≡ vec_len tokens.old + 1) }
 {
     tokens.push(Token {
@@ -120,8 +121,10 @@ fn push<'a>(
 fn push_items<'a>(tokens: &mut Vec<Token<'a>>, line: &'a [u8], from: usize) -> Result<(), NoMemory>
     requires within { from ≤ length line.now }
     requires short { length line.now ≤ LINE_LENGTH }
-    ensures items { OnOk result (lexemes tokens.new.items ≡ lexemes tokens.old.items ++ items_from from [] None (drop from line.entry.now)) }
-    ensures count { OnOk result (vec_len tokens.new + from ≤ vec_len tokens.old + length line.entry.now + 1) }
+    ensures items { let more = items_at from line.entry.now in
+        OnOk result (Grew tokens.old.items tokens.new.items more) }
+    ensures count { let most = vec_len tokens.old + length line.entry.now + 1 in
+        OnOk result (vec_len tokens.new + from ≤ most) }
 {
     let mut start = from;
     loop {
@@ -146,7 +149,8 @@ fn front_at(line: &[u8], place: usize) -> Front
 /// The tokens of the line, or the first place that is refused.
 fn read<'a>(alloc: Global, line: &'a [u8]) -> Result<Vec<Token<'a>>, Trouble<Refusal>>
     requires { length line.now ≤ LINE_LENGTH }
-    ensures found { IfOk result (λ tokens. (tokens_of line.entry.now ≡ Ok (lexemes tokens.items)) × (vec_len tokens ≤ 256)) }
+    ensures found { IfOk result (λ tokens. tokens_of line.entry.now ≡ Ok (lexemes tokens.items)) }
+    ensures few { IfOk result (λ tokens. vec_len tokens ≤ 256) }
     ensures refused { IfErr result (λ trouble. Scans line.entry.now (Err trouble)) }
 {
     let mut tokens = Vec::new(alloc);

@@ -141,10 +141,12 @@ pub fn is_word(word: &[u8], bytes: &[u8]) -> bool
     bytes.len() == word.len() && stands(word, bytes)
 }
 
-/// The greater of the length so far and that of the word, where the word stands at the front of the rest.
+/// The greater of the length so far and that of the word, where the word stands at the front of
+/// the rest.
 #[tactic(auto, using(crate::proofs::WordLemmas::stands_within))]
 fn longer(longest: usize, word: &[u8], rest: &[u8]) -> usize
-    ensures value { result ≡ (if stands word.now rest.now then max longest (length word.now) else longest) }
+    ensures value { let more = max longest (length word.now) in
+        result ≡ (if stands word.now rest.now then more else longest) }
     ensures within { longest ≤ length rest.now → result ≤ length rest.now }
 {
     if stands(word, rest) {

@@ -1,4 +1,5 @@
-//! The string functions of BASIC-PLUS, over bytes and whole numbers.
+//! The string functions of BASIC-PLUS, over bytes and whole numbers. It stands on `basic_values`.
+//! Each call has the manual's function as its clause; `laws` says how they go together.
 #![tactic(auto)]
 
 mod bytes;

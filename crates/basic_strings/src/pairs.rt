@@ -14,7 +14,8 @@ pub fn text_of(alloc: Global, n: Int) -> Result<Text, Trouble<Halt>>
     Text::of(alloc, &n.value().to_be_bytes())
 }
 
-/// The number of the text's first two bytes, where a byte that is not there counts as 0. The manual's CVT$%.
+/// The number of the text's first two bytes, where a byte that is not there counts as 0.
+/// The manual's CVT$%.
 pub fn number_of(bytes: &[u8]) -> Int
     ensures { result ≡ number_in bytes.now }
 {

@@ -6,7 +6,8 @@ ghost use Rattle.basic_strings.specs.Places.{place_of};
 use crate::cuts::bytes_before;
 use basic_values::{Int, MOST_BYTES};
 
-/// The least place from `n` on where `b` stands in `a`, or 0. An empty `b` stands at each place to the one behind the last byte. The manual's INSTR.
+/// The least place from `n` on where `b` stands in `a`, or 0. An empty `b` stands at each place to
+/// the one behind the last byte. The manual's INSTR.
 pub fn instr(n: Int, a: &[u8], b: &[u8]) -> Int
     requires text { length a.now ≤ MOST_BYTES }
     requires sought { length b.now ≤ MOST_BYTES }

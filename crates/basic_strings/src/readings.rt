@@ -17,7 +17,8 @@ const ILLEGAL_NUMBER: u8 = 52;
 /// The least size that no number of 16 bits has, with either sign.
 const BEYOND_SIZE: u32 = 32769;
 
-/// The number that the text spells: blanks around, a sign or none, and digits. Error 52 where it spells none, 51 where the number has more than 16 bits. The manual's VAL.
+/// The number that the text spells: blanks around, a sign or none, and digits. Error 52 where it
+/// spells none, 51 where the number has more than 16 bits. The manual's VAL.
 #[tactic(auto, unfolding(crate::specs::Readings::value_read))]
 pub fn val(bytes: &[u8]) -> Result<Int, Fault>
     ensures { result ≡ value_read bytes.now }
@@ -25,7 +26,8 @@ pub fn val(bytes: &[u8]) -> Result<Int, Fault>
     number(trimmed(bytes), Fault::new(ILLEGAL_NUMBER))
 }
 
-/// The number that an item of INPUT or READ spells: a sign or none, digits, and a percent sign or none. Error 50 where it spells none, 51 where the number has more than 16 bits.
+/// The number that an item of INPUT or READ spells: a sign or none, digits, and a percent sign or
+/// none. Error 50 where it spells none, 51 where the number has more than 16 bits.
 #[tactic(auto, unfolding(crate::specs::Readings::item_read))]
 pub fn item_number(bytes: &[u8]) -> Result<Int, Fault>
     ensures { result ≡ item_read bytes.now }
@@ -72,7 +74,8 @@ fn in_range(is_negative: bool, size: Option<u32>, no_number: Fault) -> Result<In
     }
 }
 
-/// The number that one digit or more spell, if they do; one that is too great for either sign counts as the least of those.
+/// The number that one digit or more spell, if they do; one that is too great for either sign
+/// counts as the least of those.
 fn size(text: &[u8]) -> Option<u32>
     ensures { result ≡ option_map (min 32769) (size_spelled text.now) }
 {

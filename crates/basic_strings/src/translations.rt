@@ -7,7 +7,8 @@ ghost use Rattle.basic_strings.specs.Translations.{translated};
 use basic_values::{Halt, NoMemory, Text, Trouble};
 use std::alloc::Global;
 
-/// For each byte of `a` the byte of `b` that stands behind so many others; none where none is there, or 0. The manual's XLATE.
+/// For each byte of `a` the byte of `b` that stands behind so many others; none where none is
+/// there, or 0. The manual's XLATE.
 pub fn xlate(alloc: Global, a: &[u8], b: &[u8]) -> Result<Text, Trouble<Halt>>
     ensures { MakesText (translated b.now a.now) result }
 {

@@ -32,7 +32,8 @@ impl Int {
         Int::new(self.value().wrapping_neg())
     }
 
-    /// The power, wrapped once; with an exponent below 0 what is left of 1 divided by it. The manual's `^`.
+    /// The power, wrapped once; with an exponent below 0 what is left of 1 divided by it.
+    /// The manual's `^`.
     pub fn power(self, b: Int) -> Int
         ensures { result ≡ power self b }
     {

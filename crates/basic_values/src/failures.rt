@@ -1,4 +1,5 @@
-//! Why a call does not give its value: a fault that a program can trap, a halt that it cannot, or no memory.
+//! Why a call does not give its value: a fault that a program can trap, a halt that it cannot,
+//! or no memory.
 
 ghost use Rattle.std.specs.Prelude.{◌≡◌};
 

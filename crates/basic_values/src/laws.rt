@@ -1,4 +1,5 @@
-//! What a user relies on, as laws over the definitions: each is the contract of a function that does nothing.
+//! What a user relies on, as laws over the definitions: each is the contract of a function
+//! that does nothing.
 
 ghost use Rattle.basic_values.specs.Laws.{WrapIsTheOne, WrapPassesSums, WrapPassesProducts, DivisionTruncates, BitsGoByPlace, OrdersTexts};
 

@@ -1,4 +1,7 @@
-//! The values of BASIC-PLUS: whole numbers of 16 bits, texts as bytes, and the ways in which a call fails.
+//! The values of BASIC-PLUS: whole numbers of 16 bits, texts as bytes, lists, and the ways in which
+//! a call fails. It stands on no crate of the house, and every other may use it.
+//! `Int` carries the arithmetic, `compare` the order of texts, `fronts` what a text begins with,
+//! `Series` each list that a contract sees, and `laws` what a user relies on.
 #![tactic(auto)]
 
 mod arithmetic;

@@ -45,7 +45,8 @@ impl Text {
     }
 }
 
-/// The bytes of `b` behind those of `a`, the manual's `+` on texts. More than 32,767 are the halt `TooLong`.
+/// The bytes of `b` behind those of `a`, the manual's `+` on texts.
+/// More than 32,767 are the halt `TooLong`.
 pub fn concat(alloc: Global, a: &[u8], b: &[u8]) -> Result<Text, Trouble<Halt>>
     ensures { MakesText (a.now ++ b.now) result }
 {
@@ -65,7 +66,8 @@ fn joined(alloc: Global, a: &[u8], b: &[u8]) -> Result<Vec<u8>, NoMemory>
     Ok(bytes)
 }
 
-/// The order of two texts after the shorter is padded by spaces, as the manual's `=`, `<` and their kin see them.
+/// The order of two texts after the shorter is padded by spaces, as the manual's `=`, `<` and
+/// their kin see them.
 pub fn compare(a: &[u8], b: &[u8]) -> Ordering
     ensures { result ≡ order_of a.now b.now }
 {

@@ -12,16 +12,21 @@ loop-place-preserved-in-Blank c = record {
 
 pub returns-in-Comment-clause-found : goal.returns-in-Comment-clause-found
 returns-in-Comment-clause-found c =
-    (sym c.loop-place.invariant.value ∙ at_comment _ _ _ c.loop-place-test.true c.in-Comment.ensures.value, omega arith)
+    sym c.loop-place.invariant.value ∙ at_comment _ _ _ c.loop-place-test.true c.in-Comment.ensures.value
+
+pub returns-in-Comment-clause-few : goal.returns-in-Comment-clause-few
+returns-in-Comment-clause-few c = omega arith
 
 pub returns-in-Data-clause-found : goal.returns-in-Data-clause-found
 returns-in-Data-clause-found c =
-    let items = items_from (c.loop-place.place + 4) [] None (drop (c.loop-place.place + 4) c.args.line.now) in (
-      sym c.loop-place.invariant.value
-          ∙ at_data _ _ _ c.loop-place-test.true c.in-Data.ensures.value
-          ∙ ap (λ (ts : List Lexeme). Ok ts) (sym (c.in_ok-push_items-in-Data.ensures.items ∙ ap (λ (ts : List Lexeme). ts ++ items) c.in_ok-push-in-Data.ensures.tokens)),
-      omega (arith, c.in_ok-push_items-in-Data.ensures.count, c.in_ok-push-in-Data.ensures.count),
-    )
+    let items = items_from (c.loop-place.place + 4) [] None (drop (c.loop-place.place + 4) c.args.line.now) in
+    sym c.loop-place.invariant.value
+    ∙ at_data _ _ _ c.loop-place-test.true c.in-Data.ensures.value
+    ∙ ap (λ (ts : List Lexeme). Ok ts) (sym (c.in_ok-push_items-in-Data.ensures.items ∙ ap (λ (ts : List Lexeme). ts ++ items) c.in_ok-push-in-Data.ensures.tokens))
+
+pub returns-in-Data-clause-few : goal.returns-in-Data-clause-few
+returns-in-Data-clause-few c =
+    omega (arith, c.in_ok-push_items-in-Data.ensures.count, c.in_ok-push-in-Data.ensures.count)
 
 pub loop-place-preserved : goal.loop-place-preserved
 loop-place-preserved c =
@@ -37,5 +42,7 @@ returns-in-Refused-clause-refused c =
     sym c.loop-place.invariant.value ∙ at_refused _ _ _ c.loop-place-test.true _ c.in-Refused.ensures.value
 
 pub returns-clause-found : goal.returns-clause-found
-returns-clause-found c =
-    (sym c.loop-place.invariant.value ∙ at_end _ _ _ (omega arith), omega arith)
+returns-clause-found c = sym c.loop-place.invariant.value ∙ at_end _ _ _ (omega arith)
+
+pub returns-clause-few : goal.returns-clause-few
+returns-clause-few c = omega arith

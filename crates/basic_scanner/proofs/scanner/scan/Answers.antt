@@ -4,8 +4,8 @@ use Rattle.basic_scanner.proofs.ShortLemmas.{cut_short}
 use Rattle.basic_scanner.proofs.scanner.scan.Goals as goal
 
 pub returns-in-Ok-clause-slices : goal.returns-in-Ok-clause-slices
-returns-in-Ok-clause-slices c = tokens_cut c.args.line.now c.args.line.now 0 0 _ refl (omega arith) c.in-Ok.ensures.found.0
+returns-in-Ok-clause-slices c = tokens_cut c.args.line.now c.args.line.now 0 0 _ refl (omega arith) c.in-Ok.ensures.found
 
 pub invariant_of-result : goal.invariant_of-result
 invariant_of-result c =
-    (omega (arith, c.in-Ok.ensures.found.1), cut_short c.args.line.now 0 _ c.requires (tokens_cut c.args.line.now c.args.line.now 0 0 _ refl (omega arith) c.in-Ok.ensures.found.0))
+    (omega (arith, c.in-Ok.ensures.few), cut_short c.args.line.now 0 _ c.requires (tokens_cut c.args.line.now c.args.line.now 0 0 _ refl (omega arith) c.in-Ok.ensures.found))
