@@ -18,8 +18,8 @@ mod texts;
 pub use decimals::number_between;
 pub use failures::{Fault, Halt, NoMemory, Stop, Trouble};
 pub use fronts::{
-    blanks_at_end, blanks_in_front, digits_in_front, is_blank, letters_in_front, without_end_blanks,
-    without_front_blanks,
+    blanks_at_end, blanks_in_front, digits_in_front, is_blank, letters_in_front,
+    without_end_blanks, without_front_blanks,
 };
 pub use integers::Int;
 pub use lists::{KeyLine, LINE_LENGTH, Series, Text2};

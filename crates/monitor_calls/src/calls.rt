@@ -29,7 +29,8 @@ pub enum Reply {
 }
 
 impl Request {
-    /// Reads each number and text once: what is read is in its range, and that is all that a caller learns.
+    /// Reads each number and text once: what is read is in its range, and that is all that a
+    /// caller learns.
     fn read(&self)
         ensures { IsProperRequest self.now }
     {
@@ -70,8 +71,9 @@ impl Reply {
     }
 }
 
-/// The room that a copy of the reply to a request takes. It is taken before the monitor is asked, so that a call
-/// that has its reply needs no more memory. The replies of today own no memory, and so does their room.
+/// The room that a copy of the reply to a request takes. It is taken before the monitor is asked,
+/// so that a call that has its reply needs no more memory.
+/// The replies of today own no memory, and neither does their room.
 #[derive(Drop)]
 pub struct ReplyRoom;
 

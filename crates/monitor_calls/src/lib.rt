@@ -1,4 +1,6 @@
-//! What jobs ask of the monitor, what it replies, and the volume that it opens from.
+//! What jobs ask of the monitor, what it replies, and the volume that it opens from. It stands on
+//! `basic_values`. `Port` carries the promise on how a job asks: its log grows by what was asked
+//! and replied, and by nothing where memory runs out. `ScriptPort` keeps it for tests.
 #![tactic(auto)]
 
 mod calls;

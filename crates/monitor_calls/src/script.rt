@@ -10,7 +10,8 @@ use basic_values::NoMemory;
 use std::alloc::Global;
 use std::marker::Model;
 
-/// A port that keeps its log, and replies from a list; behind the list's end it replies Expired, to Logout Done.
+/// A port that keeps its log, and replies from a list; behind the list's end it replies Expired,
+/// to Logout Done.
 #[derive(Drop)]
 pub struct ScriptPort {
     log: Vec<(Request, Reply)>,
@@ -24,7 +25,10 @@ impl Model for ScriptPort {
 
     ghost Value = { Script };
 
-    ghost view = { λ port. record { log = port.log.items; left = drop port.next port.replies.items } };
+    ghost view = { λ port. record {
+      log = port.log.items;
+      left = drop port.next port.replies.items;
+    } };
 }
 
 impl ScriptPort {
@@ -56,7 +60,8 @@ impl Port for ScriptPort {
     ghost log = { asked };
 
     fn ask(&mut self, alloc: Global, request: Request) -> Result<Reply, NoMemory>
-        ensures ok { IfOk result (λ reply. Grew asker asked self.old self.new ((request, reply) ∷ [])) }
+        ensures ok { IfOk result (λ reply.
+            Grew asker asked self.old self.new ((request, reply) ∷ [])) }
         ensures memory { OnErr result (Grew asker asked self.old self.new []) }
         ensures scripted { IfOk result (λ reply. reply ≡ scripted self.old.left request) }
         ensures left { OnOk result (self.new.left ≡ rest_of self.old.left) }

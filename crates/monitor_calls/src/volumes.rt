@@ -6,7 +6,8 @@ ghost use Rattle.monitor_calls.specs.Volumes.{same_account, has_account, are_apa
 
 use crate::names::{Account, Short, is_capitals_or_digits};
 
-/// An account with its password, 1 to 6 capital letters and digits, and its call limit, 1 to 16,384.
+/// An account with its password, 1 to 6 capital letters and digits, and its call limit,
+/// 1 to 16,384.
 #[derive(Clone, Copy)]
 pub struct AccountEntry {
     pub account: Account,
@@ -22,8 +23,8 @@ pub struct Volume {
 }
 
 impl Volume {
-    /// Whether a monitor can open from it: 1 to 16,384 blocks, at most 512 accounts, each with its numbers and
-    /// its password in their ranges, and none of them twice.
+    /// Whether a monitor can open from it: 1 to 16,384 blocks, at most 512 accounts, each with its
+    /// numbers and its password in their ranges, and none of them twice.
     pub fn is_good(&self) -> bool
         ensures { result ≡ is_good_volume self.now.blocks self.now.accounts.items }
     {

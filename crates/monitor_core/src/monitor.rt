@@ -34,7 +34,8 @@ impl Monitor {
     pub fn open(alloc: Global, volume: &Volume, jobs: u32) -> Result<Monitor, NoMemory>
         requires volume { is_good_volume volume.now.blocks volume.now.accounts.items ≡ true }
         requires jobs { jobs ≤ 63 }
-        ensures opening { IfOk result (λ m. m ≡ opening volume.now.accounts.items volume.now.blocks jobs) }
+        ensures opening { IfOk result (λ m.
+            m ≡ opening volume.now.accounts.items volume.now.blocks jobs) }
         ensures good { IfOk result Good }
     {
         let parts = Parts::open(alloc, volume, jobs)?;

@@ -37,7 +37,11 @@ impl Model for Parts {
 
     ghost Value = { State };
 
-    ghost view = { λ p. record { accounts = p.accounts.items; blocks = p.blocks; jobs = p.jobs.items } };
+    ghost view = { λ p. record {
+      accounts = p.accounts.items;
+      blocks = p.blocks;
+      jobs = p.jobs.items;
+    } };
 }
 
 impl Parts {

@@ -28,9 +28,17 @@ impl Model for PlainPort {
 
     ghost Value = { Plain };
 
-    ghost view = { λ p. record { opening = p.opening.state; job = p.job; history = p.history.items } };
+    ghost view = { λ p. record {
+      opening = p.opening.state;
+      job = p.job;
+      history = p.history.items;
+    } };
 
-    ghost invariant = { λ p. IsKept (record { opening = p.opening.state; job = p.job; history = p.history.items }) p.monitor };
+    ghost invariant = { λ p. IsKept (record {
+      opening = p.opening.state;
+      job = p.job;
+      history = p.history.items;
+    }) p.monitor };
 }
 
 impl PlainPort {
@@ -71,8 +79,10 @@ impl Port for PlainPort {
     fn ask(&mut self, alloc: Global, request: Request) -> Result<Reply, NoMemory>
         ensures ok { IfOk result (λ r. Grew unasked asked self.old self.new ((request, r) ∷ [])) }
         ensures memory { OnErr result (Grew unasked asked self.old self.new []) }
-        ensures reply { IfOk result (λ r. r ≡ reply (after self.old.opening self.old.history) self.old.job request) }
-        ensures history { IfOk result (λ r. self.new.history ≡ self.old.history ++ entry_for self.old.job request r ∷ []) }
+        ensures reply { let state = after self.old.opening self.old.history in
+            IfOk result (λ r. r ≡ reply state self.old.job request) }
+        ensures history { IfOk result (λ r. let entry = entry_for self.old.job request r in
+            self.new.history ≡ self.old.history ++ entry ∷ []) }
         ensures unchanged { OnErr result (self.new ≡ self.old) }
     {
         // The room for the entry is taken first, so that nothing was asked where it is not there.

@@ -1,4 +1,5 @@
-//! What the monitor is: its state, its answer to each call, and the histories that it makes. Definitions, and laws over them.
+//! What the monitor is: its state, its answer to each call, and the histories that it makes.
+//! Definitions over the calls of `monitor_calls`, and laws over them.
 #![tactic(auto)]
 
 mod entries;

@@ -74,7 +74,8 @@ fn volumes_are_good_in_their_ranges(rt: HostRuntime) -> Result<(), Fail> {
         accounts.push(entry(100, 5, b"DEMO", 100)?)?;
         accounts.push(entry(project, programmer, password, limit)?)?;
         let volume = Volume { blocks, accounts };
-        assert_eq!(rt; volume.is_good(), is_good, "{blocks} blocks, account {project},{programmer}, limit {limit}");
+        let row = format!(in rt.alloc(); "{blocks} {project},{programmer} {limit}")?;
+        assert_eq!(rt; volume.is_good(), is_good, "{row}");
     }
     Ok(())
 }
@@ -94,7 +95,12 @@ fn a_script_replies_in_order(rt: HostRuntime) -> Result<(), Fail> {
     for request in requests {
         asked(&mut port, rt.alloc(), request)?;
     }
-    let wanted = ["Tick: Done", "Logout: Failed 3", "Tick: Expired", "Logout: Done"];
+    let wanted = [
+        "Tick: Done",
+        "Logout: Failed 3",
+        "Tick: Expired",
+        "Logout: Done",
+    ];
     assert_eq!(rt; port.log().len(), wanted.len());
     for (pair, wanted) in port.log().iter().zip(wanted) {
         let shown = told::pair(rt.alloc(), &pair.0, &pair.1)?;

@@ -2,8 +2,8 @@
 
 use crate::told;
 use basic_values::NoMemory;
-use monitor_core::{Monitor, PlainPort};
 use monitor_calls::{Account, AccountEntry, Port, Reply, Request, Short, Volume};
+use monitor_core::{Monitor, PlainPort};
 use std::alloc::Global;
 use std::test::Fail;
 
