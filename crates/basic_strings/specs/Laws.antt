@@ -22,7 +22,8 @@ ReadingSkipsBlanks = (z : ℤ) → IsInRange z → value_read (printed z) ≡ Ok
 
 -- LEFT to a place and RIGHT from behind it cut a text in two and lose nothing
 abbrev pub CutsLoseNothing : Type 0
-CutsLoseNothing = (text : List ℕ) (place : ℤ) → left_of text place ++ right_of text (place +ℤ pos 1) ≡ text
+CutsLoseNothing = (text : List ℕ) (place : ℤ) →
+    left_of text place ++ right_of text (place +ℤ pos 1) ≡ text
 
 -- the sought text stands at the place, with a front before it and a back behind it
 pub record StandsAt (text sought : List ℕ) (place : ℕ) : Type 0 where
@@ -39,7 +40,8 @@ pub record IsLeastPlace (from : ℤ) (text sought : List ℕ) (place : ℕ) : Ty
 
 -- it stands at no place from the given one on
 abbrev pub StandsNowhere : ℤ → List ℕ → List ℕ → Type 0
-StandsNowhere from text sought = (place : ℕ) → place_given from ≤ place → ¬ StandsAt text sought place
+StandsNowhere from text sought = (place : ℕ) →
+    place_given from ≤ place → ¬ StandsAt text sought place
 
 -- INSTR gives the least place, or 0 where there is none
 abbrev pub PlaceIsLeast : Type 0

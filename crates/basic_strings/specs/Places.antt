@@ -13,4 +13,5 @@ places_from place text = range_with_len place (length text + 2 - place)
 
 -- the first of the places from a given one at which the sought text stands; 0 where there is none
 unfoldable pub place_of : ℤ → List ℕ → List ℕ → ℤ
-place_of from text sought = pos (unwrap_or (find (stands_at text sought) (places_from (place_given from) text)) 0)
+place_of from text sought =
+    pos (unwrap_or (find (stands_at text sought) (places_from (place_given from) text)) 0)

@@ -10,12 +10,14 @@ without_blanks text = without_end_blanks (without_front_blanks text)
 
 -- the text without one percent sign at its end
 abbrev pub without_percent : List ℕ → List ℕ
-without_percent text = if slice_index text (length text - 1) == 37 then take (length text - 1) text else text
+without_percent text =
+    if slice_index text (length text - 1) == 37 then take (length text - 1) text else text
 
 -- the number that one digit or more spell
 abbrev pub size_spelled : List ℕ → Option ℕ
 size_spelled [] = None
-size_spelled (byte ∷ rest) = if all_ascii_digits (byte ∷ rest) then Some (digits_value 10 (byte ∷ rest)) else None
+size_spelled (byte ∷ rest) =
+    if all_ascii_digits (byte ∷ rest) then Some (digits_value 10 (byte ∷ rest)) else None
 
 -- the number of this size, below 0 where there is a minus
 abbrev pub with_sign : Bool → ℕ → ℤ

@@ -7,17 +7,21 @@ unfoldable pub repeated_product : ℤ → ℕ → ℤ
 repeated_product base zero = pos 1
 repeated_product base (suc count) = repeated_product base count *ℤ base
 
--- 1 divided by so many factors that are all this number, without its fraction: only 1 and -1 leave anything
+-- 1 divided by so many factors that are all this number, without its fraction:
+-- only 1 and -1 leave anything
 abbrev pub inverse_product : ℤ → ℕ → ℤ
 inverse_product (pos a) count = if a == 1 then pos 1 else pos 0
-inverse_product (negsuc a) count = if a == 0 then (if count % 2 == 0 then pos 1 else negsuc 0) else pos 0
+inverse_product (negsuc a) count =
+    if a == 0 then (if count % 2 == 0 then pos 1 else negsuc 0) else pos 0
 
--- a power: the product formed over the whole numbers and wrapped once, and its inverse where the exponent is below 0
+-- a power: the product formed over the whole numbers and wrapped once, and its inverse where
+-- the exponent is below 0
 abbrev pub power : ℤ → ℤ → ℤ
 power base (pos exponent) = wrap (repeated_product base exponent)
 power base (negsuc n) = inverse_product base (n + 1)
 
--- a quotient over the whole numbers, without its fraction: the sign of both, and how often the one size holds the other
+-- a quotient over the whole numbers, without its fraction: the sign of both, and how often the
+-- one size holds the other
 abbrev pub truncated : ℤ → ℤ → ℤ
 truncated (pos a) (pos b) = pos (a / b)
 truncated (pos a) (negsuc b) = neg_ℤ (pos (a / (b + 1)))

@@ -16,9 +16,12 @@ IsInRange z = (negsuc 32767 ≤ℤ z) × (z ≤ℤ pos 32767)
 abbrev pub DifferByMultiple : ℤ → ℤ → Type 0
 DifferByMultiple a b = (times : ℤ) × (a ≡ b +ℤ times *ℤ pos 65536)
 
--- a wrapped number lies in range and differs by a multiple of 65536, and it is the only one that does
+-- a wrapped number lies in range and differs by a multiple of 65536, and it is the only one
+-- that does
 abbrev pub WrapIsTheOne : Type 0
-WrapIsTheOne = (z : ℤ) → IsInRange (wrap z) × DifferByMultiple z (wrap z) × ((other : ℤ) → IsInRange other → DifferByMultiple z other → other ≡ wrap z)
+WrapIsTheOne = (z : ℤ) →
+    IsInRange (wrap z) × DifferByMultiple z (wrap z)
+    × ((other : ℤ) → IsInRange other → DifferByMultiple z other → other ≡ wrap z)
 
 -- the order of wrapping can't be seen in a sum
 abbrev pub WrapPassesSums : Type 0
@@ -28,9 +31,12 @@ WrapPassesSums = (a b : ℤ) → wrap (wrap a +ℤ wrap b) ≡ wrap (a +ℤ b)
 abbrev pub WrapPassesProducts : Type 0
 WrapPassesProducts = (a b : ℤ) → wrap (wrap a *ℤ wrap b) ≡ wrap (a *ℤ b)
 
--- the number is so many times the divisor and a rest, which is smaller than the divisor and has the number's sign
+-- the number is so many times the divisor and a rest, which is smaller than the divisor and has
+-- the number's sign
 abbrev pub DividesTowardsZero : ℤ → ℤ → Type 0
-DividesTowardsZero a b = (rest : ℤ) × (a ≡ truncated a b *ℤ b +ℤ rest) × (unsigned_abs rest < unsigned_abs b) × ((rest ≡ pos 0) ⊎ (int_lt rest (pos 0) ≡ int_lt a (pos 0)))
+DividesTowardsZero a b =
+    (rest : ℤ) × (a ≡ truncated a b *ℤ b +ℤ rest) × (unsigned_abs rest < unsigned_abs b)
+    × ((rest ≡ pos 0) ⊎ (int_lt rest (pos 0) ≡ int_lt a (pos 0)))
 
 -- a quotient drops its fraction
 abbrev pub DivisionTruncates : Type 0

@@ -9,7 +9,8 @@ use Rattle.basic_values.specs.declared.failures.Halt.TheVariants.{TooLong}
 use Rattle.basic_values.specs.declared.failures.Trouble.{Trouble}
 use Rattle.basic_values.specs.declared.failures.Trouble.TheVariants.{Refused, NoMemory}
 
--- a call that makes a text of these bytes answers the text, or too long exactly where there are too many of them; or memory ran out
+-- a call that makes a text of these bytes answers the text, or too long exactly where there are
+-- too many of them; or memory ran out
 abbrev pub MakesText : List ℕ → Result (List ℕ) (Trouble Halt) → Type 0
 MakesText bytes (Ok text) = (text ≡ bytes) × (length bytes ≤ MOST_BYTES)
 MakesText bytes (Err (Refused halt)) = (halt ≡ TooLong) × (MOST_BYTES < length bytes)

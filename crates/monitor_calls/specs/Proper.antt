@@ -1,5 +1,6 @@
 -- Entries whose numbers and texts are those of their types.
-use Rattle.std.specs.Prelude.{◌≡◌, ℕ, ◌<◌, ◌^◌, true, List, [], ◌∷◌}
+use Rattle.std.specs.Prelude.{◌≡◌, ℕ, ◌<◌, ◌^◌, true, List}
+use Rattle.std.specs.List.{AllByRecursion}
 use Rattle.monitor_calls.specs.declared.names.Account.{Account}
 use Rattle.monitor_calls.specs.declared.calls.Entry.{Entry}
 use Rattle.monitor_calls.specs.declared.calls.Request.{Request}
@@ -25,9 +26,9 @@ IsProperReply (Failed number) = IsByte number
 IsProperReply Expired = Unit {0}
 
 abbrev pub IsProperEntry : Entry → Type 0
-IsProperEntry entry = (entry.job < 2 ^ 32) × (IsProperRequest entry.request × IsProperReply entry.reply)
+IsProperEntry entry =
+    (entry.job < 2 ^ 32) × (IsProperRequest entry.request × IsProperReply entry.reply)
 
 -- each entry of a history is
 abbrev pub Proper : List Entry → Type 0
-Proper [] = Unit {0}
-Proper (entry ∷ entries) = IsProperEntry entry × Proper entries
+Proper history = AllByRecursion IsProperEntry history

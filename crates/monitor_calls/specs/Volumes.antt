@@ -23,9 +23,11 @@ is_between low high n = nat_le low n && nat_le n high
 -- the ranges of one account: its project and programmer number, its password and its call limit
 abbrev pub is_good_entry : AccountEntry → Bool
 is_good_entry entry =
-    is_between 1 254 entry.account.project && nat_le entry.account.programmer 254 && is_password entry.password && is_between 1 16384 entry.limit
+    is_between 1 254 entry.account.project && nat_le entry.account.programmer 254
+    && is_password entry.password && is_between 1 16384 entry.limit
 
 -- 1 to 16384 blocks of 512 bytes, and at most 512 accounts, which differ
 abbrev pub is_good_volume : ℕ → List AccountEntry → Bool
 is_good_volume blocks accounts =
-    is_between 1 16384 blocks && nat_le (length accounts) 512 && list_all is_good_entry accounts && are_apart accounts
+    is_between 1 16384 blocks && nat_le (length accounts) 512
+    && list_all is_good_entry accounts && are_apart accounts

@@ -1,3 +1,2 @@
-mod AccountLemmas
 mod PortLemmas
 mod Walks

@@ -1,11 +1,13 @@
 -- Histories that grow by one entry.
-use Rattle.std.proofs.Common.{◌≡◌, ℕ, ◌==◌, Bool, true, false, List, [], ◌∷◌, ◌++◌, length, refl, ap, ◌∙◌, eq-eqb, if◌then◌else◌}
+use Rattle.std.proofs.Common.{◌≡◌, ℕ, ◌==◌, Bool, List, [], ◌∷◌, ◌++◌, length, refl, ap, ◌∙◌, eq-eqb, if◌then◌else◌}
+use Rattle.std.specs.Prelude.{map, filter}
+use Rattle.std.proofs.lemmas.List.{map-append}
+use Rattle.std.proofs.lemmas.List.Elements.{filter-append}
 use Rattle.monitor_calls.specs.declared.calls.Entry.{Entry}
-use Rattle.monitor_calls.specs.Pairs.{Pair}
 use Rattle.monitor_calls.specs.Proper.{IsProperEntry, Proper}
 use Rattle.monitor_model.specs.State.{State}
 use Rattle.monitor_model.specs.Answer.{next}
-use Rattle.monitor_model.specs.History.{after, IsAnswered, Legal, part_of, AllOf}
+use Rattle.monitor_model.specs.History.{after, IsAnswered, Legal, pair_in, part_of, AllOf}
 use Rattle.monitor_model.proofs.GoodLaw.{jobs_next}
 
 pub after_push : (m : State) (history : List Entry) (entry : Entry) → after m (history ++ entry ∷ []) ≡ next (after m history) entry.job entry.request
@@ -33,9 +35,8 @@ all_of_push job (first ∷ history) entry all is = (all.0, all_of_push job histo
 
 -- a job's part grows by the pair of an entry of its own
 pub part_push : (job : ℕ) (history : List Entry) (entry : Entry) → entry.job ≡ job → part_of job (history ++ entry ∷ []) ≡ part_of job history ++ (entry.request, entry.reply) ∷ []
-part_push job [] entry is = rw (eq-eqb entry.job job is) refl
-part_push job (first ∷ history) entry is = grow (part_push job history entry is) (first.job == job)
-  where
-    grow : part_of job (history ++ entry ∷ []) ≡ part_of job history ++ (entry.request, entry.reply) ∷ [] → (b : Bool) → (if b then (first.request, first.reply) ∷ part_of job (history ++ entry ∷ []) else part_of job (history ++ entry ∷ [])) ≡ (if b then (first.request, first.reply) ∷ part_of job history else part_of job history) ++ (entry.request, entry.reply) ∷ []
-    grow rest true = ap (λ (pairs : List Pair). (first.request, first.reply) ∷ pairs) rest
-    grow rest false = rest
+part_push job history entry is =
+    let own : Entry → Bool = λ e. e.job == job in
+    ap (map pair_in) (filter-append own history (entry ∷ []))
+    ∙ map-append pair_in (filter own history) (filter own (entry ∷ []))
+    ∙ ap (λ b. part_of job history ++ map pair_in (if b then entry ∷ [] else [])) (eq-eqb entry.job job is)

@@ -8,10 +8,12 @@ use Rattle.monitor_model.specs.Answer.{next}
 use Rattle.monitor_model.specs.Good.{Good}
 
 abbrev pub OpeningIsGood : Type 0
-OpeningIsGood = (accounts : List AccountEntry) (blocks jobs : ℕ) → is_good_volume blocks accounts ≡ true → Good (opening accounts blocks jobs)
+OpeningIsGood = (accounts : List AccountEntry) (blocks jobs : ℕ)
+    → is_good_volume blocks accounts ≡ true → Good (opening accounts blocks jobs)
 
 abbrev pub AnswerKeepsGood : Type 0
 AnswerKeepsGood = (m : State) (job : ℕ) (request : Request) → Good m → Good (next m job request)
 
 abbrev pub AnswerKeepsJobs : Type 0
-AnswerKeepsJobs = (m : State) (job : ℕ) (request : Request) → length (next m job request).jobs ≡ length m.jobs
+AnswerKeepsJobs = (m : State) (job : ℕ) (request : Request)
+    → length (next m job request).jobs ≡ length m.jobs

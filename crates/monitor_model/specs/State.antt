@@ -1,5 +1,6 @@
 -- The monitor's state, and how calls change what it keeps of a job.
 use Rattle.std.specs.Prelude.{ℕ, ◌+◌, if◌then◌else◌, List, [], ◌∷◌, Option, Some, None, replicate}
+use Rattle.std.specs.List.{find}
 use Rattle.std.proofs.Common.{get_or, set}
 use Rattle.monitor_calls.specs.declared.names.Account.{Account}
 use Rattle.monitor_calls.specs.declared.volumes.AccountEntry.{AccountEntry}
@@ -12,10 +13,9 @@ pub record State : Type 0 where
   pub blocks : ℕ
   pub jobs : List Job
 
--- the entry of an account
+-- the entry of an account, the first in the list
 abbrev pub entry_of : List AccountEntry → Account → Option AccountEntry
-entry_of [] account = None
-entry_of (entry ∷ entries) account = if same_account entry.account account then Some entry else entry_of entries account
+entry_of entries account = find (λ entry. same_account entry.account account) entries
 
 -- how many calls an account allows; no job has an account that is not there
 abbrev pub limit_in : Option AccountEntry → ℕ
@@ -44,7 +44,7 @@ log_in jobs job account = set jobs job (record { account = Some account; calls =
 
 -- one more call
 unfoldable pub count : List Job → ℕ → List Job
-count jobs job = set jobs job (record { account = (job_at jobs job).account; calls = (job_at jobs job).calls + 1 })
+count jobs job = set jobs job (record (job_at jobs job) { calls = (job_at jobs job).calls + 1 })
 
 -- no account, no calls
 unfoldable pub end_job : List Job → ℕ → List Job
@@ -52,4 +52,5 @@ end_job jobs job = set jobs job nobody
 
 -- so many jobs, none of them logged in
 abbrev pub opening : List AccountEntry → ℕ → ℕ → State
-opening accounts blocks jobs = record { accounts = accounts; blocks = blocks; jobs = replicate jobs nobody }
+opening accounts blocks jobs =
+    record { accounts = accounts; blocks = blocks; jobs = replicate jobs nobody }
