@@ -43,13 +43,12 @@ fn a_job_acts_for_its_own_account(rt: HostRuntime) -> Result<(), Fail> {
     let volume = demo_with(100, &rt)?;
     assert!(rt; volume.is_good());
     let mut monitor = Monitor::open(rt.alloc(), &volume, 2)?;
-    for (job, request, wanted) in [
-        (1, login(5, b"DEMO")?, "Done"),
-        (0, Request::Tick, "Failed 5"),
-        (1, Request::Tick, "Done"),
-    ] {
-        let reply = monitor.answer(job, &request)?;
-        let shown = told::reply(rt.alloc(), &reply)?;
+    let first = monitor.answer(1, &login(5, b"DEMO")?)?;
+    let second = monitor.answer(0, &Request::Tick)?;
+    let third = monitor.answer(1, &Request::Tick)?;
+    let replies = [first, second, third];
+    for (reply, wanted) in replies.iter().zip(["Done", "Failed 5", "Done"]) {
+        let shown = told::reply(rt.alloc(), reply)?;
         assert_eq!(rt; shown.as_str(), wanted);
     }
     Ok(())
@@ -61,27 +60,36 @@ fn a_port_keeps_what_was_asked(rt: HostRuntime) -> Result<(), Fail> {
     assert!(rt; volume.is_good());
     let monitor = Monitor::open(rt.alloc(), &volume, 1)?;
     let mut port = PlainPort::new(rt.alloc(), monitor, 0);
-    let rows = [
-        (login(5, b"DEMON")?, "0 Login 100,5;DEMON: Failed 5"),
-        (login(6, b"DEMO")?, "0 Login 100,6;DEMO: Failed 5"),
-        (Request::Tick, "0 Tick: Failed 5"),
-        (login(5, b"DEMO")?, "0 Login 100,5;DEMO: Done"),
-        (Request::Tick, "0 Tick: Done"),
-        (login(5, b"DEMO")?, "0 Login 100,5;DEMO: Failed 3"),
-        (Request::Tick, "0 Tick: Expired"),
-        (login(5, b"DEMO")?, "0 Login 100,5;DEMO: Done"),
-        (Request::Logout, "0 Logout: Done"),
+    let requests = [
+        login(5, b"DEMON")?,
+        login(6, b"DEMO")?,
+        Request::Tick,
+        login(5, b"DEMO")?,
+        Request::Tick,
+        login(5, b"DEMO")?,
+        Request::Tick,
+        login(5, b"DEMO")?,
+        Request::Logout,
     ];
-    let mut wanted = Vec::new(rt.alloc());
-    for (request, entry) in rows {
+    let wanted = [
+        "0 Login 100,5;DEMON: Failed 5",
+        "0 Login 100,6;DEMO: Failed 5",
+        "0 Tick: Failed 5",
+        "0 Login 100,5;DEMO: Done",
+        "0 Tick: Done",
+        "0 Login 100,5;DEMO: Failed 3",
+        "0 Tick: Expired",
+        "0 Login 100,5;DEMO: Done",
+        "0 Logout: Done",
+    ];
+    for request in requests {
         asked(&mut port, rt.alloc(), request)?;
-        wanted.push(entry)?;
     }
     let record = port.close();
     assert_eq!(rt; record.as_slice().len(), wanted.len());
-    for (entry, wanted) in record.as_slice().iter().zip(wanted.as_slice()) {
+    for (entry, wanted) in record.as_slice().iter().zip(wanted) {
         let shown = told::entry(rt.alloc(), entry)?;
-        assert_eq!(rt; shown.as_str(), *wanted);
+        assert_eq!(rt; shown.as_str(), wanted);
     }
     Ok(())
 }
