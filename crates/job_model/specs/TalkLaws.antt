@@ -1,10 +1,15 @@
 -- The laws of the talk.
-use Rattle.std.specs.Prelude.{◌≡◌, ℕ, List, ◌++◌}
+use Rattle.std.specs.Prelude.{◌≡◌, ◌≤◌, ℕ, List, ◌++◌, length}
 use Rattle.monitor_calls.specs.declared.calls.Request.{Request}
 use Rattle.monitor_calls.specs.declared.calls.Reply.{Reply}
 use Rattle.basic_tree.specs.LineVerdicts.{Judge}
 use Rattle.job_model.specs.PlayLaws.{EndsWith, GrowsTo}
-use Rattle.job_model.specs.Talk.{talk, IsTalk}
+use Rattle.job_model.specs.Talk.{session, opening, talk, IsTalk}
+
+-- a session that may take more key lines than there are is the same
+abbrev pub KeysAreEnough : Type 0
+KeysAreEnough = (judge : Judge) (keys : List (List ℕ)) (more : ℕ) → length keys ≤ more
+    → session judge more (opening keys) ≡ session judge (length keys) (opening keys)
 
 abbrev pub TalkEnds : Type 0
 TalkEnds = (judge : Judge) (keys : List (List ℕ)) (replies : List Reply)
