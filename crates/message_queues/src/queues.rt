@@ -94,7 +94,7 @@ impl Queues {
     /// Takes out the oldest letter that waits for a job. It takes no memory.
     pub fn receive(&mut self, job: u32) -> Result<Letter, Fault>
         ensures refused { RefusedBy (receive_refusals self.old job) result }
-        ensures letter { IfOk result (λ letter. slice_get (letters_of self.old job) 0 ≡ Some letter) }
+        ensures letter { IfOk result (λ l. slice_get (letters_of self.old job) 0 ≡ Some l) }
         ensures ok { OnOk result (self.new ≡ receive self.old job) }
         ensures err { OnErr result (self.new ≡ self.old) }
     {

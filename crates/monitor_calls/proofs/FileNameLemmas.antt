@@ -1,5 +1,5 @@
 -- The test of names decides equality, and it is the derived one.
-use Rattle.std.proofs.Common.{◌≡◌, ◌≢◌, ℕ, ◌-◌, Bool, true, false, List, length, take, replicate, refl, sym, ap, ◌∙◌, subst, Decides}
+use Rattle.std.proofs.Common.{◌≡◌, ◌≢◌, ℕ, ◌-◌, Bool, true, false, List, length, take, replicate, refl, sym, ap, ◌∙◌, subst, inl, inr, ◌⊎◌, Decides}
 use Rattle.std.specs.Prelude.{bytes_eq, ◌&&◌, ◌==◌}
 use Rattle.std.specs.Cmp.Lexicographic.{bytes_decides}
 use Rattle.std.proofs.lemmas.List.{take_at}
@@ -37,6 +37,13 @@ same_name-apart a b is e = true≢false (sym (subst (λ x. same_name a x ≡ tru
 pub same_name-turned : (a b : FileName) → same_name a b ≡ same_name b a
 same_name-turned a b =
     same_from_decides _ _ (Decides-same_name a b) (Decides-like (same_name b a) (λ e. sym e) (λ e. sym e) (Decides-same_name b a))
+
+pub cases_name : (a b : FileName) → (a ≡ b) ⊎ (a ≢ b)
+cases_name a b =
+    elim (same_name a b) as (λ v. same_name a b ≡ v → (a ≡ b) ⊎ (a ≢ b)) [
+      | true ↦ λ e. inl (same_name-true a b e)
+      | false ↦ λ e. inr (same_name-apart a b e)
+    ] refl
 
 -- THE DERIVED TESTS
 

@@ -41,6 +41,13 @@ impl Page {
         self.bytes.copy_from_slice(bytes);
     }
 
+    /// Takes the bytes of another page in place of its own.
+    pub fn copy_from(&mut self, other: &Page)
+        ensures { self.new ≡ other.now }
+    {
+        self.bytes.copy_from_slice(other.bytes.as_slice());
+    }
+
     /// Makes all bytes zeros.
     #[tactic(auto, unfolding(crate::specs::Pages::zeros))]
     pub fn clear(&mut self)

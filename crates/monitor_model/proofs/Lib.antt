@@ -1,3 +1,4 @@
+pub mod FileLemmas
 pub mod GoodLaw
 pub mod Histories
 pub mod JobLemmas

@@ -91,8 +91,8 @@ unfoldable pub written : File → ℕ → List ℕ → File
 written file block page = with_page (grown file (block - size file)) block page
 
 -- with the page written to the file of a name
-abbrev pub put_page : List File → FileName → ℕ → List ℕ → List File
-put_page files name block page = replace files name (written (the_file files name) block page)
+abbrev pub put : List File → FileName → ℕ → List ℕ → List File
+put files name block page = replace files name (written (the_file files name) block page)
 
 -- the file moved to the end, under another name
 abbrev pub rename : List File → FileName → FileName → ℕ → List File

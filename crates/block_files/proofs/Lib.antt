@@ -1,0 +1,7 @@
+pub mod DiskLemmas
+pub mod KeptLemmas
+pub mod KeyLemmas
+pub mod LayLemmas
+pub mod NthLemmas
+pub mod ReadLemmas
+pub mod RowLemmas
