@@ -16,7 +16,7 @@ use Rattle.basic_tree.proofs.BetweenLemmas.{cut_between}
 use Rattle.basic_tree.proofs.FormBack.{led_target}
 use Rattle.basic_tree.proofs.FormSteps.{run_await, target_taken}
 use Rattle.basic_tree.proofs.MachineStops.{finished}
-use Rattle.basic_stmt.specs.Reading.{IsPlaced, Leads, Halts, is_name, NameAt}
+use Rattle.basic_stmt.specs.Reading.{IsPlaced, Leads, Halts, is_variable_name, NameAt}
 use Rattle.basic_stmt.proofs.Parts.{some_halt}
 
 -- at the end of what is expected the machine stops
@@ -50,7 +50,7 @@ target_unfit n ws name w from h unfit g = λ halt e k vs. rw h.1 (rw unfit (ap (
 pub target_missing : (n : ℕ) (ws : List Word) (w : Want) (from : ℕ) → NameAt ws from None → (g : Tree → Form) → Halts n ws from (TargetOf w g) (failure.Wrong from)
 unfolding run
 target_missing n ws w from h g = λ halt e k vs. go (drop from ws) k vs h ∙ ap (λ (x : Halt). Err x) (some_halt e) where
-  go : (ws : List Word) (k : List Symbol) (vs : Values) → First is_name ws → run n ws (Go (TargetOf w g) ∷ k) vs ≡ Err (Wrong ws)
+  go : (ws : List Word) (k : List Symbol) (vs : Values) → First is_variable_name ws → run n ws (Go (TargetOf w g) ∷ k) vs ≡ Err (Wrong ws)
   go [] k vs h = refl
   go (Named name ∷ ws) k vs h = absurd cc
   go (t ∷ ws) k vs h = refl

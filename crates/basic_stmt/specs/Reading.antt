@@ -1,5 +1,5 @@
 -- What the functions of the parser give: a form of the machine each, whatever is expected behind it.
-use Rattle.std.specs.Prelude.{◌≡◌, ℕ, Bool, true, false, ◌+◌, ◌-◌, ◌<◌, ◌≤◌, List, [], ◌∷◌, ◌++◌, length, drop, Option, Some, None, Err}
+use Rattle.std.specs.Prelude.{◌≡◌, ℕ, Bool, true, false, ◌+◌, ◌-◌, ◌<◌, ◌≤◌, List, [], ◌∷◌, ◌++◌, length, drop, Option, Some, None, Result, Ok, Err}
 use Rattle.basic_expr.specs.declared.failures.Failure.{Failure}
 use Rattle.basic_expr.specs.declared.failures.Failure.TheVariants as failure
 use Rattle.basic_tree.specs.declared.tokens.Keyword.{Keyword}
@@ -9,10 +9,13 @@ use Rattle.basic_tree.specs.declared.names.Name.{Name}
 use Rattle.basic_tree.specs.SpellingWords.{Word, Named, FnNamed, Number, Quotation}
 use Rattle.basic_tree.specs.SpellingWords.{Item as ItemOf}
 use Rattle.basic_expr.specs.Reading.{First, Stands}
-use Rattle.basic_tree.specs.MachineStack.{Value, Values, Symbol, Go, Form, IfKey, IfSign, TakeKey, TakeSign, LiteralIf, QuotedIf, ItemIn, MoreItems, Item, Sequence, MoreOf}
+use Rattle.basic_tree.specs.declared.statements.Statement.{Statement}
+use Rattle.basic_tree.specs.StatementViews.{statement_of}
+use Rattle.basic_tree.specs.MachineStack.{Value, Values, Stated, Symbol, Go, Form, IfKey, IfSign, TakeKey, TakeSign, TakeClosing, LiteralIf, QuotedIf, ItemIn, MoreItems, Item, Sequence, MoreOf}
 use Rattle.basic_tree.specs.MachineForms.{has_room, item_form}
 use Rattle.basic_tree.specs.MachineStack.{Limit, LineNumber, Bound, Size}
 use Rattle.basic_tree.specs.MachineRun.{Halt, Wrong, TooDeep, run}
+use Rattle.basic_stmt.specs.declared.read.Read.{Read}
 use Rattle.basic_stmt.specs.declared.literals.Literal.{Literal}
 use Rattle.basic_stmt.specs.declared.literals.Literal.TheVariants as literal
 
@@ -40,9 +43,9 @@ From ws from end = (from ≤ end) × (end ≤ length ws)
 abbrev pub Leads : ℕ → ℕ → List Word → ℕ → ℕ → Form → Form → Type 0
 Leads n m ws from end f g = (k : List Symbol) (vs : Values) → run n (drop from ws) (Go f ∷ k) vs ≡ run m (drop end ws) (Go g ∷ k) vs
 
--- the words up to the end lead from a form to a value
-abbrev pub Gives : ℕ → List Word → ℕ → ℕ → Form → Value → Type 0
-Gives n ws from end f v = (k : List Symbol) (vs : Values) → run n (drop from ws) (Go f ∷ k) vs ≡ run n (drop end ws) k (v ∷ vs)
+-- the words up to the end make a value of a form
+abbrev pub Makes : ℕ → List Word → ℕ → ℕ → Form → Value → Type 0
+Makes n ws from end f v = (k : List Symbol) (vs : Values) → run n (drop from ws) (Go f ∷ k) vs ≡ run n (drop end ws) k (v ∷ vs)
 
 -- at the form the machine stops at the failure
 abbrev pub Halts : ℕ → List Word → ℕ → Form → Failure → Type 0
@@ -81,9 +84,9 @@ abbrev pub number : Word → Option ℕ
 number (Number n) = Some n
 number other = None
 
-abbrev pub is_name : Word → Bool
-is_name (Named name) = true
-is_name other = false
+abbrev pub is_variable_name : Word → Bool
+is_variable_name (Named name) = true
+is_variable_name other = false
 
 abbrev pub is_fn_name : Word → Bool
 is_fn_name (FnNamed name) = true
@@ -104,7 +107,7 @@ is_item other = false
 -- the name at a place, or none
 abbrev pub NameAt : List Word → ℕ → Option Name → Type 0
 NameAt ws from (Some name) = Stands ws (Named name) from
-NameAt ws from None = First is_name (drop from ws)
+NameAt ws from None = First is_variable_name (drop from ws)
 
 abbrev pub FnNameAt : List Word → ℕ → Option Name → Type 0
 FnNameAt ws from (Some name) = Stands ws (FnNamed name) from
@@ -156,3 +159,57 @@ pub record Itemized (ws : List Word) (from : ℕ) (items : List (List ℕ)) (end
   pub runs : (n : ℕ) (g : List (List ℕ) → Form) → Leads n n ws from end (ItemIn (λ item. MoreItems (item ∷ []) g)) (MoreItems items g)
   pub after : from < end
   pub within : end ≤ length ws
+
+-- ---- statements, and parts with any form behind them: what was read, or where the machine stops
+
+-- a statement of this form
+abbrev pub States : ℕ → List Word → ℕ → Form → Result (Read Statement) Failure → Type 0
+States n ws from f (Ok x) = Behind ws from x.end × Makes n ws from x.end f (Stated (statement_of x.value))
+States n ws from f (Err e) = IsPlaced ws e × Halts n ws from f e
+
+-- the rest of a statement, where no word may be left of it
+abbrev pub StatesFrom : ℕ → List Word → ℕ → Form → Result (Read Statement) Failure → Type 0
+StatesFrom n ws from f (Ok x) = From ws from x.end × Makes n ws from x.end f (Stated (statement_of x.value))
+StatesFrom n ws from f (Err e) = IsPlaced ws e × Halts n ws from f e
+
+-- a part, behind which stands what is made of its value
+abbrev pub Parts : {A G : Type 0} → ℕ → List Word → ℕ → (G → Form) → (A → G → Form) → Result (Read A) Failure → Type 0
+Parts n ws from part behind (Ok x) = Behind ws from x.end × ((g : _) → Leads n n ws from x.end (part g) (behind x.value g))
+Parts n ws from part behind (Err e) = IsPlaced ws e × ((g : _) → Halts n ws from (part g) e)
+
+-- a part that may be without words
+abbrev pub PartsFrom : {A G : Type 0} → ℕ → List Word → ℕ → (G → Form) → (A → G → Form) → Result (Read A) Failure → Type 0
+PartsFrom n ws from part behind (Ok x) = From ws from x.end × ((g : _) → Leads n n ws from x.end (part g) (behind x.value g))
+PartsFrom n ws from part behind (Err e) = IsPlaced ws e × ((g : _) → Halts n ws from (part g) e)
+
+-- a part that opens no level, with any levels left
+abbrev pub Pieces : {A G : Type 0} → List Word → ℕ → (G → Form) → (A → G → Form) → Result (Read A) Failure → Type 0
+Pieces ws from part behind (Ok x) = Behind ws from x.end × ((n : ℕ) (g : _) → Leads n n ws from x.end (part g) (behind x.value g))
+Pieces ws from part behind (Err e) = IsPlaced ws e × ((n : ℕ) (g : _) → Halts n ws from (part g) e)
+
+-- the same, where it may be without words
+abbrev pub PiecesFrom : {A G : Type 0} → List Word → ℕ → (G → Form) → (A → G → Form) → Result (Read A) Failure → Type 0
+PiecesFrom ws from part behind (Ok x) = From ws from x.end × ((n : ℕ) (g : _) → Leads n n ws from x.end (part g) (behind x.value g))
+PiecesFrom ws from part behind (Err e) = IsPlaced ws e × ((n : ℕ) (g : _) → Halts n ws from (part g) e)
+
+-- ---- words and signs that are expected
+
+-- a word or a sign that opens no level
+abbrev pub Takes : List Word → ℕ → (Form → Form) → Result ℕ Failure → Type 0
+Takes ws from part (Ok end) = Behind ws from end × ((n : ℕ) (f : Form) → Leads n n ws from end (part f) f)
+Takes ws from part (Err e) = IsPlaced ws e × ((n : ℕ) (f : Form) → Halts n ws from (part f) e)
+
+-- an opening parenthesis, which opens a level
+abbrev pub TakesOpening : ℕ → List Word → ℕ → Result ℕ Failure → Type 0
+TakesOpening n ws from (Ok end) = Behind ws from end × (0 < n) × ((f : Form) → Leads n (n - 1) ws from end (TakeSign true sign.Opening f) f)
+TakesOpening n ws from (Err e) = IsPlaced ws e × ((f : Form) → Halts n ws from (TakeSign true sign.Opening f) e)
+
+-- the same, where one may stand
+abbrev pub MayOpen : ℕ → List Word → ℕ → Result Bool Failure → Type 0
+MayOpen n ws from (Ok stands) = IfOpens n ws from stands
+MayOpen n ws from (Err e) = IsPlaced ws e × ((f h : Form) → Halts n ws from (IfSign true sign.Opening f h) e)
+
+-- the closing parenthesis of a level
+abbrev pub TakesClosing : ℕ → List Word → ℕ → Result ℕ Failure → Type 0
+TakesClosing n ws from (Ok end) = Behind ws from end × ((f : Form) → Leads (n - 1) n ws from end (TakeClosing f) f)
+TakesClosing n ws from (Err e) = IsPlaced ws e × ((m : ℕ) (f : Form) → Halts m ws from (TakeClosing f) e)

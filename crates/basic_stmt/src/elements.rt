@@ -1,15 +1,15 @@
 //! The elements of lists with commas.
 
-ghost use Rattle.std.specs.Prelude.{◌≡◌, ℕ, ◌+◌, ◌<◌, ◌≤◌, Bool, Option, length, IfOk, IfErr};
-ghost use Rattle.basic_tree.specs.declared.parts.Shape.{Shape};
-ghost use Rattle.basic_tree.specs.MachineStack.{Form, Targets, Shapes, FileShapes, Parameters, Lines, Channels, FieldParts, ShapeItem, FileItem, NameItem, LineItem};
+ghost use Rattle.std.specs.Prelude.{◌≡◌, ℕ, ◌+◌, ◌<◌, ◌≤◌, length};
+ghost use Rattle.basic_tree.specs.MachineStack.{Targets, Shapes, FileShapes, Parameters, Lines, Channels, FieldParts, ShapeItem, FileItem, NameItem, LineItem};
 ghost use Rattle.basic_tree.specs.MachineForms.{shape_form, size_form};
-ghost use Rattle.basic_stmt.specs.Items.{target_item, channel_item, part_item};
-ghost use Rattle.basic_stmt.specs.Reading.{Behind, From, Halts, IsPlaced, Leads};
+ghost use Rattle.basic_stmt.specs.Items.{channel_item, part_item, target_item};
+ghost use Rattle.basic_stmt.specs.Reading.{Parts, PiecesFrom};
 
 use crate::lists::Element;
 use crate::literals::Literal;
 use crate::names::{literal, name};
+use crate::read::Read;
 use crate::reading::{closing, expression, if_sign, opening, take_key};
 use crate::targets::target;
 use basic_expr::{Failure, Words};
@@ -18,56 +18,69 @@ use std::alloc::Global;
 
 /// The name of an array and its bounds, and the place behind them.
 #[tactic(auto, using(crate::proofs::Steps::leading))]
-fn shape(words: &Words<'_>, from: usize, levels: usize) -> Result<(Shape, usize), Failure>
+fn shape(words: &Words<'_>, from: usize, levels: usize) -> Result<Read<Shape>, Failure>
     requires { from ≤ length words.now }
-    ensures ends { IfOk result (λ x. Behind words.now from x.1) }
-    ensures found { IfOk result (λ x. (g : Shape → Form) → Leads levels levels words.now from x.1 (shape_form g) (g x.0)) }
-    ensures placed { IfErr result (λ e. IsPlaced words.now e) }
-    ensures refused { IfErr result (λ e. (g : Shape → Form) → Halts levels words.now from (shape_form g) e) }
+    ensures { Parts levels words.now from shape_form (λ x g. g x) result }
 {
-    let (name, named) = name(words, from, Want::Either)?;
+    let Read {
+        value: name,
+        end: named,
+    } = name(words, from, Want::Either)?;
     let opened = opening(words, named, levels)?;
-    let (first, bounded) = literal(words, opened, Literal::Bound)?;
+    let Read {
+        value: first,
+        end: bounded,
+    } = literal(words, opened, Literal::Bound)?;
     if if_sign(words, bounded, Sign::Comma) {
-        let (second, twice) = literal(words, bounded + 1, Literal::Bound)?;
+        let Read {
+            value: second,
+            end: twice,
+        } = literal(words, bounded + 1, Literal::Bound)?;
         let end = closing(words, twice, levels)?;
-        return Ok((
-            Shape {
+        return Ok(Read {
+            value: Shape {
                 name,
                 first,
                 second: Some(second),
             },
             end,
-        ));
+        });
     }
     let end = closing(words, bounded, levels)?;
-    Ok((
-        Shape {
+    Ok(Read {
+        value: Shape {
             name,
             first,
             second: None,
         },
         end,
-    ))
+    })
 }
 
-/// Behind a text array, the bytes of its elements, where they stand there; and the place behind them.
+/// Behind a text array, the bytes of its elements, where they stand there; and the place behind
+/// them.
 #[tactic(auto, using(crate::proofs::Steps::leading))]
-fn size(words: &Words<'_>, from: usize, text: bool) -> Result<(Option<u16>, usize), Failure>
+fn size(words: &Words<'_>, from: usize, text: bool) -> Result<Read<Option<u16>>, Failure>
     requires { from ≤ length words.now }
-    ensures ends { IfOk result (λ x. From words.now from x.1) }
-    ensures found { IfOk result (λ x. (n : ℕ) (g : Option ℕ → Form) → Leads n n words.now from x.1 (size_form text g) (g x.0)) }
-    ensures placed { IfErr result (λ e. IsPlaced words.now e) }
-    ensures refused { IfErr result (λ e. (n : ℕ) (g : Option ℕ → Form) → Halts n words.now from (size_form text g) e) }
+    ensures { PiecesFrom words.now from (size_form text) (λ x g. g x) result }
 {
     if text {
         if if_sign(words, from, Sign::Equal) {
-            let (bytes, end) = literal(words, from + 1, Literal::Size)?;
-            return Ok((Some(bytes), end));
+            let Read { value: bytes, end } = literal(words, from + 1, Literal::Size)?;
+            return Ok(Read {
+                value: Some(bytes),
+                end,
+            });
         }
-        return Ok((None, from));
+        return Ok(Read {
+            value: None,
+            end: from,
+        });
     }
-    Ok((None, from))
+    Ok(Read {
+        value: None,
+        end: from,
+    })
 }
 
 impl Element for Target {
@@ -85,7 +98,7 @@ impl Element for Target {
         from: usize,
         want: Want,
         levels: usize,
-    ) -> Result<(Target, usize), Failure> {
+    ) -> Result<Read<Target>, Failure> {
         target(alloc, words, from, want, levels)
     }
 }
@@ -105,7 +118,7 @@ impl Element for Shape {
         from: usize,
         _want: Want,
         levels: usize,
-    ) -> Result<(Shape, usize), Failure> {
+    ) -> Result<Read<Shape>, Failure> {
         shape(words, from, levels)
     }
 }
@@ -126,10 +139,16 @@ impl Element for FileShape {
         from: usize,
         _want: Want,
         levels: usize,
-    ) -> Result<(FileShape, usize), Failure> {
-        let (shape, shaped) = shape(words, from, levels)?;
-        let (size, end) = size(words, shaped, shape.name.text)?;
-        Ok((FileShape { shape, size }, end))
+    ) -> Result<Read<FileShape>, Failure> {
+        let Read {
+            value: shape,
+            end: shaped,
+        } = shape(words, from, levels)?;
+        let Read { value: size, end } = size(words, shaped, shape.name.text)?;
+        Ok(Read {
+            value: FileShape { shape, size },
+            end,
+        })
     }
 }
 
@@ -148,7 +167,7 @@ impl Element for Name {
         from: usize,
         _want: Want,
         _levels: usize,
-    ) -> Result<(Name, usize), Failure> {
+    ) -> Result<Read<Name>, Failure> {
         name(words, from, Want::Either)
     }
 }
@@ -168,7 +187,7 @@ impl Element for u16 {
         from: usize,
         _want: Want,
         _levels: usize,
-    ) -> Result<(u16, usize), Failure> {
+    ) -> Result<Read<u16>, Failure> {
         literal(words, from, Literal::LineNumber)
     }
 }
@@ -189,19 +208,28 @@ impl Element for CloseChannel {
         from: usize,
         _want: Want,
         levels: usize,
-    ) -> Result<(CloseChannel, usize), Failure> {
+    ) -> Result<Read<CloseChannel>, Failure> {
         if if_sign(words, from, Sign::Hash) {
-            let (number, end) = expression(alloc, words, from + 1, Want::Number, levels)?;
-            return Ok((CloseChannel { hash: true, number }, end));
+            let Read { value: number, end } = expression(
+                alloc,
+                words,
+                from + 1,
+                Want::Number,
+                levels,
+            )?;
+            return Ok(Read {
+                value: CloseChannel { hash: true, number },
+                end,
+            });
         }
-        let (number, end) = expression(alloc, words, from, Want::Number, levels)?;
-        Ok((
-            CloseChannel {
+        let Read { value: number, end } = expression(alloc, words, from, Want::Number, levels)?;
+        Ok(Read {
+            value: CloseChannel {
                 hash: false,
                 number,
             },
             end,
-        ))
+        })
     }
 }
 
@@ -221,10 +249,16 @@ impl Element for FieldPart {
         from: usize,
         _want: Want,
         levels: usize,
-    ) -> Result<(FieldPart, usize), Failure> {
-        let (width, widened) = expression(alloc, words, from, Want::Number, levels)?;
+    ) -> Result<Read<FieldPart>, Failure> {
+        let Read {
+            value: width,
+            end: widened,
+        } = expression(alloc, words, from, Want::Number, levels)?;
         let named = take_key(words, widened, Keyword::As)?;
-        let (name, end) = name(words, named, Want::Text)?;
-        Ok((FieldPart { width, name }, end))
+        let Read { value: name, end } = name(words, named, Want::Text)?;
+        Ok(Read {
+            value: FieldPart { width, name },
+            end,
+        })
     }
 }

@@ -1,21 +1,22 @@
 //! Targets: the variables and elements to which a statement gives values.
 
-ghost use Rattle.std.specs.Prelude.{◌≡◌, ℕ, false, ◌+◌, ◌<◌, ◌≤◌, length, IfOk, IfErr, MatchOption};
+ghost use Rattle.std.specs.Prelude.{◌≡◌, ℕ, false, ◌+◌, ◌<◌, ◌≤◌, length, MatchOption};
 ghost use Rattle.basic_tree.specs.SpellingPieces.{is_target};
 ghost use Rattle.basic_tree.specs.SpellingExpressions.{is_text};
-ghost use Rattle.basic_tree.specs.Trees.{Tree};
 ghost use Rattle.basic_tree.specs.TreeViews.{tree_of, target_of};
-ghost use Rattle.basic_tree.specs.MachineStack.{Form, TargetOf};
-ghost use Rattle.basic_stmt.specs.Reading.{Behind, Halts, IsPlaced, Leads};
+ghost use Rattle.basic_tree.specs.MachineStack.{TargetOf};
+ghost use Rattle.basic_stmt.specs.Reading.{Parts};
 
 use crate::names::next_name;
+use crate::read::Read;
 use basic_expr::{Failure, Words, subscripts_at, takes};
 use basic_tree::{Expr, Target, Want};
 use std::alloc::Global;
 
 /// The expression as a target, where it is one.
 fn as_target(tree: Expr) -> Option<Target>
-    ensures { MatchOption result (is_target (tree_of tree) ≡ false) (λ t. target_of t ≡ tree_of tree) }
+    ensures { MatchOption result (is_target (tree_of tree) ≡ false)
+        (λ t. target_of t ≡ tree_of tree) }
 {
     match tree {
         Expr::Variable(name) => Some(Target::Variable(name)),
@@ -66,19 +67,19 @@ pub(crate) fn target(
     from: usize,
     want: Want,
     levels: usize,
-) -> Result<(Target, usize), Failure>
+) -> Result<Read<Target>, Failure>
     requires { from ≤ length words.now }
-    ensures ends { IfOk result (λ x. Behind words.now from x.1) }
-    ensures found { IfOk result (λ x. (g : Tree → Form) → Leads levels levels words.now from x.1 (TargetOf want g) (g (target_of x.0))) }
-    ensures placed { IfErr result (λ e. IsPlaced words.now e) }
-    ensures refused { IfErr result (λ e. (g : Tree → Form) → Halts levels words.now from (TargetOf want g) e) }
+    ensures { Parts levels words.now from (TargetOf want) (λ x g. g (target_of x)) result }
 {
     match next_name(words, from) {
         None => Err(Failure::Wrong { place: from }),
         Some(name) => if takes(want, name.text) {
             let found = subscripts_at(alloc, words, from + 1, name, levels)?;
             match as_target(found.tree) {
-                Some(target) => Ok((target, found.end)),
+                Some(target) => Ok(Read {
+                    value: target,
+                    end: found.end,
+                }),
                 None => unreachable!(),
             }
         } else {
