@@ -98,7 +98,10 @@ fn modifier_body(
     ensures { MakesModifier levels words.now from kind result }
 {
     match kind {
-        Modifying::For => loop_body(alloc, words, from, levels),
+        Modifying::For => {
+            let found = loop_body(alloc, words, from, levels)?;
+            Ok(found)
+        }
         Modifying::If => {
             let Read { value, end } = expression(alloc, words, from, Want::Number, levels)?;
             Ok(Read {

@@ -3,7 +3,7 @@
 ghost use Rattle.std.specs.Prelude.{◌≡◌, ℕ, ◌+◌, ◌<◌, ◌≤◌, [], ◌∷◌, length, IfOk};
 ghost use Rattle.basic_expr.specs.Views.{most_words};
 ghost use Rattle.basic_tree.specs.MachineSentences.{data_form};
-ghost use Rattle.basic_stmt.specs.Reading.{ItemAt, Pieces, States};
+ghost use Rattle.basic_stmt.specs.Reading.{ItemAt, FlatParts, States};
 ghost use Rattle.basic_stmt.specs.Forms.{items_form};
 
 use crate::names::text_of;
@@ -37,7 +37,7 @@ fn next_item(alloc: Global, words: &Words<'_>, from: usize) -> Result<Option<Tex
 #[tactic(auto, using(crate::proofs::ListSteps::itemizing))]
 fn all_items(alloc: Global, words: &Words<'_>, from: usize) -> Result<Read<Series<Text>>, Failure>
     requires { from ≤ length words.now }
-    ensures { Pieces words.now from items_form (λ x g. g x) result }
+    ensures { FlatParts words.now from items_form (λ x g. g x) result }
 {
     let first = match next_item(alloc, words, from)? {
         None => return Err(Failure::Wrong { place: from }),

@@ -3,7 +3,7 @@
 ghost use Rattle.std.specs.Prelude.{◌≡◌, ℕ, ◌+◌, ◌<◌, ◌≤◌, length, IfOk};
 ghost use Rattle.basic_expr.specs.Views.{as_word, most_words};
 ghost use Rattle.basic_tree.specs.MachineStack.{NameIn, FnNameIn, LiteralIn, within};
-ghost use Rattle.basic_stmt.specs.Reading.{FnNameAt, IfLiteral, IfQuoted, NameAt, NumberAt, Pieces, fn_named, limit_of, named, number};
+ghost use Rattle.basic_stmt.specs.Reading.{FnNameAt, IfLiteral, IfQuoted, NameAt, NumberAt, FlatParts, fn_named, limit_of, named, number};
 
 use crate::literals::Literal;
 use crate::read::Read;
@@ -91,7 +91,7 @@ fn within(limit: Literal, value: u16) -> bool
 #[tactic(auto, using(crate::proofs::Parts::names))]
 pub(crate) fn name(words: &Words<'_>, from: usize, want: Want) -> Result<Read<Name>, Failure>
     requires { from ≤ length words.now }
-    ensures { Pieces words.now from (NameIn want) (λ x g. g x) result }
+    ensures { FlatParts words.now from (NameIn want) (λ x g. g x) result }
 {
     match next_name(words, from) {
         None => Err(Failure::Wrong { place: from }),
@@ -110,7 +110,7 @@ pub(crate) fn name(words: &Words<'_>, from: usize, want: Want) -> Result<Read<Na
 #[tactic(auto, using(crate::proofs::Parts::names))]
 pub(crate) fn fn_name(words: &Words<'_>, from: usize) -> Result<Read<Name>, Failure>
     requires { from ≤ length words.now }
-    ensures { Pieces words.now from FnNameIn (λ x g. g x) result }
+    ensures { FlatParts words.now from FnNameIn (λ x g. g x) result }
 {
     match next_fn_name(words, from) {
         None => Err(Failure::Wrong { place: from }),
@@ -125,7 +125,7 @@ pub(crate) fn fn_name(words: &Words<'_>, from: usize) -> Result<Read<Name>, Fail
 #[tactic(auto, using(crate::proofs::Parts::literals))]
 pub(crate) fn literal(words: &Words<'_>, from: usize, limit: Literal) -> Result<Read<u16>, Failure>
     requires { from ≤ length words.now }
-    ensures { Pieces words.now from (LiteralIn (limit_of limit)) (λ x g. g x) result }
+    ensures { FlatParts words.now from (LiteralIn (limit_of limit)) (λ x g. g x) result }
 {
     match next_number(words, from) {
         None => Err(Failure::Wrong { place: from }),

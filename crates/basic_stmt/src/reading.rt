@@ -4,7 +4,7 @@ ghost use Rattle.std.specs.Prelude.{◌≡◌, ℕ, false, ◌+◌, ◌-◌, ◌
 ghost use Rattle.basic_expr.specs.Views.{most_words};
 ghost use Rattle.basic_tree.specs.TreeViews.{tree_of};
 ghost use Rattle.basic_tree.specs.MachineStack.{ExprOf, TakeKey, TakeSign};
-ghost use Rattle.basic_stmt.specs.Reading.{MayOpen, Parts, SkipsKey, SkipsSign, Takes, TakesClosing, TakesKey, TakesOpening, TakesSign};
+ghost use Rattle.basic_stmt.specs.Reading.{MayOpen, Parts, SkipsKey, SkipsSign, TakesWord, TakesClosing, TakesKey, TakesOpening, TakesSign};
 
 use crate::read::Read;
 use basic_expr::{Failure, Words, expression_at, next_is_key, next_is_sign};
@@ -36,7 +36,7 @@ pub(crate) fn if_sign(words: &Words<'_>, from: usize, sign: Sign) -> bool
 #[tactic(auto, using(crate::proofs::Steps::words_at))]
 pub fn take_key(words: &Words<'_>, from: usize, key: Keyword) -> Result<usize, Failure>
     requires { from ≤ length words.now }
-    ensures { Takes words.now from (TakeKey false key) result }
+    ensures { TakesWord words.now from (TakeKey false key) result }
 {
     if next_is_key(words, from, key) {
         return Ok(from + 1);
@@ -48,7 +48,7 @@ pub fn take_key(words: &Words<'_>, from: usize, key: Keyword) -> Result<usize, F
 #[tactic(auto, using(crate::proofs::Steps::words_at))]
 pub(crate) fn take_sign(words: &Words<'_>, from: usize, sign: Sign) -> Result<usize, Failure>
     requires { from ≤ length words.now }
-    ensures { Takes words.now from (TakeSign false sign) result }
+    ensures { TakesWord words.now from (TakeSign false sign) result }
 {
     if next_is_sign(words, from, sign) {
         return Ok(from + 1);

@@ -1,7 +1,8 @@
 //! The string functions.
 
 use basic_strings::{
-    abs, ascii, chr, digits, instr, item_number, left, len, mid, num, num1, number_of, right, sgn, space, string, text_of, val, xlate,
+    abs, ascii, chr, digits, instr, item_number, left, len, mid, num, num1, number_of, right, sgn,
+    space, string, text_of, val, xlate,
 };
 use basic_values::{Fault, Halt, Int, Text, Trouble};
 use std::alloc::{AllocError, Global};

@@ -36,16 +36,6 @@ fn put_behind(out: &mut String, word: &str, tree: &Option<Expr>) -> Result<(), A
     Ok(())
 }
 
-/// Arguments or subscripts, between brackets.
-fn put_list(out: &mut String, trees: &[Expr]) -> Result<(), AllocError> {
-    out.push('[')?;
-    for tree in trees {
-        put_expr(out, tree)?;
-        out.push(',')?;
-    }
-    out.push(']')
-}
-
 /// An expression, with brackets round each operation.
 pub(crate) fn put_expr(out: &mut String, tree: &Expr) -> Result<(), AllocError> {
     match tree {
@@ -70,13 +60,22 @@ pub(crate) fn put_expr(out: &mut String, tree: &Expr) -> Result<(), AllocError> 
             function,
             arguments,
         } => {
-            write!(out, "{function:?}")?;
-            put_list(out, arguments.as_slice())
+            write!(out, "{function:?}[")?;
+            for argument in arguments {
+                put_expr(out, argument)?;
+                out.push(',')?;
+            }
+            out.push(']')
         }
         Expr::Call { name, arguments } => {
             out.push_str("FN")?;
             put_name(out, name)?;
-            put_list(out, arguments.as_slice())
+            out.push('[')?;
+            for argument in arguments {
+                put_expr(out, argument)?;
+                out.push(',')?;
+            }
+            out.push(']')
         }
         Expr::Parenthesized(inner) => {
             out.push('(')?;

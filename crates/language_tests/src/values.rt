@@ -1,7 +1,9 @@
 //! Whole numbers, texts, failures, and numbers that stand in a text.
 
 use basic_values::{
-    Fault, Halt, Int, KeyLine, Series, Text, Trouble, blanks_at_end, blanks_in_front, compare, concat, digits_in_front, identical, letters_in_front, number_between, without_end_blanks, without_front_blanks,
+    Fault, Halt, Int, KeyLine, Series, Text, Trouble, blanks_at_end, blanks_in_front, compare,
+    concat, digits_in_front, identical, letters_in_front, number_between, without_end_blanks,
+    without_front_blanks,
 };
 use std::alloc::{AllocError, Global};
 use std::cmp::Ordering;
@@ -215,8 +217,16 @@ fn texts_begin_and_end_with_runs(rt: HostRuntime) {
         assert_eq!(rt; letters_in_front(text), letters, "{text:?}");
         assert_eq!(rt; digits_in_front(text), digits, "{text:?}");
         assert_eq!(rt; blanks_at_end(text), behind, "{text:?}");
-        assert_eq!(rt; without_front_blanks(text).len(), text.len() - blanks, "{text:?}");
-        assert_eq!(rt; without_end_blanks(text).len(), text.len() - behind, "{text:?}");
+        assert_eq!(rt;
+            without_front_blanks(text).len(),
+            text.len() - blanks,
+            "{text:?}"
+        );
+        assert_eq!(rt;
+            without_end_blanks(text).len(),
+            text.len() - behind,
+            "{text:?}"
+        );
     }
 }
 
@@ -228,6 +238,9 @@ fn lists_are_given_back_in_order(rt: HostRuntime) -> Result<(), Fail> {
     }
     let series = Series::from_vec(lines);
     assert_eq!(rt; series.as_slice(), [20, 10, 20].as_slice());
-    assert_eq!(rt; KeyLine::of(rt.alloc(), b"PRINT 1")?.as_bytes(), b"PRINT 1".as_slice());
+    assert_eq!(rt;
+        KeyLine::of(rt.alloc(), b"PRINT 1")?.as_bytes(),
+        b"PRINT 1".as_slice()
+    );
     Ok(())
 }
