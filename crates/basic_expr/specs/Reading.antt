@@ -51,9 +51,9 @@ abbrev pub RefusesAt : ℕ → List Word → Symbol → ℕ → Failure → Type
 RefusesAt n ws s from e = RefusesAll n ws (s ∷ []) [] from e
 
 -- where it ends, behind the place, and the kind
-abbrev pub Ends : List Word → ℕ → Result Found Failure → Type 0
-Ends ws from (Ok f) = (from < f.end) × (f.end ≤ length ws) × (f.text ≡ is_text (tree_of f.tree))
-Ends ws from (Err e) = Unit {0}
+abbrev pub EndsBehind : List Word → ℕ → Result Found Failure → Type 0
+EndsBehind ws from (Ok f) = (from < f.end) × (f.end ≤ length ws) × (f.text ≡ is_text (tree_of f.tree))
+EndsBehind ws from (Err e) = Unit {0}
 
 -- where it ends, at the place or behind it, and the kind
 abbrev pub EndsFrom : List Word → ℕ → Result Found Failure → Type 0

@@ -1,7 +1,7 @@
 //! Expressions by recursive descent: one function for each sort of symbol of the grammar's machine.
 
 ghost use Rattle.std.specs.Prelude.{◌≡◌, ◌≤◌, ◌<◌, ◌+◌, ◌∷◌, [], length, drop, IfOk};
-ghost use Rattle.basic_expr.specs.Reading.{Ends, EndsFrom, IsChain, IsPrefixed, ReadsAll, ReadsAt, ReadsSecond, Stands, begins_atom, function_expected, prefixed, second_tree, trees_in};
+ghost use Rattle.basic_expr.specs.Reading.{EndsBehind, EndsFrom, IsChain, IsPrefixed, ReadsAll, ReadsAt, ReadsSecond, Stands, begins_atom, function_expected, prefixed, second_tree, trees_in};
 ghost use Rattle.basic_expr.specs.Views.{as_word, most_words};
 ghost use Rattle.basic_tree.specs.MachineMoves.{right_of};
 ghost use Rattle.basic_tree.specs.MachineStack.{Arguments, Exponent, Level, Several, Subscripts, loosest};
@@ -77,7 +77,8 @@ fn comparison(alloc: Global, left: Expr, relation: Relation, right: Expr) -> Res
 }
 
 fn element(alloc: Global, name: Name, first: Expr, second: Option<Expr>) -> Result<Expr, NoMemory>
-    ensures { IfOk result (λ e. tree_of e ≡ Element name (AndTrees (tree_of first) (second_tree second))) }
+    ensures { IfOk result
+        (λ e. tree_of e ≡ Element name (AndTrees (tree_of first) (second_tree second))) }
 {
     let first = Box::new(alloc, first)?;
     let second = match second {
@@ -121,7 +122,7 @@ fn parse_level(
     requires within { from ≤ length words.now }
     requires level { level ≤ loosest }
     ensures reads { ReadsAt levels words.now (Level level want) from result }
-    ensures ends { Ends words.now from result }
+    ensures ends { EndsBehind words.now from result }
 {
     match level {
         0 => parse_atom(alloc, words, from, want, levels),
@@ -145,7 +146,7 @@ fn parse_chain(
     requires level { level ≤ loosest }
     requires chain { IsChain level }
     ensures reads { ReadsAt levels words.now (Level level want) from result }
-    ensures ends { Ends words.now from result }
+    ensures ends { EndsBehind words.now from result }
 {
     let mut left = parse_level(alloc, words, from, want, level - 1, levels)?;
     'operands: while let Some(operator) = next_operator(words, left.end, level, left.text) {
@@ -171,7 +172,7 @@ fn parse_right(
 ) -> Result<Found, Failure>
     requires { from ≤ length words.now }
     ensures reads { ReadsAt levels words.now (right_of operator text) from result }
-    ensures ends { Ends words.now from result }
+    ensures ends { EndsBehind words.now from result }
 {
     match right_level(operator) {
         Some(level) => parse_level(alloc, words, from, want_of(text), level, levels),
@@ -189,7 +190,7 @@ fn parse_exponent(
 ) -> Result<Found, Failure>
     requires { from ≤ length words.now }
     ensures reads { ReadsAt levels words.now Exponent from result }
-    ensures ends { Ends words.now from result }
+    ensures ends { EndsBehind words.now from result }
 {
     match next_sign(words, from) {
         None => parse_atom(alloc, words, from, Want::Number, levels),
@@ -220,7 +221,7 @@ fn parse_prefixed(
     requires within { from ≤ length words.now }
     requires prefixed { IsPrefixed level }
     ensures reads { ReadsAt levels words.now (Level level want) from result }
-    ensures ends { Ends words.now from result }
+    ensures ends { EndsBehind words.now from result }
 {
     match next_prefix(words, from, level) {
         None => parse_level(alloc, words, from, want, level - 1, levels),
@@ -241,7 +242,8 @@ fn parse_prefixed(
     }
 }
 
-/// Relations from left to right. The first side of one may be a text where the whole has to be a number.
+/// Relations from left to right. The first side of one may be a text where the whole has to be a
+/// number.
 #[cycle(expression)]
 fn parse_relations(
     alloc: Global,
@@ -252,7 +254,7 @@ fn parse_relations(
 ) -> Result<Found, Failure>
     requires { from ≤ length words.now }
     ensures reads { ReadsAt levels words.now (Level 5 want) from result }
-    ensures ends { Ends words.now from result }
+    ensures ends { EndsBehind words.now from result }
 {
     let mut left = parse_level(alloc, words, from, side(want), 4, levels)?;
     if !takes_relations(want) {
@@ -302,7 +304,7 @@ fn parse_atom(
 ) -> Result<Found, Failure>
     requires { from ≤ length words.now }
     ensures reads { ReadsAt levels words.now (Level 0 want) from result }
-    ensures ends { Ends words.now from result }
+    ensures ends { EndsBehind words.now from result }
 {
     let word = match words.peek(from) {
         None => return Err(Failure::Wrong { place: from }),
@@ -345,7 +347,7 @@ fn parse_parenthesized(
     requires stands { Stands words.now (Punctuation Opening) from }
     requires few { length words.now ≤ most_words }
     ensures reads { ReadsAt levels words.now (Level 0 want) from result }
-    ensures ends { Ends words.now from result }
+    ensures ends { EndsBehind words.now from result }
 {
     if levels == 0 {
         return Err(Failure::TooDeep { place: from });
@@ -460,7 +462,8 @@ fn parse_function(
     levels: usize,
 ) -> Result<Found, Failure>
     requires { from ≤ length words.now }
-    ensures reads { ReadsAll levels words.now (function_expected function) (Several NoTrees ∷ []) from result }
+    ensures reads { ReadsAll levels words.now (function_expected function) (Several NoTrees ∷ [])
+        from result }
     ensures ends { EndsFrom words.now from result }
 {
     let wants = arguments_of(function);
@@ -506,7 +509,7 @@ pub fn expression_at(
 ) -> Result<Found, Failure>
     requires { from ≤ length words.now }
     ensures reads { ReadsAt levels words.now (Level loosest want) from result }
-    ensures ends { Ends words.now from result }
+    ensures ends { EndsBehind words.now from result }
 {
     parse_level(alloc, words, from, want, LOOSEST, levels)
 }

@@ -11,13 +11,15 @@ use basic_tree::{Expr, Refusal, Want};
 use basic_values::{NoMemory, Trouble};
 use std::alloc::Global;
 
-/// How many levels of nesting may be open in a line. Parentheses of every sort, signs and NOT each open one.
+/// How many levels of nesting may be open in a line. Parentheses of every sort, signs and NOT each
+/// open one.
 pub const MOST_LEVELS: usize = 64;
 
-/// The longest expression of the wanted kind among the tokens from a place on, and the place behind it: with k the
-/// greatest place such that the tokens up to k begin some expression of that kind, they are one themselves, and none
-/// of them opens a level too many. Else the first token that is refused: as `Syntax` at k, as `TooDeep` at the token
-/// that opens level 65. Places are numbers of tokens, from 0; the end is the number of tokens.
+/// The longest expression of the wanted kind among the tokens from a place on, and the place behind
+/// it: with k the greatest place such that the tokens up to k begin some expression of that kind,
+/// they are one themselves, and none of them opens a level too many. Else the first token that is
+/// refused: as `Syntax` at k, as `TooDeep` at the token that opens level 65. Places are numbers of
+/// tokens, from 0; the end is the number of tokens.
 #[tactic(auto, using(crate::proofs::Places::parsed, crate::proofs::Places::refused, crate::proofs::Places::near))]
 pub fn parse_expr(
     alloc: Global,

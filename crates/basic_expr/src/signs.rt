@@ -53,7 +53,8 @@ fn is_key(word: Word<'_>, key: Keyword) -> bool
 #[tactic(auto, using(crate::proofs::Steps::is_that_sign))]
 pub fn next_is_sign(words: &Words<'_>, place: usize, sign: Sign) -> bool
     requires { place ≤ length words.now }
-    ensures stands { MatchBool result (Stands words.now (Punctuation sign) place) (First (is_sign sign) (drop place words.now)) }
+    ensures stands { MatchBool result (Stands words.now (Punctuation sign) place)
+        (First (is_sign sign) (drop place words.now)) }
     ensures few { length words.now ≤ most_words }
 {
     match words.peek(place) {
@@ -66,7 +67,8 @@ pub fn next_is_sign(words: &Words<'_>, place: usize, sign: Sign) -> bool
 #[tactic(auto, using(crate::proofs::KeyNumbers::is_that_key))]
 pub fn next_is_key(words: &Words<'_>, place: usize, key: Keyword) -> bool
     requires { place ≤ length words.now }
-    ensures stands { MatchBool result (Stands words.now (KeyWord key) place) (First (is_key key) (drop place words.now)) }
+    ensures stands { MatchBool result (Stands words.now (KeyWord key) place)
+        (First (is_key key) (drop place words.now)) }
     ensures few { length words.now ≤ most_words }
 {
     match words.peek(place) {
@@ -168,7 +170,8 @@ pub(crate) fn right_level(operator: Operator) -> Option<usize>
 /// The sign before a number at a place.
 pub(crate) fn next_sign(words: &Words<'_>, place: usize) -> Option<Prefix>
     requires { place ≤ length words.now }
-    ensures signed { PrefixAt takes_number (signed_level 2) (Level 2 Number) (signed_level 1) words.now place result }
+    ensures signed { PrefixAt takes_number (signed_level 2) (Level 2 Number) (signed_level 1)
+        words.now place result }
     ensures exponent { PrefixAt always exponents Exponent number_atom words.now place result }
     ensures few { length words.now ≤ most_words }
 {
@@ -184,7 +187,8 @@ pub(crate) fn next_sign(words: &Words<'_>, place: usize) -> Option<Prefix>
 /// NOT at a place.
 fn next_not(words: &Words<'_>, place: usize) -> Option<Prefix>
     requires { place ≤ length words.now }
-    ensures prefix { PrefixAt takes_number (signed_level 6) (Level 6 Number) (signed_level 5) words.now place result }
+    ensures prefix { PrefixAt takes_number (signed_level 6) (Level 6 Number) (signed_level 5)
+        words.now place result }
     ensures few { length words.now ≤ most_words }
 {
     if next_is_key(words, place, Keyword::Not) {
@@ -198,7 +202,8 @@ fn next_not(words: &Words<'_>, place: usize) -> Option<Prefix>
 pub(crate) fn next_prefix(words: &Words<'_>, place: usize, level: usize) -> Option<Prefix>
     requires within { place ≤ length words.now }
     requires prefixed { IsPrefixed level }
-    ensures prefix { PrefixAt takes_number (signed_level level) (Level level Number) (signed_level (level - 1)) words.now place result }
+    ensures prefix { PrefixAt takes_number (signed_level level) (Level level Number)
+        (signed_level (level - 1)) words.now place result }
     ensures few { length words.now ≤ most_words }
 {
     if level == 2 {

@@ -11,7 +11,8 @@ use basic_values::NoMemory;
 use std::alloc::Global;
 use std::marker::Model;
 
-/// A token as the grammar sees it: letters as capitals, a literal by its value (32768 for any above 32767), one word for two spellings.
+/// A token as the grammar sees it: letters as capitals, a literal by its value (32768 for any above
+/// 32767), one word for two spellings.
 #[derive(Clone, Copy, Debug)]
 pub enum Word<'a> {
     Key(Keyword),
@@ -171,7 +172,9 @@ impl<'a> Words<'a> {
     /// The one at a place, from 0; none at the end.
     pub fn peek(&self, place: usize) -> Option<Word<'a>>
         requires { place ≤ length self.now }
-        ensures word { MatchOption result (drop place self.now ≡ []) (λ w. (place < length self.now) × (drop place self.now ≡ as_word w ∷ drop (place + 1) self.now) × IsShort w) }
+        ensures word { MatchOption result (drop place self.now ≡ []) (λ w.
+            (place < length self.now) ×
+            (drop place self.now ≡ as_word w ∷ drop (place + 1) self.now) × IsShort w) }
         ensures few { length self.now ≤ most_words }
     {
         self.words.get(place).copied()

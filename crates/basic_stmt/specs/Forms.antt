@@ -4,13 +4,13 @@ use Rattle.basic_tree.specs.declared.tokens.Keyword.TheVariants as keyword
 use Rattle.basic_tree.specs.declared.tokens.Sign.TheVariants as sign
 use Rattle.basic_tree.specs.declared.kinds.Want.TheVariants as want
 use Rattle.basic_tree.specs.Trees.{FnEnd, Read, Restore, Goto, Gosub, Return, Resume, Stop, End, Sleep, Close, Get, Put, Unlock, Kill, Rename}
-use Rattle.std.specs.Prelude.{ℕ, List, Some, None}
+use Rattle.std.specs.Prelude.{ℕ, List, [], ◌∷◌, Option, Some, None}
 use Rattle.basic_tree.specs.declared.parts.Separator.TheVariants as separator
 use Rattle.basic_tree.specs.MachineSentences.{input_targets}
 use Rattle.basic_tree.specs.Trees.{Tree, OnGoto, OnGosub, OnErrorGoto, DimFile, InputLine}
 use Rattle.basic_tree.specs.declared.parts.OpenFor.TheVariants as purpose
-use Rattle.basic_tree.specs.MachineStack.{Form, TakeKey, TakeSign, IfKey, IfSign, ExprOf, NameIn, LiteralIn, LiteralIf, LineNumber, Bound, Targets, Channels, Lines, FileShapes}
-use Rattle.basic_tree.specs.MachineForms.{list_form, targets_in, channels_in, lines_in, files_in, says, number_option, targets_form, file_form}
+use Rattle.basic_tree.specs.MachineStack.{Form, TakeKey, TakeSign, IfKey, IfSign, ExprOf, NameIn, LiteralIn, LiteralIf, LineNumber, Bound, Targets, Channels, Lines, FileShapes, ItemIn, MoreItems}
+use Rattle.basic_tree.specs.MachineForms.{list_form, targets_in, channels_in, lines_in, files_in, says, number_option, cluster_form, targets_form, file_form}
 
 abbrev pub fn_end_form : Form
 fn_end_form = TakeKey false keyword.FnEnd (says FnEnd)
@@ -91,3 +91,11 @@ abbrev pub input_prompt_form : List ℕ → Form
 input_prompt_form text =
     IfSign false sign.Semicolon (input_targets None (Some (record { text = text; separator = separator.Semicolon })))
     (TakeSign false sign.Comma (input_targets None (Some (record { text = text; separator = separator.Comma }))))
+
+-- behind RECORDSIZE
+abbrev pub recorded_form : (Option Tree → Option Tree → Option Tree → Form) → Form
+recorded_form g = ExprOf want.Number (λ n. cluster_form (g (Some n)))
+
+-- one or more items of DATA
+abbrev pub items_form : (List (List ℕ) → Form) → Form
+items_form g = ItemIn (λ item. MoreItems (item ∷ []) g)

@@ -1,19 +1,18 @@
 //! CHAIN, the one statement in which a number stands right behind a text.
 
-ghost use Rattle.std.specs.Prelude.{◌≡◌, ℕ, ◌+◌, ◌<◌, ◌≤◌, drop, length, IfOk, IfErr, MatchBool};
-ghost use Rattle.basic_expr.specs.Views.{as_word, most_words};
+ghost use Rattle.std.specs.Prelude.{◌≡◌, ℕ, ◌+◌, ◌<◌, ◌≤◌, drop, length, IfOk, MatchBool};
+ghost use Rattle.basic_expr.specs.Views.{as_word};
 ghost use Rattle.basic_tree.specs.SpellingParts.{first_word, is_name};
 ghost use Rattle.basic_tree.specs.SpellingWords.{Punctuation};
 ghost use Rattle.std.specs.Prelude.{Some};
-ghost use Rattle.basic_tree.specs.Trees.{Tree};
 ghost use Rattle.basic_tree.specs.TreeViews.{tree_of};
-ghost use Rattle.basic_tree.specs.StatementViews.{statement_of};
-ghost use Rattle.basic_tree.specs.MachineStack.{Form, ExprOf, Stated};
+ghost use Rattle.basic_tree.specs.MachineStack.{ExprOf};
 ghost use Rattle.basic_tree.specs.MachineSentences.{chain_form};
 ghost use Rattle.basic_tree.specs.declared.kinds.Want.TheVariants.{Text};
 ghost use Rattle.basic_stmt.specs.Following.{EndsBefore, NothingFollows, NumberFollows, follows};
-ghost use Rattle.basic_stmt.specs.Reading.{Behind, Gives, Halts, IsPlaced, Leads};
+ghost use Rattle.basic_stmt.specs.Reading.{Parts, States};
 
+use crate::read::Read;
 use crate::reading::{expression, if_key, take_key};
 use basic_expr::{Failure, Word, Words, begins_value, expression_at};
 use basic_tree::{ChainLine, Expr, Keyword, Sign, Statement, Want};
@@ -26,16 +25,16 @@ fn program(
     words: &Words<'_>,
     from: usize,
     levels: usize,
-) -> Result<(Expr, usize), Failure>
+) -> Result<Read<Expr>, Failure>
     requires { from ≤ length words.now }
-    ensures ends { IfOk result (λ x. Behind words.now from x.1) }
-    ensures found { IfOk result (λ x. (g : Tree → Form) → Leads levels levels words.now from x.1 (ExprOf Text g) (g (tree_of x.0))) }
-    ensures last { IfOk result (λ x. EndsBefore words.now x.1 (tree_of x.0)) }
-    ensures placed { IfErr result (λ e. IsPlaced words.now e) }
-    ensures refused { IfErr result (λ e. (g : Tree → Form) → Halts levels words.now from (ExprOf Text g) e) }
+    ensures reads { Parts levels words.now from (ExprOf Text) (λ x g. g (tree_of x)) result }
+    ensures last { IfOk result (λ x. EndsBefore words.now x.end (tree_of x.value)) }
 {
     let found = expression_at(alloc, words, from, Want::Text, levels)?;
-    Ok((found.tree, found.end))
+    Ok(Read {
+        value: found.tree,
+        end: found.end,
+    })
 }
 
 /// Whether a word is a name, behind which a parenthesis opens its own list.
@@ -82,8 +81,8 @@ fn follows(named: bool, word: Word<'_>) -> bool
     }
 }
 
-/// Whether the number of CHAIN begins at a place, right behind its text: with no sign, and with no parenthesis that
-/// would belong to a name.
+/// Whether the number of CHAIN begins at a place, right behind its text: with no sign, and with no
+/// parenthesis that would belong to a name.
 #[tactic(auto, using(crate::proofs::ChainSteps::following))]
 fn number_follows(words: &Words<'_>, place: usize) -> bool
     requires within { place ≤ length words.now }
@@ -104,33 +103,45 @@ pub(crate) fn chain(
     words: &Words<'_>,
     from: usize,
     levels: usize,
-) -> Result<(Statement, usize), Failure>
+) -> Result<Read<Statement>, Failure>
     requires { from ≤ length words.now }
-    ensures ends { IfOk result (λ x. Behind words.now from x.1) }
-    ensures found { IfOk result (λ x. Gives levels words.now from x.1 chain_form (Stated (statement_of x.0))) }
-    ensures placed { IfErr result (λ e. IsPlaced words.now e) }
-    ensures refused { IfErr result (λ e. Halts levels words.now from chain_form e) }
+    ensures { States levels words.now from chain_form result }
 {
     let at = take_key(words, from, Keyword::Chain)?;
-    let (program, behind) = program(alloc, words, at, levels)?;
+    let Read {
+        value: program,
+        end: behind,
+    } = program(alloc, words, at, levels)?;
     if if_key(words, behind, Keyword::Line) {
-        let (number, end) = expression(alloc, words, behind + 1, Want::Number, levels)?;
+        let Read { value: number, end } = expression(
+            alloc,
+            words,
+            behind + 1,
+            Want::Number,
+            levels,
+        )?;
         let line = Some(ChainLine { word: true, number });
-        return Ok((Statement::Chain { program, line }, end));
+        return Ok(Read {
+            value: Statement::Chain { program, line },
+            end,
+        });
     }
     if number_follows(words, behind) {
-        let (number, end) = expression(alloc, words, behind, Want::Number, levels)?;
+        let Read { value: number, end } = expression(alloc, words, behind, Want::Number, levels)?;
         let line = Some(ChainLine {
             word: false,
             number,
         });
-        return Ok((Statement::Chain { program, line }, end));
+        return Ok(Read {
+            value: Statement::Chain { program, line },
+            end,
+        });
     }
-    Ok((
-        Statement::Chain {
+    Ok(Read {
+        value: Statement::Chain {
             program,
             line: None,
         },
-        behind,
-    ))
+        end: behind,
+    })
 }

@@ -1,18 +1,15 @@
 //! Statements on files and their channels.
 
-ghost use Rattle.std.specs.Prelude.{◌≡◌, ℕ, true, false, ◌+◌, ◌<◌, ◌≤◌, Option, Some, length, option_map, IfOk, IfErr};
+ghost use Rattle.std.specs.Prelude.{◌≡◌, ℕ, ◌+◌, ◌<◌, ◌≤◌, length, option_map};
 ghost use Rattle.basic_tree.specs.declared.tokens.Keyword.TheVariants as keyword;
-ghost use Rattle.basic_tree.specs.declared.kinds.Want.TheVariants.{Number};
-ghost use Rattle.basic_tree.specs.Trees.{Tree};
 ghost use Rattle.basic_tree.specs.TreeViews.{tree_of};
-ghost use Rattle.basic_tree.specs.StatementViews.{statement_of};
-ghost use Rattle.basic_tree.specs.MachineStack.{ExprOf, Form, Stated};
-ghost use Rattle.basic_tree.specs.MachineForms.{number_option, mode_form, cluster_form, options_form, channel_form, file_form};
+ghost use Rattle.basic_tree.specs.MachineForms.{number_option, cluster_form, options_form, channel_form, file_form};
 ghost use Rattle.basic_tree.specs.MachineSentences.{open_form, field_form};
-ghost use Rattle.basic_stmt.specs.Forms.{get_form, put_form, unlock_form, close_form, open_for_form};
-ghost use Rattle.basic_stmt.specs.Reading.{Behind, From, Gives, Halts, IsPlaced, Leads};
+ghost use Rattle.basic_stmt.specs.Forms.{close_form, get_form, open_for_form, put_form, recorded_form, unlock_form};
+ghost use Rattle.basic_stmt.specs.Reading.{Parts, PartsFrom, States};
 
 use crate::lists::elements;
+use crate::read::Read;
 use crate::reading::{expression, if_key, if_sign, take_key, take_sign};
 use basic_expr::{Failure, Words};
 use basic_tree::{CloseChannel, Expr, FieldPart, Keyword, OpenFor, Sign, Statement, Want};
@@ -26,19 +23,23 @@ fn option(
     from: usize,
     key: Keyword,
     levels: usize,
-) -> Result<(Option<Expr>, usize), Failure>
+) -> Result<Read<Option<Expr>>, Failure>
     requires { from ≤ length words.now }
-    ensures ends { IfOk result (λ x. From words.now from x.1) }
-    ensures found { IfOk result (λ x. (g : Option Tree → Form) → Leads levels levels words.now from x.1 (number_option key g) (g (option_map tree_of x.0))) }
-    ensures placed { IfErr result (λ e. IsPlaced words.now e) }
-    ensures refused { IfErr result (λ e. (g : Option Tree → Form) → Halts levels words.now from (number_option key g) e) }
+    ensures { PartsFrom levels words.now from (number_option key)
+        (λ x g. g (option_map tree_of x)) result }
 {
     if if_sign(words, from, Sign::Comma) {
         let at = take_key(words, from + 1, key)?;
-        let (number, end) = expression(alloc, words, at, Want::Number, levels)?;
-        return Ok((Some(number), end));
+        let Read { value: number, end } = expression(alloc, words, at, Want::Number, levels)?;
+        return Ok(Read {
+            value: Some(number),
+            end,
+        });
     }
-    Ok((None, from))
+    Ok(Read {
+        value: None,
+        end: from,
+    })
 }
 
 /// GET, a channel and perhaps a record.
@@ -48,18 +49,21 @@ pub(crate) fn get(
     words: &Words<'_>,
     from: usize,
     levels: usize,
-) -> Result<(Statement, usize), Failure>
+) -> Result<Read<Statement>, Failure>
     requires { from ≤ length words.now }
-    ensures ends { IfOk result (λ x. Behind words.now from x.1) }
-    ensures found { IfOk result (λ x. Gives levels words.now from x.1 get_form (Stated (statement_of x.0))) }
-    ensures placed { IfErr result (λ e. IsPlaced words.now e) }
-    ensures refused { IfErr result (λ e. Halts levels words.now from get_form e) }
+    ensures { States levels words.now from get_form result }
 {
     let at = take_key(words, from, Keyword::Get)?;
     let behind = take_sign(words, at, Sign::Hash)?;
-    let (channel, named) = expression(alloc, words, behind, Want::Number, levels)?;
-    let (record, end) = option(alloc, words, named, Keyword::Record, levels)?;
-    Ok((Statement::Get { channel, record }, end))
+    let Read {
+        value: channel,
+        end: named,
+    } = expression(alloc, words, behind, Want::Number, levels)?;
+    let Read { value: record, end } = option(alloc, words, named, Keyword::Record, levels)?;
+    Ok(Read {
+        value: Statement::Get { channel, record },
+        end,
+    })
 }
 
 /// PUT, a channel and perhaps a record.
@@ -69,18 +73,21 @@ pub(crate) fn put(
     words: &Words<'_>,
     from: usize,
     levels: usize,
-) -> Result<(Statement, usize), Failure>
+) -> Result<Read<Statement>, Failure>
     requires { from ≤ length words.now }
-    ensures ends { IfOk result (λ x. Behind words.now from x.1) }
-    ensures found { IfOk result (λ x. Gives levels words.now from x.1 put_form (Stated (statement_of x.0))) }
-    ensures placed { IfErr result (λ e. IsPlaced words.now e) }
-    ensures refused { IfErr result (λ e. Halts levels words.now from put_form e) }
+    ensures { States levels words.now from put_form result }
 {
     let at = take_key(words, from, Keyword::Put)?;
     let behind = take_sign(words, at, Sign::Hash)?;
-    let (channel, named) = expression(alloc, words, behind, Want::Number, levels)?;
-    let (record, end) = option(alloc, words, named, Keyword::Record, levels)?;
-    Ok((Statement::Put { channel, record }, end))
+    let Read {
+        value: channel,
+        end: named,
+    } = expression(alloc, words, behind, Want::Number, levels)?;
+    let Read { value: record, end } = option(alloc, words, named, Keyword::Record, levels)?;
+    Ok(Read {
+        value: Statement::Put { channel, record },
+        end,
+    })
 }
 
 /// UNLOCK and a channel.
@@ -90,17 +97,20 @@ pub(crate) fn unlock(
     words: &Words<'_>,
     from: usize,
     levels: usize,
-) -> Result<(Statement, usize), Failure>
+) -> Result<Read<Statement>, Failure>
     requires { from ≤ length words.now }
-    ensures ends { IfOk result (λ x. Behind words.now from x.1) }
-    ensures found { IfOk result (λ x. Gives levels words.now from x.1 unlock_form (Stated (statement_of x.0))) }
-    ensures placed { IfErr result (λ e. IsPlaced words.now e) }
-    ensures refused { IfErr result (λ e. Halts levels words.now from unlock_form e) }
+    ensures { States levels words.now from unlock_form result }
 {
     let at = take_key(words, from, Keyword::Unlock)?;
     let behind = take_sign(words, at, Sign::Hash)?;
-    let (channel, end) = expression(alloc, words, behind, Want::Number, levels)?;
-    Ok((Statement::Unlock(channel), end))
+    let Read {
+        value: channel,
+        end,
+    } = expression(alloc, words, behind, Want::Number, levels)?;
+    Ok(Read {
+        value: Statement::Unlock(channel),
+        end,
+    })
 }
 
 /// CLUSTERSIZE and MODE, as far as they stand there.
@@ -110,25 +120,35 @@ fn cluster_and_mode(
     words: &Words<'_>,
     from: usize,
     levels: usize,
-) -> Result<((Option<Expr>, Option<Expr>), usize), Failure>
+) -> Result<Read<(Option<Expr>, Option<Expr>)>, Failure>
     requires { from ≤ length words.now }
-    ensures ends { IfOk result (λ x. From words.now from x.1) }
-    ensures found { IfOk result (λ x. (g : Option Tree → Option Tree → Form) → Leads levels levels words.now from x.1 (cluster_form g) (g (option_map tree_of x.0.0) (option_map tree_of x.0.1))) }
-    ensures placed { IfErr result (λ e. IsPlaced words.now e) }
-    ensures refused { IfErr result (λ e. (g : Option Tree → Option Tree → Form) → Halts levels words.now from (cluster_form g) e) }
+    ensures { PartsFrom levels words.now from cluster_form
+        (λ x g. g (option_map tree_of x.0) (option_map tree_of x.1)) result }
 {
     if if_sign(words, from, Sign::Comma) {
         let at = from + 1;
         if if_key(words, at, Keyword::ClusterSize) {
-            let (size, sized) = expression(alloc, words, at + 1, Want::Number, levels)?;
-            let (mode, end) = option(alloc, words, sized, Keyword::Mode, levels)?;
-            return Ok(((Some(size), mode), end));
+            let Read {
+                value: size,
+                end: sized,
+            } = expression(alloc, words, at + 1, Want::Number, levels)?;
+            let Read { value: mode, end } = option(alloc, words, sized, Keyword::Mode, levels)?;
+            return Ok(Read {
+                value: (Some(size), mode),
+                end,
+            });
         }
         let behind = take_key(words, at, Keyword::Mode)?;
-        let (mode, end) = expression(alloc, words, behind, Want::Number, levels)?;
-        return Ok(((None, Some(mode)), end));
+        let Read { value: mode, end } = expression(alloc, words, behind, Want::Number, levels)?;
+        return Ok(Read {
+            value: (None, Some(mode)),
+            end,
+        });
     }
-    Ok(((None, None), from))
+    Ok(Read {
+        value: (None, None),
+        end: from,
+    })
 }
 
 /// The number of a RECORDSIZE, and what stands behind it of CLUSTERSIZE and MODE.
@@ -138,23 +158,28 @@ fn recorded(
     words: &Words<'_>,
     from: usize,
     levels: usize,
-) -> Result<(OpenOptions, usize), Failure>
+) -> Result<Read<OpenOptions>, Failure>
     requires { from ≤ length words.now }
-    ensures ends { IfOk result (λ x. Behind words.now from x.1) }
-    ensures found { IfOk result (λ x. (g : Option Tree → Option Tree → Option Tree → Form) → Leads levels levels words.now from x.1 (ExprOf Number (λ n. cluster_form (g (Some n)))) (g (option_map tree_of x.0.record_size) (option_map tree_of x.0.cluster_size) (option_map tree_of x.0.mode))) }
-    ensures placed { IfErr result (λ e. IsPlaced words.now e) }
-    ensures refused { IfErr result (λ e. (g : Option Tree → Option Tree → Option Tree → Form) → Halts levels words.now from (ExprOf Number (λ n. cluster_form (g (Some n)))) e) }
+    ensures { Parts levels words.now from recorded_form (λ x g. g
+        (option_map tree_of x.record_size) (option_map tree_of x.cluster_size)
+        (option_map tree_of x.mode)) result }
 {
-    let (size, sized) = expression(alloc, words, from, Want::Number, levels)?;
-    let ((cluster_size, mode), end) = cluster_and_mode(alloc, words, sized, levels)?;
-    Ok((
-        OpenOptions {
+    let Read {
+        value: size,
+        end: sized,
+    } = expression(alloc, words, from, Want::Number, levels)?;
+    let Read {
+        value: (cluster_size, mode),
+        end,
+    } = cluster_and_mode(alloc, words, sized, levels)?;
+    Ok(Read {
+        value: OpenOptions {
             record_size: Some(size),
             cluster_size,
             mode,
         },
         end,
-    ))
+    })
 }
 
 /// The options of OPEN.
@@ -172,12 +197,11 @@ fn options(
     words: &Words<'_>,
     from: usize,
     levels: usize,
-) -> Result<(OpenOptions, usize), Failure>
+) -> Result<Read<OpenOptions>, Failure>
     requires { from ≤ length words.now }
-    ensures ends { IfOk result (λ x. From words.now from x.1) }
-    ensures found { IfOk result (λ x. (g : Option Tree → Option Tree → Option Tree → Form) → Leads levels levels words.now from x.1 (options_form g) (g (option_map tree_of x.0.record_size) (option_map tree_of x.0.cluster_size) (option_map tree_of x.0.mode))) }
-    ensures placed { IfErr result (λ e. IsPlaced words.now e) }
-    ensures refused { IfErr result (λ e. (g : Option Tree → Option Tree → Option Tree → Form) → Halts levels words.now from (options_form g) e) }
+    ensures { PartsFrom levels words.now from options_form (λ x g. g
+        (option_map tree_of x.record_size) (option_map tree_of x.cluster_size)
+        (option_map tree_of x.mode)) result }
 {
     if if_sign(words, from, Sign::Comma) {
         let at = from + 1;
@@ -185,36 +209,39 @@ fn options(
             return recorded(alloc, words, at + 1, levels);
         }
         if if_key(words, at, Keyword::ClusterSize) {
-            let (size, sized) = expression(alloc, words, at + 1, Want::Number, levels)?;
-            let (mode, end) = option(alloc, words, sized, Keyword::Mode, levels)?;
-            return Ok((
-                OpenOptions {
+            let Read {
+                value: size,
+                end: sized,
+            } = expression(alloc, words, at + 1, Want::Number, levels)?;
+            let Read { value: mode, end } = option(alloc, words, sized, Keyword::Mode, levels)?;
+            return Ok(Read {
+                value: OpenOptions {
                     record_size: None,
                     cluster_size: Some(size),
                     mode,
                 },
                 end,
-            ));
+            });
         }
         let behind = take_key(words, at, Keyword::Mode)?;
-        let (mode, end) = expression(alloc, words, behind, Want::Number, levels)?;
-        return Ok((
-            OpenOptions {
+        let Read { value: mode, end } = expression(alloc, words, behind, Want::Number, levels)?;
+        return Ok(Read {
+            value: OpenOptions {
                 record_size: None,
                 cluster_size: None,
                 mode: Some(mode),
             },
             end,
-        ));
+        });
     }
-    Ok((
-        OpenOptions {
+    Ok(Read {
+        value: OpenOptions {
             record_size: None,
             cluster_size: None,
             mode: None,
         },
-        from,
-    ))
+        end: from,
+    })
 }
 
 /// The channel and the options of an OPEN of this file.
@@ -227,17 +254,20 @@ fn open_channel(
     purpose: OpenFor,
     hash: bool,
     levels: usize,
-) -> Result<(Statement, usize), Failure>
+) -> Result<Read<Statement>, Failure>
     requires { from ≤ length words.now }
-    ensures ends { IfOk result (λ x. Behind words.now from x.1) }
-    ensures found { IfOk result (λ x. Gives levels words.now from x.1 (channel_form (tree_of file) purpose hash) (Stated (statement_of x.0))) }
-    ensures placed { IfErr result (λ e. IsPlaced words.now e) }
-    ensures refused { IfErr result (λ e. Halts levels words.now from (channel_form (tree_of file) purpose hash) e) }
+    ensures { States levels words.now from (channel_form (tree_of file) purpose hash) result }
 {
-    let (channel, named) = expression(alloc, words, from, Want::Number, levels)?;
-    let (options, end) = options(alloc, words, named, levels)?;
-    Ok((
-        Statement::Open {
+    let Read {
+        value: channel,
+        end: named,
+    } = expression(alloc, words, from, Want::Number, levels)?;
+    let Read {
+        value: options,
+        end,
+    } = options(alloc, words, named, levels)?;
+    Ok(Read {
+        value: Statement::Open {
             file,
             purpose,
             hash,
@@ -247,7 +277,7 @@ fn open_channel(
             mode: options.mode,
         },
         end,
-    ))
+    })
 }
 
 /// AS FILE, the channel and the options of an OPEN of this file.
@@ -259,12 +289,9 @@ fn open_file(
     file: Expr,
     purpose: OpenFor,
     levels: usize,
-) -> Result<(Statement, usize), Failure>
+) -> Result<Read<Statement>, Failure>
     requires { from ≤ length words.now }
-    ensures ends { IfOk result (λ x. Behind words.now from x.1) }
-    ensures found { IfOk result (λ x. Gives levels words.now from x.1 (file_form (tree_of file) purpose) (Stated (statement_of x.0))) }
-    ensures placed { IfErr result (λ e. IsPlaced words.now e) }
-    ensures refused { IfErr result (λ e. Halts levels words.now from (file_form (tree_of file) purpose) e) }
+    ensures { States levels words.now from (file_form (tree_of file) purpose) result }
 {
     let at = take_key(words, from, Keyword::As)?;
     let behind = take_key(words, at, Keyword::File)?;
@@ -282,12 +309,9 @@ fn open_for(
     from: usize,
     file: Expr,
     levels: usize,
-) -> Result<(Statement, usize), Failure>
+) -> Result<Read<Statement>, Failure>
     requires { from ≤ length words.now }
-    ensures ends { IfOk result (λ x. Behind words.now from x.1) }
-    ensures found { IfOk result (λ x. Gives levels words.now from x.1 (open_for_form (tree_of file)) (Stated (statement_of x.0))) }
-    ensures placed { IfErr result (λ e. IsPlaced words.now e) }
-    ensures refused { IfErr result (λ e. Halts levels words.now from (open_for_form (tree_of file)) e) }
+    ensures { States levels words.now from (open_for_form (tree_of file)) result }
 {
     if if_key(words, from, Keyword::Input) {
         return open_file(alloc, words, from + 1, file, OpenFor::Input, levels);
@@ -303,15 +327,15 @@ pub(crate) fn open(
     words: &Words<'_>,
     from: usize,
     levels: usize,
-) -> Result<(Statement, usize), Failure>
+) -> Result<Read<Statement>, Failure>
     requires { from ≤ length words.now }
-    ensures ends { IfOk result (λ x. Behind words.now from x.1) }
-    ensures found { IfOk result (λ x. Gives levels words.now from x.1 open_form (Stated (statement_of x.0))) }
-    ensures placed { IfErr result (λ e. IsPlaced words.now e) }
-    ensures refused { IfErr result (λ e. Halts levels words.now from open_form e) }
+    ensures { States levels words.now from open_form result }
 {
     let at = take_key(words, from, Keyword::Open)?;
-    let (file, named) = expression(alloc, words, at, Want::Text, levels)?;
+    let Read {
+        value: file,
+        end: named,
+    } = expression(alloc, words, at, Want::Text, levels)?;
     if if_key(words, named, Keyword::For) {
         return open_for(alloc, words, named + 1, file, levels);
     }
@@ -325,16 +349,19 @@ pub(crate) fn close(
     words: &Words<'_>,
     from: usize,
     levels: usize,
-) -> Result<(Statement, usize), Failure>
+) -> Result<Read<Statement>, Failure>
     requires { from ≤ length words.now }
-    ensures ends { IfOk result (λ x. Behind words.now from x.1) }
-    ensures found { IfOk result (λ x. Gives levels words.now from x.1 close_form (Stated (statement_of x.0))) }
-    ensures placed { IfErr result (λ e. IsPlaced words.now e) }
-    ensures refused { IfErr result (λ e. Halts levels words.now from close_form e) }
+    ensures { States levels words.now from close_form result }
 {
     let at = take_key(words, from, Keyword::Close)?;
-    let (channels, end) = elements::<CloseChannel>(alloc, words, at, Want::Number, levels)?;
-    Ok((Statement::Close(channels), end))
+    let Read {
+        value: channels,
+        end,
+    } = elements::<CloseChannel>(alloc, words, at, Want::Number, levels)?;
+    Ok(Read {
+        value: Statement::Close(channels),
+        end,
+    })
 }
 
 /// FIELD, a channel and the parts of its record.
@@ -344,17 +371,26 @@ pub(crate) fn field(
     words: &Words<'_>,
     from: usize,
     levels: usize,
-) -> Result<(Statement, usize), Failure>
+) -> Result<Read<Statement>, Failure>
     requires { from ≤ length words.now }
-    ensures ends { IfOk result (λ x. Behind words.now from x.1) }
-    ensures found { IfOk result (λ x. Gives levels words.now from x.1 field_form (Stated (statement_of x.0))) }
-    ensures placed { IfErr result (λ e. IsPlaced words.now e) }
-    ensures refused { IfErr result (λ e. Halts levels words.now from field_form e) }
+    ensures { States levels words.now from field_form result }
 {
     let at = take_key(words, from, Keyword::Field)?;
     let behind = take_sign(words, at, Sign::Hash)?;
-    let (channel, named) = expression(alloc, words, behind, Want::Number, levels)?;
+    let Read {
+        value: channel,
+        end: named,
+    } = expression(alloc, words, behind, Want::Number, levels)?;
     let listed = take_sign(words, named, Sign::Comma)?;
-    let (parts, end) = elements::<FieldPart>(alloc, words, listed, Want::Number, levels)?;
-    Ok((Statement::Field { channel, parts }, end))
+    let Read { value: parts, end } = elements::<FieldPart>(
+        alloc,
+        words,
+        listed,
+        Want::Number,
+        levels,
+    )?;
+    Ok(Read {
+        value: Statement::Field { channel, parts },
+        end,
+    })
 }

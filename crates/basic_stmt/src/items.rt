@@ -1,13 +1,13 @@
 //! DATA and its items.
 
-ghost use Rattle.std.specs.Prelude.{◌≡◌, ℕ, true, false, ◌+◌, ◌<◌, ◌≤◌, List, [], ◌∷◌, length, IfOk, IfErr};
+ghost use Rattle.std.specs.Prelude.{◌≡◌, ℕ, ◌+◌, ◌<◌, ◌≤◌, [], ◌∷◌, length, IfOk};
 ghost use Rattle.basic_expr.specs.Views.{most_words};
-ghost use Rattle.basic_tree.specs.StatementViews.{statement_of};
-ghost use Rattle.basic_tree.specs.MachineStack.{Form, ItemIn, MoreItems, Stated};
 ghost use Rattle.basic_tree.specs.MachineSentences.{data_form};
-ghost use Rattle.basic_stmt.specs.Reading.{Behind, Gives, Halts, IsPlaced, ItemAt, Leads};
+ghost use Rattle.basic_stmt.specs.Reading.{ItemAt, FlatParts, States};
+ghost use Rattle.basic_stmt.specs.Forms.{items_form};
 
 use crate::names::text_of;
+use crate::read::Read;
 use crate::reading::take_key;
 use basic_expr::{Failure, Word, Words};
 use basic_tree::{Keyword, Series, Statement};
@@ -35,16 +35,9 @@ fn next_item(alloc: Global, words: &Words<'_>, from: usize) -> Result<Option<Tex
 
 /// One or more items, and the place behind them.
 #[tactic(auto, using(crate::proofs::ListSteps::itemizing))]
-fn all_items(
-    alloc: Global,
-    words: &Words<'_>,
-    from: usize,
-) -> Result<(Series<Text>, usize), Failure>
+fn all_items(alloc: Global, words: &Words<'_>, from: usize) -> Result<Read<Series<Text>>, Failure>
     requires { from ≤ length words.now }
-    ensures ends { IfOk result (λ x. Behind words.now from x.1) }
-    ensures found { IfOk result (λ x. (n : ℕ) (g : List (List ℕ) → Form) → Leads n n words.now from x.1 (ItemIn (λ item. MoreItems (item ∷ []) g)) (g x.0)) }
-    ensures placed { IfErr result (λ e. IsPlaced words.now e) }
-    ensures refused { IfErr result (λ e. (n : ℕ) (g : List (List ℕ) → Form) → Halts n words.now from (ItemIn (λ item. MoreItems (item ∷ []) g)) e) }
+    ensures { FlatParts words.now from items_form (λ x g. g x) result }
 {
     let first = match next_item(alloc, words, from)? {
         None => return Err(Failure::Wrong { place: from }),
@@ -57,7 +50,10 @@ fn all_items(
         items.push(item)?;
         end += 1;
     }
-    Ok((Series::from_vec(items), end))
+    Ok(Read {
+        value: Series::from_vec(items),
+        end,
+    })
 }
 
 /// DATA and its items.
@@ -67,14 +63,14 @@ pub(crate) fn data(
     words: &Words<'_>,
     from: usize,
     levels: usize,
-) -> Result<(Statement, usize), Failure>
+) -> Result<Read<Statement>, Failure>
     requires { from ≤ length words.now }
-    ensures ends { IfOk result (λ x. Behind words.now from x.1) }
-    ensures found { IfOk result (λ x. Gives levels words.now from x.1 data_form (Stated (statement_of x.0))) }
-    ensures placed { IfErr result (λ e. IsPlaced words.now e) }
-    ensures refused { IfErr result (λ e. Halts levels words.now from data_form e) }
+    ensures { States levels words.now from data_form result }
 {
     let at = take_key(words, from, Keyword::Data)?;
-    let (items, end) = all_items(alloc, words, at)?;
-    Ok((Statement::Data(items), end))
+    let Read { value: items, end } = all_items(alloc, words, at)?;
+    Ok(Read {
+        value: Statement::Data(items),
+        end,
+    })
 }

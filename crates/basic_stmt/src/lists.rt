@@ -1,12 +1,13 @@
 //! Lists with commas: one function for all kinds of elements.
 
-ghost use Rattle.std.specs.Prelude.{◌≡◌, ℕ, ◌+◌, ◌<◌, ◌≤◌, List, [], ◌∷◌, length, map, IfOk, IfErr, MatchBool};
+ghost use Rattle.std.specs.Prelude.{◌≡◌, ℕ, ◌+◌, ◌<◌, ◌≤◌, List, [], ◌∷◌, length, map, MatchBool};
 ghost use Rattle.basic_expr.specs.Views.{most_words};
 ghost use Rattle.basic_tree.specs.declared.kinds.Want.{Want};
-ghost use Rattle.basic_tree.specs.MachineStack.{Form, Item, MoreOf, Sequence};
+ghost use Rattle.basic_tree.specs.MachineStack.{Item, MoreOf, Sequence};
 ghost use Rattle.basic_tree.specs.MachineForms.{has_room, item_form, list_form};
-ghost use Rattle.basic_stmt.specs.Reading.{AddsNone, AddsOne, Behind, From, Halts, IsPlaced, Leads};
+ghost use Rattle.basic_stmt.specs.Reading.{AddsNone, AddsOne, Parts, PartsFrom};
 
+use crate::read::Read;
 use basic_expr::{Failure, Words, next_is_sign};
 use basic_tree::{Series, Sign, Want};
 use std::alloc::Global;
@@ -19,7 +20,8 @@ pub(crate) trait Element: Sized + Drop {
 
     /// Whether one more may follow so many.
     fn has_room(count: usize) -> bool
-        ensures { (w : Want) (items : List Item) → length items ≡ count → has_room (sequence w) items ≡ result };
+        ensures { (w : Want) (items : List Item) → length items ≡ count → has_room (sequence w)
+            items ≡ result };
 
     /// An element, and the place behind it.
     fn parse(
@@ -28,12 +30,10 @@ pub(crate) trait Element: Sized + Drop {
         from: usize,
         want: Want,
         levels: usize,
-    ) -> Result<(Self, usize), Failure>
+    ) -> Result<Read<Self>, Failure>
         requires { from ≤ length words.now }
-        ensures ends { IfOk result (λ x. Behind words.now from x.1) }
-        ensures found { IfOk result (λ x. (g : Item → Form) → Leads levels levels words.now from x.1 (item_form (sequence want) g) (g (item x.0))) }
-        ensures placed { IfErr result (λ e. IsPlaced words.now e) }
-        ensures refused { IfErr result (λ e. (g : Item → Form) → Halts levels words.now from (item_form (sequence want) g) e) };
+        ensures { Parts levels words.now from (item_form (sequence want)) (λ x g. g (item x))
+            result };
 }
 
 /// Whether a comma and one more element stand at a place, where there is room for one.
@@ -56,22 +56,26 @@ pub(crate) fn more_elements<T: Element>(
     first: T,
     want: Want,
     levels: usize,
-) -> Result<(Series<T>, usize), Failure>
+) -> Result<Read<Series<T>>, Failure>
     requires { from ≤ length words.now }
-    ensures ends { IfOk result (λ x. From words.now from x.1) }
-    ensures found { IfOk result (λ x. (g : List Item → Form) → Leads levels levels words.now from x.1 (MoreOf (T.sequence want) (T.item first ∷ []) g) (g (map T.item x.0))) }
-    ensures placed { IfErr result (λ e. IsPlaced words.now e) }
-    ensures refused { IfErr result (λ e. (g : List Item → Form) → Halts levels words.now from (MoreOf (T.sequence want) (T.item first ∷ []) g) e) }
+    ensures { PartsFrom levels words.now from (MoreOf (T.sequence want) (T.item first ∷ []))
+        (λ x g. g (map T.item x)) result }
 {
     let mut end = from;
     let mut items = Vec::new(alloc);
     items.push(first)?;
     'more: while adds_one(words, end, T::has_room(items.len())) {
-        let (item, next) = T::parse(alloc, words, end + 1, want, levels)?;
+        let Read {
+            value: item,
+            end: next,
+        } = T::parse(alloc, words, end + 1, want, levels)?;
         items.push(item)?;
         end = next;
     }
-    Ok((Series::from_vec(items), end))
+    Ok(Read {
+        value: Series::from_vec(items),
+        end,
+    })
 }
 
 /// One or more elements with commas between, and the place behind them.
@@ -82,14 +86,15 @@ pub(crate) fn elements<T: Element>(
     from: usize,
     want: Want,
     levels: usize,
-) -> Result<(Series<T>, usize), Failure>
+) -> Result<Read<Series<T>>, Failure>
     requires { from ≤ length words.now }
-    ensures ends { IfOk result (λ x. Behind words.now from x.1) }
-    ensures found { IfOk result (λ x. (g : List Item → Form) → Leads levels levels words.now from x.1 (list_form (T.sequence want) g) (g (map T.item x.0))) }
-    ensures placed { IfErr result (λ e. IsPlaced words.now e) }
-    ensures refused { IfErr result (λ e. (g : List Item → Form) → Halts levels words.now from (list_form (T.sequence want) g) e) }
+    ensures { Parts levels words.now from (list_form (T.sequence want)) (λ x g. g (map T.item x))
+        result }
 {
-    let (first, begun) = T::parse(alloc, words, from, want, levels)?;
-    let (items, end) = more_elements::<T>(alloc, words, begun, first, want, levels)?;
-    Ok((items, end))
+    let Read {
+        value: first,
+        end: begun,
+    } = T::parse(alloc, words, from, want, levels)?;
+    let Read { value: items, end } = more_elements::<T>(alloc, words, begun, first, want, levels)?;
+    Ok(Read { value: items, end })
 }

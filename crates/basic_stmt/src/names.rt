@@ -1,12 +1,12 @@
 //! Names, literals and texts that a statement expects.
 
-ghost use Rattle.std.specs.Prelude.{◌≡◌, ℕ, ◌+◌, ◌<◌, ◌≤◌, length, IfOk, IfErr};
+ghost use Rattle.std.specs.Prelude.{◌≡◌, ℕ, ◌+◌, ◌<◌, ◌≤◌, length, IfOk};
 ghost use Rattle.basic_expr.specs.Views.{as_word, most_words};
-ghost use Rattle.basic_tree.specs.MachineStack.{Form, NameIn, FnNameIn, LiteralIn, within};
-ghost use Rattle.basic_tree.specs.declared.names.Name.{Name};
-ghost use Rattle.basic_stmt.specs.Reading.{Behind, FnNameAt, Halts, IfLiteral, IfQuoted, IsPlaced, Leads, NameAt, NumberAt, fn_named, limit_of, named, number};
+ghost use Rattle.basic_tree.specs.MachineStack.{NameIn, FnNameIn, LiteralIn, within};
+ghost use Rattle.basic_stmt.specs.Reading.{FnNameAt, IfLiteral, IfQuoted, NameAt, NumberAt, FlatParts, fn_named, limit_of, named, number};
 
 use crate::literals::Literal;
+use crate::read::Read;
 use basic_expr::{Failure, Word, Words, takes};
 use basic_tree::{Name, Want};
 use basic_values::{NoMemory, Text, Trouble};
@@ -89,17 +89,17 @@ fn within(limit: Literal, value: u16) -> bool
 
 /// The name of a variable or an array of the wanted kind, and the place behind it.
 #[tactic(auto, using(crate::proofs::Parts::names))]
-pub(crate) fn name(words: &Words<'_>, from: usize, want: Want) -> Result<(Name, usize), Failure>
+pub(crate) fn name(words: &Words<'_>, from: usize, want: Want) -> Result<Read<Name>, Failure>
     requires { from ≤ length words.now }
-    ensures ends { IfOk result (λ x. Behind words.now from x.1) }
-    ensures found { IfOk result (λ x. (n : ℕ) (g : Name → Form) → Leads n n words.now from x.1 (NameIn want g) (g x.0)) }
-    ensures placed { IfErr result (λ e. IsPlaced words.now e) }
-    ensures refused { IfErr result (λ e. (n : ℕ) (g : Name → Form) → Halts n words.now from (NameIn want g) e) }
+    ensures { FlatParts words.now from (NameIn want) (λ x g. g x) result }
 {
     match next_name(words, from) {
         None => Err(Failure::Wrong { place: from }),
         Some(name) => if takes(want, name.text) {
-            Ok((name, from + 1))
+            Ok(Read {
+                value: name,
+                end: from + 1,
+            })
         } else {
             Err(Failure::Wrong { place: from })
         },
@@ -108,36 +108,32 @@ pub(crate) fn name(words: &Words<'_>, from: usize, want: Want) -> Result<(Name, 
 
 /// The name of a function of the program, and the place behind it.
 #[tactic(auto, using(crate::proofs::Parts::names))]
-pub(crate) fn fn_name(words: &Words<'_>, from: usize) -> Result<(Name, usize), Failure>
+pub(crate) fn fn_name(words: &Words<'_>, from: usize) -> Result<Read<Name>, Failure>
     requires { from ≤ length words.now }
-    ensures ends { IfOk result (λ x. Behind words.now from x.1) }
-    ensures found { IfOk result (λ x. (n : ℕ) (g : Name → Form) → Leads n n words.now from x.1 (FnNameIn g) (g x.0)) }
-    ensures placed { IfErr result (λ e. IsPlaced words.now e) }
-    ensures refused { IfErr result (λ e. (n : ℕ) (g : Name → Form) → Halts n words.now from (FnNameIn g) e) }
+    ensures { FlatParts words.now from FnNameIn (λ x g. g x) result }
 {
     match next_fn_name(words, from) {
         None => Err(Failure::Wrong { place: from }),
-        Some(name) => Ok((name, from + 1)),
+        Some(name) => Ok(Read {
+            value: name,
+            end: from + 1,
+        }),
     }
 }
 
 /// A literal, and the place behind it.
 #[tactic(auto, using(crate::proofs::Parts::literals))]
-pub(crate) fn literal(
-    words: &Words<'_>,
-    from: usize,
-    limit: Literal,
-) -> Result<(u16, usize), Failure>
+pub(crate) fn literal(words: &Words<'_>, from: usize, limit: Literal) -> Result<Read<u16>, Failure>
     requires { from ≤ length words.now }
-    ensures ends { IfOk result (λ x. Behind words.now from x.1) }
-    ensures found { IfOk result (λ x. (n : ℕ) (g : ℕ → Form) → Leads n n words.now from x.1 (LiteralIn (limit_of limit) g) (g x.0)) }
-    ensures placed { IfErr result (λ e. IsPlaced words.now e) }
-    ensures refused { IfErr result (λ e. (n : ℕ) (g : ℕ → Form) → Halts n words.now from (LiteralIn (limit_of limit) g) e) }
+    ensures { FlatParts words.now from (LiteralIn (limit_of limit)) (λ x g. g x) result }
 {
     match next_number(words, from) {
         None => Err(Failure::Wrong { place: from }),
         Some(value) => if within(limit, value) {
-            Ok((value, from + 1))
+            Ok(Read {
+                value,
+                end: from + 1,
+            })
         } else {
             Err(Failure::Wrong { place: from })
         },

@@ -1,13 +1,12 @@
 //! The parts of statements: one function for each part that a form expects.
 
-ghost use Rattle.std.specs.Prelude.{◌≡◌, ℕ, true, false, ◌+◌, ◌-◌, ◌<◌, ◌≤◌, length, IfOk, IfErr, MatchBool};
+ghost use Rattle.std.specs.Prelude.{◌≡◌, ℕ, false, ◌+◌, ◌-◌, ◌<◌, ◌≤◌, length, MatchBool};
 ghost use Rattle.basic_expr.specs.Views.{most_words};
-ghost use Rattle.basic_tree.specs.Trees.{Tree};
 ghost use Rattle.basic_tree.specs.TreeViews.{tree_of};
-ghost use Rattle.basic_tree.specs.MachineStack.{Form, ExprOf, TakeKey, TakeSign, TakeClosing, IfSign};
-ghost use Rattle.basic_tree.specs.declared.tokens.Sign.TheVariants.{Opening};
-ghost use Rattle.basic_stmt.specs.Reading.{Behind, Halts, IfOpens, IsPlaced, Leads, SkipsKey, SkipsSign, TakesKey, TakesSign};
+ghost use Rattle.basic_tree.specs.MachineStack.{ExprOf, TakeKey, TakeSign};
+ghost use Rattle.basic_stmt.specs.Reading.{MayOpen, Parts, SkipsKey, SkipsSign, TakesWord, TakesClosing, TakesKey, TakesOpening, TakesSign};
 
+use crate::read::Read;
 use basic_expr::{Failure, Words, expression_at, next_is_key, next_is_sign};
 use basic_tree::{Expr, Keyword, Sign, Want};
 use std::alloc::Global;
@@ -26,7 +25,8 @@ pub(crate) fn if_key(words: &Words<'_>, from: usize, key: Keyword) -> bool
 #[tactic(auto, using(crate::proofs::Steps::words_at))]
 pub(crate) fn if_sign(words: &Words<'_>, from: usize, sign: Sign) -> bool
     requires { from ≤ length words.now }
-    ensures stands { MatchBool result (TakesSign words.now from sign) (SkipsSign words.now from sign) }
+    ensures stands { MatchBool result (TakesSign words.now from sign)
+        (SkipsSign words.now from sign) }
     ensures few { length words.now ≤ most_words }
 {
     next_is_sign(words, from, sign)
@@ -34,12 +34,9 @@ pub(crate) fn if_sign(words: &Words<'_>, from: usize, sign: Sign) -> bool
 
 /// The place behind a word.
 #[tactic(auto, using(crate::proofs::Steps::words_at))]
-pub(crate) fn take_key(words: &Words<'_>, from: usize, key: Keyword) -> Result<usize, Failure>
+pub fn take_key(words: &Words<'_>, from: usize, key: Keyword) -> Result<usize, Failure>
     requires { from ≤ length words.now }
-    ensures ends { IfOk result (λ end. Behind words.now from end) }
-    ensures found { IfOk result (λ end. (n : ℕ) (f : Form) → Leads n n words.now from end (TakeKey false key f) f) }
-    ensures placed { IfErr result (λ e. IsPlaced words.now e) }
-    ensures refused { IfErr result (λ e. (n : ℕ) (f : Form) → Halts n words.now from (TakeKey false key f) e) }
+    ensures { TakesWord words.now from (TakeKey false key) result }
 {
     if next_is_key(words, from, key) {
         return Ok(from + 1);
@@ -51,10 +48,7 @@ pub(crate) fn take_key(words: &Words<'_>, from: usize, key: Keyword) -> Result<u
 #[tactic(auto, using(crate::proofs::Steps::words_at))]
 pub(crate) fn take_sign(words: &Words<'_>, from: usize, sign: Sign) -> Result<usize, Failure>
     requires { from ≤ length words.now }
-    ensures ends { IfOk result (λ end. Behind words.now from end) }
-    ensures found { IfOk result (λ end. (n : ℕ) (f : Form) → Leads n n words.now from end (TakeSign false sign f) f) }
-    ensures placed { IfErr result (λ e. IsPlaced words.now e) }
-    ensures refused { IfErr result (λ e. (n : ℕ) (f : Form) → Halts n words.now from (TakeSign false sign f) e) }
+    ensures { TakesWord words.now from (TakeSign false sign) result }
 {
     if next_is_sign(words, from, sign) {
         return Ok(from + 1);
@@ -64,32 +58,28 @@ pub(crate) fn take_sign(words: &Words<'_>, from: usize, sign: Sign) -> Result<us
 
 /// An expression of the wanted kind, and the place behind it.
 #[tactic(auto, using(crate::proofs::Steps::expressions))]
-pub(crate) fn expression(
+pub fn expression(
     alloc: Global,
     words: &Words<'_>,
     from: usize,
     want: Want,
     levels: usize,
-) -> Result<(Expr, usize), Failure>
+) -> Result<Read<Expr>, Failure>
     requires { from ≤ length words.now }
-    ensures ends { IfOk result (λ x. Behind words.now from x.1) }
-    ensures found { IfOk result (λ x. (g : Tree → Form) → Leads levels levels words.now from x.1 (ExprOf want g) (g (tree_of x.0))) }
-    ensures placed { IfErr result (λ e. IsPlaced words.now e) }
-    ensures refused { IfErr result (λ e. (g : Tree → Form) → Halts levels words.now from (ExprOf want g) e) }
+    ensures { Parts levels words.now from (ExprOf want) (λ x g. g (tree_of x)) result }
 {
     let found = expression_at(alloc, words, from, want, levels)?;
-    Ok((found.tree, found.end))
+    Ok(Read {
+        value: found.tree,
+        end: found.end,
+    })
 }
 
 /// The place behind an opening parenthesis, which opens a level of nesting.
 #[tactic(auto, using(crate::proofs::Parts::openings))]
 pub(crate) fn opening(words: &Words<'_>, from: usize, levels: usize) -> Result<usize, Failure>
     requires { from ≤ length words.now }
-    ensures ends { IfOk result (λ end. Behind words.now from end) }
-    ensures nested { IfOk result (λ end. 0 < levels) }
-    ensures found { IfOk result (λ end. (f : Form) → Leads levels (levels - 1) words.now from end (TakeSign true Opening f) f) }
-    ensures placed { IfErr result (λ e. IsPlaced words.now e) }
-    ensures refused { IfErr result (λ e. (f : Form) → Halts levels words.now from (TakeSign true Opening f) e) }
+    ensures { TakesOpening levels words.now from result }
 {
     if next_is_sign(words, from, Sign::Opening) {
         if 0 < levels {
@@ -105,9 +95,7 @@ pub(crate) fn opening(words: &Words<'_>, from: usize, levels: usize) -> Result<u
 pub(crate) fn if_opening(words: &Words<'_>, from: usize, levels: usize) -> Result<bool, Failure>
     requires { from ≤ length words.now }
     ensures few { length words.now ≤ most_words }
-    ensures found { IfOk result (λ stands. IfOpens levels words.now from stands) }
-    ensures placed { IfErr result (λ e. IsPlaced words.now e) }
-    ensures refused { IfErr result (λ e. (f h : Form) → Halts levels words.now from (IfSign true Opening f h) e) }
+    ensures stands { MayOpen levels words.now from result }
 {
     if next_is_sign(words, from, Sign::Opening) {
         if 0 < levels {
@@ -123,10 +111,7 @@ pub(crate) fn if_opening(words: &Words<'_>, from: usize, levels: usize) -> Resul
 pub(crate) fn closing(words: &Words<'_>, from: usize, levels: usize) -> Result<usize, Failure>
     requires within { from ≤ length words.now }
     requires nested { 0 < levels }
-    ensures ends { IfOk result (λ end. Behind words.now from end) }
-    ensures found { IfOk result (λ end. (f : Form) → Leads (levels - 1) levels words.now from end (TakeClosing f) f) }
-    ensures placed { IfErr result (λ e. IsPlaced words.now e) }
-    ensures refused { IfErr result (λ e. (n : ℕ) (f : Form) → Halts n words.now from (TakeClosing f) e) }
+    ensures { TakesClosing levels words.now from result }
 {
     if next_is_sign(words, from, Sign::Closing) {
         return Ok(from + 1);

@@ -1,16 +1,13 @@
-use Rattle.std.proofs.Common.{rules, ◌∙◌, Some}
+use Rattle.std.proofs.Common.{rules, option_map}
 use Rattle.basic_tree.specs.TreeViews.{tree_of}
-use Rattle.basic_stmt.proofs.Steps.{if_err}
+use Rattle.basic_tree.specs.MachineForms.{range_form}
+use Rattle.basic_stmt.specs.Reading.{Parts}
+use Rattle.basic_stmt.proofs.Steps.{on_err}
+use Rattle.basic_stmt.proofs.RangeSteps.{step_halts}
 use Rattle.basic_stmt.proofs.jumps.range.Goals as goal
 
-pub returns-in_err-step-clause-refused : goal.returns-in_err-step-clause-refused
-returns-in_err-step-clause-refused c =
-    if_err _ c.from_residual-in_err-step.result c.in_err-step.field-0.0 (search rules)
-    (λ g halt is k vs.
-    c.in_ok-variable.ensures.found c.args.levels _ k vs
-    ∙ c.in_ok-at.ensures.found c.args.levels _ k vs
-    ∙ c.in_ok-start.ensures.found _ k vs
-    ∙ c.in_ok-behind.ensures.found c.args.levels _ k vs
-    ∙ c.in_ok-limit.ensures.found _ k vs
-    ∙ c.if-if_key.ensures.stands.1 c.args.levels _ _ k vs
-    ∙ c.in_err-step.ensures.refused (λ step. g c.in_ok-variable.variable (tree_of c.in_ok-start.start) (tree_of c.in_ok-limit.limit) (Some step)) halt is k vs)
+pub returns-in_err-step : goal.returns-in_err-step
+returns-in_err-step c =
+    let e = c.in_err-step in
+    on_err (Parts c.args.levels c.args.words.now c.args.from range_form (λ x g. g x.variable (tree_of x.start) (tree_of x.limit) (option_map tree_of x.step))) _ e.field-0.0 (search rules)
+    (e.ensures.0, step_halts c.args.levels c.args.words.now c.args.from _ _ _ _ _ _ _ _ e.field-0.0 c.in_ok-variable.ensures.1 c.in_ok-at.ensures.1 c.in_ok-start.ensures.1 c.in_ok-behind.ensures.1 c.in_ok-limit.ensures.1 c.if-if_key.ensures.stands e.ensures.1)

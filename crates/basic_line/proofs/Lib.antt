@@ -1,0 +1,5 @@
+pub mod ClauseSteps
+pub mod ModifierSteps
+pub mod ParsedLines
+pub mod ReadLines
+pub mod SentencePlaces

@@ -1,0 +1,11 @@
+use Rattle.std.proofs.Common.{rules}
+use Rattle.basic_stmt.proofs.Steps.{on_err}
+use Rattle.basic_line.specs.Structure.{StatesAll}
+use Rattle.basic_line.proofs.ParsedLines.{line_stops_later}
+use Rattle.basic_line.proofs.lines.all_statements.Goals as goal
+
+pub returns-in_err-next : goal.returns-in_err-next
+returns-in_err-next c =
+    let e = c.in_err-next in
+    on_err (StatesAll c.args.words.now) _ e.field-0.0 (search rules)
+    (e.ensures.0, line_stops_later c.args.words.now c.others.place c.others.statements.items e.field-0.0 c.others.invariant c.others-test.ensures.stands e.ensures.1)

@@ -1,0 +1,160 @@
+//! Lines: their statements, one behind another.
+
+ghost use Rattle.std.specs.Prelude.{◌≡◌, ◌≤◌, ◌++◌, length, IfErr, OnOk};
+ghost use Rattle.basic_expr.specs.declared.failures.Failure.TheVariants.{NoMemory};
+ghost use Rattle.basic_line.specs.Parsing.{MustRead, MustRefuse, Parses, Reads};
+ghost use Rattle.basic_line.specs.Structure.{SentenceAt, StatesAll, StatesOne, StatesPlace, in_list};
+
+use crate::choices::{if_at, simple_at};
+use crate::sentences::{Class, class_at};
+use basic_expr::{Failure, MOST_LEVELS, Words, next_is_sign};
+use basic_scanner::{Tokens, scan};
+use basic_stmt::{Read, plain_at};
+use basic_tree::{Line, Refusal, Sign, Statement};
+use basic_values::Trouble;
+use std::alloc::Global;
+
+/// The statement of a class that begins at a place of the line, and the place behind it.
+#[tactic(auto, using(crate::proofs::ParsedLines::statements))]
+fn statement_at(
+    alloc: Global,
+    words: &Words<'_>,
+    from: usize,
+    class: Class,
+) -> Result<Read<Statement>, Failure>
+    requires within { from ≤ length words.now }
+    requires sentence { SentenceAt words.now from class }
+    ensures { StatesOne words.now from result }
+{
+    match class {
+        Class::Choice => {
+            let found = if_at(alloc, words, from, MOST_LEVELS)?;
+            Ok(Read {
+                value: found.statement,
+                end: found.end,
+            })
+        }
+        Class::Head => {
+            let Read {
+                value: statement,
+                end,
+            } = plain_at(alloc, words, from, MOST_LEVELS)?;
+            Ok(Read {
+                value: statement,
+                end,
+            })
+        }
+        Class::Simple => {
+            let Read {
+                value: statement,
+                end,
+            } = simple_at(alloc, words, from, MOST_LEVELS)?;
+            Ok(Read {
+                value: statement,
+                end,
+            })
+        }
+    }
+}
+
+/// What stands at a place of the line between separators, a statement or nothing, and the place
+/// behind it.
+#[tactic(auto, using(crate::proofs::ParsedLines::places))]
+fn one_statement(
+    alloc: Global,
+    words: &Words<'_>,
+    from: usize,
+) -> Result<Read<Option<Statement>>, Failure>
+    requires { from ≤ length words.now }
+    ensures { StatesPlace words.now from result }
+{
+    match class_at(words, from) {
+        None => Ok(Read {
+            value: None,
+            end: from,
+        }),
+        Some(class) => {
+            let Read {
+                value: statement,
+                end,
+            } = statement_at(alloc, words, from, class)?;
+            Ok(Read {
+                value: Some(statement),
+                end,
+            })
+        }
+    }
+}
+
+/// Adds a statement, where there is one.
+fn add(statements: &mut Vec<Statement>, statement: Option<Statement>) -> Result<(), Failure>
+    ensures added { OnOk result (statements.new.items ≡ statements.old.items ++ in_list statement) }
+    ensures lost { IfErr result (λ e. e ≡ NoMemory) }
+{
+    if let Some(statement) = statement {
+        statements.push(statement)?;
+    }
+    Ok(())
+}
+
+/// The statements between the separators, and the place behind them.
+#[tactic(auto, using(crate::proofs::ParsedLines::so_far))]
+fn all_statements(alloc: Global, words: &Words<'_>) -> Result<Read<Vec<Statement>>, Failure>
+    ensures { StatesAll words.now result }
+{
+    let mut statements = Vec::new(alloc);
+    let Read {
+        value: first,
+        end: mut place,
+    } = one_statement(alloc, words, 0)?;
+    add(&mut statements, first)?;
+    'others: while next_is_sign(words, place, Sign::Colon) {
+        let Read { value: next, end } = one_statement(alloc, words, place + 1)?;
+        add(&mut statements, next)?;
+        place = end;
+    }
+    Ok(Read {
+        value: statements,
+        end: place,
+    })
+}
+
+/// The statements of the line that the tokens are: those between `:` or `\`, of which each place
+/// may be empty. Else the first token that no line has there, or the one that opens level 65 of
+/// nesting, whichever is leftmost.
+#[tactic(auto, using(crate::proofs::ParsedLines::lines))]
+pub fn parse_line(alloc: Global, tokens: &Tokens<'_>) -> Result<Line, Trouble<Refusal>>
+    ensures exact { Parses tokens.now result }
+{
+    let words = Words::of(alloc, tokens)?;
+    let count = words.len();
+    match all_statements(alloc, &words) {
+        Ok(
+            Read {
+                value: statements,
+                end: place,
+            },
+        ) => if place == count {
+            Ok(Line { statements })
+        } else {
+            Err(Failure::Wrong { place }.trouble())
+        },
+        Err(failure) => Err(failure.trouble()),
+    }
+}
+
+/// The statements of the line that the bytes spell, at most 255: `scan`, and `parse_line` over its
+/// tokens. Else the first byte that begins no token; where there are tokens, the first of them
+/// that is refused.
+#[tactic(auto, using(crate::proofs::ReadLines::reads))]
+pub fn read_line(alloc: Global, line: &[u8]) -> Result<Line, Trouble<Refusal>>
+    requires { length line.now ≤ 255 }
+    ensures exact { Reads line.now result }
+    // Bytes that spell a line are read, and those that are refused are refused so, where memory
+    // lasts.
+    ensures must_read { MustRead line.now result }
+    ensures must_refuse { MustRefuse line.now result }
+{
+    let tokens = scan(alloc, line)?;
+    parse_line(alloc, &tokens)
+}

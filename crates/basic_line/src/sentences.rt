@@ -1,0 +1,84 @@
+//! Which statement begins with a word.
+
+ghost use Rattle.std.specs.Prelude.{◌≡◌, ◌≤◌, length, MatchOption};
+ghost use Rattle.basic_expr.specs.Views.{as_word};
+ghost use Rattle.basic_tree.specs.MachineSentences.{key_sentence, sentence_of};
+ghost use Rattle.basic_line.specs.Structure.{Nothing, SentenceAt, class_in, classes};
+
+use basic_expr::{Word, Words};
+use basic_tree::Keyword;
+
+/// Where a statement may stand.
+#[derive(Clone, Copy, Debug, PartialEq, Eq)]
+pub enum Class {
+    /// An IF: in clauses too, and without modifiers.
+    Choice,
+    /// What stands in no clause, and without modifiers.
+    Head,
+    /// Any other.
+    Simple,
+}
+
+/// The class of the statement that a keyword begins.
+fn key_class(key: Keyword) -> Option<Class>
+    ensures { classes result ≡ class_in (key_sentence key) }
+{
+    match key {
+        Keyword::If => Some(Class::Choice),
+        Keyword::For
+        | Keyword::Next
+        | Keyword::FnEnd
+        | Keyword::Data
+        | Keyword::Dim
+        | Keyword::Def => Some(Class::Head),
+        Keyword::Let
+        | Keyword::Print
+        | Keyword::Input
+        | Keyword::Read
+        | Keyword::Restore
+        | Keyword::Goto
+        | Keyword::Gosub
+        | Keyword::Go
+        | Keyword::Return
+        | Keyword::On
+        | Keyword::Resume
+        | Keyword::Stop
+        | Keyword::End
+        | Keyword::Chain
+        | Keyword::Sleep
+        | Keyword::Open
+        | Keyword::Close
+        | Keyword::Get
+        | Keyword::Put
+        | Keyword::Unlock
+        | Keyword::Field
+        | Keyword::Lset
+        | Keyword::Rset
+        | Keyword::Kill
+        | Keyword::Name => Some(Class::Simple),
+        _ => None,
+    }
+}
+
+/// The class of the statement that a word begins.
+fn class_of(word: Word<'_>) -> Option<Class>
+    ensures { classes result ≡ class_in (sentence_of (as_word word.entry)) }
+{
+    match word {
+        Word::Key(key) => key_class(key),
+        Word::Named(_) | Word::FnNamed(_) => Some(Class::Simple),
+        Word::Punctuation(_) | Word::Number(_) | Word::Quotation(_) | Word::Item(_) => None,
+    }
+}
+
+/// The class of the statement that begins at a place, if one does.
+#[tactic(auto, using(crate::proofs::SentencePlaces::sentences_at))]
+pub(crate) fn class_at(words: &Words<'_>, from: usize) -> Option<Class>
+    requires { from ≤ length words.now }
+    ensures { MatchOption result (Nothing words.now from) (λ c. SentenceAt words.now from c) }
+{
+    match words.peek(from) {
+        None => None,
+        Some(word) => class_of(word),
+    }
+}

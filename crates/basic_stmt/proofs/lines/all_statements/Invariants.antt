@@ -1,9 +1,0 @@
-use Rattle.std.proofs.Common.{◌-◌, length}
-use Rattle.basic_stmt.specs.Structure.{LineSoFar}
-use Rattle.basic_stmt.proofs.lines.all_statements.Given as goal
-
-abbrev pub invariant-others : goal.invariant-others
-invariant-others l = LineSoFar l.words l.place l.statements.items
-
-abbrev pub decreases-others : goal.decreases-others
-decreases-others l = length l.words - l.place

@@ -1,9 +1,0 @@
-use Rattle.std.proofs.Common.{arith, refl}
-use Rattle.basic_stmt.proofs.ParsedLines.{read_answer, failure_answer}
-use Rattle.basic_stmt.proofs.lines.parse_line.Goals as goal
-
-pub returns-then-place-count : goal.returns-then-place-count
-returns-then-place-count c = record { exact = read_answer c.args.tokens.now _ c.in-Ok.place c.in-Ok.statements.items (record { statements = c.in-Ok.statements }) c.in_ok-words.ensures (omega arith) c.in-Ok.ensures.found refl }
-
-pub returns : goal.returns
-returns c = record { exact = failure_answer c.args.tokens.now _ c.trouble-in-Err.result c.in-Err.failure c.in_ok-words.ensures c.in-Err.ensures.placed c.in-Err.ensures.refused c.trouble-in-Err.ensures }

@@ -1,0 +1,357 @@
+//! Lines and their words, and the longest expression at the front of a line.
+
+use basic_expr::{Word, Words, parse_expr};
+use basic_scanner::scan;
+use basic_tree::{Cause, Keyword, Name, Refusal, Sign, Want};
+use basic_values::Trouble;
+use std::alloc::{AllocError, Global};
+use std::process::Abort;
+use std::test::Fail;
+
+const A_TEXT: Name = Name {
+    letter: b'A',
+    digit: None,
+    text: true,
+};
+
+const A: Name = Name {
+    letter: b'A',
+    digit: None,
+    text: false,
+};
+
+const B: Name = Name {
+    letter: b'B',
+    digit: None,
+    text: false,
+};
+
+const A1_TEXT: Name = Name {
+    letter: b'A',
+    digit: Some(b'1'),
+    text: true,
+};
+
+const Z: Name = Name {
+    letter: b'Z',
+    digit: None,
+    text: false,
+};
+
+const X9_TEXT: Name = Name {
+    letter: b'X',
+    digit: Some(b'9'),
+    text: true,
+};
+
+const A9: Name = Name {
+    letter: b'A',
+    digit: Some(b'9'),
+    text: false,
+};
+
+const A0_TEXT: Name = Name {
+    letter: b'A',
+    digit: Some(b'0'),
+    text: true,
+};
+
+static LINES: [(&[u8], &[Word<'static>]); 30] = [
+    (b"", &[]),
+    (b" \t! nothing", &[]),
+    (b"GOTO 10", &[Word::Key(Keyword::Goto), Word::Number(10)]),
+    (
+        b"go to 10%",
+        &[
+            Word::Key(Keyword::Go),
+            Word::Key(Keyword::To),
+            Word::Number(10),
+        ],
+    ),
+    (
+        b"LEFT$(A$,1%)",
+        &[
+            Word::Key(Keyword::Left),
+            Word::Punctuation(Sign::Opening),
+            Word::Named(A_TEXT),
+            Word::Punctuation(Sign::Comma),
+            Word::Number(1),
+            Word::Punctuation(Sign::Closing),
+        ],
+    ),
+    (
+        b"LEFT(a$,1)",
+        &[
+            Word::Key(Keyword::Left),
+            Word::Punctuation(Sign::Opening),
+            Word::Named(A_TEXT),
+            Word::Punctuation(Sign::Comma),
+            Word::Number(1),
+            Word::Punctuation(Sign::Closing),
+        ],
+    ),
+    (
+        b"RIGHT$right",
+        &[Word::Key(Keyword::Right), Word::Key(Keyword::Right)],
+    ),
+    (
+        b"mid$MID",
+        &[Word::Key(Keyword::Mid), Word::Key(Keyword::Mid)],
+    ),
+    (
+        b"2**3^4",
+        &[
+            Word::Number(2),
+            Word::Punctuation(Sign::Caret),
+            Word::Number(3),
+            Word::Punctuation(Sign::Caret),
+            Word::Number(4),
+        ],
+    ),
+    (
+        b"A%* *b%",
+        &[
+            Word::Named(A),
+            Word::Punctuation(Sign::Star),
+            Word::Punctuation(Sign::Star),
+            Word::Named(B),
+        ],
+    ),
+    (
+        b"STOP\\END:Stop",
+        &[
+            Word::Key(Keyword::Stop),
+            Word::Punctuation(Sign::Colon),
+            Word::Key(Keyword::End),
+            Word::Punctuation(Sign::Colon),
+            Word::Key(Keyword::Stop),
+        ],
+    ),
+    (b"FNA1$", &[Word::FnNamed(A1_TEXT)]),
+    (
+        b"fnz%(x9$)",
+        &[
+            Word::FnNamed(Z),
+            Word::Punctuation(Sign::Opening),
+            Word::Named(X9_TEXT),
+            Word::Punctuation(Sign::Closing),
+        ],
+    ),
+    (b"FNEND", &[Word::Key(Keyword::FnEnd)]),
+    (b"A9%", &[Word::Named(A9)]),
+    (
+        b"a0$=B%",
+        &[
+            Word::Named(A0_TEXT),
+            Word::Punctuation(Sign::Equal),
+            Word::Named(B),
+        ],
+    ),
+    (b"32767%", &[Word::Number(32767)]),
+    (b"32767", &[Word::Number(32767)]),
+    (b"00000000000000000007", &[Word::Number(7)]),
+    (b"0%0", &[Word::Number(0), Word::Number(0)]),
+    (
+        b"PRINT \"it's\"",
+        &[Word::Key(Keyword::Print), Word::Quotation(b"it's")],
+    ),
+    (b"'say \"no\"'", &[Word::Quotation(b"say \"no\"")]),
+    (
+        b"\"\"+''",
+        &[
+            Word::Quotation(b""),
+            Word::Punctuation(Sign::Plus),
+            Word::Quotation(b""),
+        ],
+    ),
+    (b"\"a**b\\c\"", &[Word::Quotation(b"a**b\\c")]),
+    (
+        b"DATA 1, two ,'a,b',\"\"",
+        &[
+            Word::Key(Keyword::Data),
+            Word::Item(b" 1"),
+            Word::Item(b" two "),
+            Word::Item(b"'a,b'"),
+            Word::Item(b"\"\""),
+        ],
+    ),
+    (b"DATA", &[Word::Key(Keyword::Data), Word::Item(b"")]),
+    (
+        b"data,",
+        &[Word::Key(Keyword::Data), Word::Item(b""), Word::Item(b"")],
+    ),
+    (
+        b"<>==<=>=<>-/",
+        &[
+            Word::Punctuation(Sign::Different),
+            Word::Punctuation(Sign::Same),
+            Word::Punctuation(Sign::LessOrEqual),
+            Word::Punctuation(Sign::GreaterOrEqual),
+            Word::Punctuation(Sign::Different),
+            Word::Punctuation(Sign::Minus),
+            Word::Punctuation(Sign::Slash),
+        ],
+    ),
+    (
+        b"NUM1$ num$ CVT%$ cvt$% Abs%",
+        &[
+            Word::Key(Keyword::Num1),
+            Word::Key(Keyword::Num),
+            Word::Key(Keyword::CvtToText),
+            Word::Key(Keyword::CvtToNumber),
+            Word::Key(Keyword::Abs),
+        ],
+    ),
+    (
+        b"PRINT #1,A%;REM b",
+        &[
+            Word::Key(Keyword::Print),
+            Word::Punctuation(Sign::Hash),
+            Word::Number(1),
+            Word::Punctuation(Sign::Comma),
+            Word::Named(A),
+            Word::Punctuation(Sign::Semicolon),
+        ],
+    ),
+];
+
+/// The two are one word.
+fn is_same(word: Word<'_>, wanted: Word<'_>) -> bool {
+    match (word, wanted) {
+        (Word::Key(a), Word::Key(b)) => a == b,
+        (Word::Punctuation(a), Word::Punctuation(b)) => a == b,
+        (Word::Named(a), Word::Named(b)) => a == b,
+        (Word::FnNamed(a), Word::FnNamed(b)) => a == b,
+        (Word::Number(a), Word::Number(b)) => a == b,
+        (Word::Quotation(a), Word::Quotation(b)) => a == b,
+        (Word::Item(a), Word::Item(b)) => a == b,
+        _ => false,
+    }
+}
+
+/// The line has these words, and none behind them.
+fn has_words(rt: &impl Abort, alloc: Global, line: &[u8], wanted: &[Word<'_>]) {
+    assert!(rt; line.len() <= 255);
+    let Ok(tokens) = scan(alloc, line) else {
+        assert!(rt; false, "{line:?} is refused");
+        return;
+    };
+    let Ok(words) = Words::of(alloc, &tokens) else {
+        assert!(rt; false, "no memory");
+        return;
+    };
+    assert_eq!(rt; words.len(), wanted.len(), "{line:?}");
+    for (place, want) in wanted.iter().enumerate() {
+        match words.peek(place) {
+            Some(word) => assert!(rt; is_same(word, *want), "{line:?}: {word:?}"),
+            None => assert!(rt; false, "{line:?} ends at {place}"),
+        }
+    }
+    assert!(rt; words.peek(wanted.len()).is_none(), "{line:?}");
+}
+
+#[test]
+fn lines_have_their_words(rt: HostRuntime) {
+    for (line, wanted) in LINES {
+        has_words(&rt, rt.alloc(), line, wanted);
+    }
+}
+
+// Expressions
+
+/// What an expression of a line is answered: the place behind it, or where it is refused.
+#[derive(Clone, Copy, Debug, PartialEq, Eq)]
+enum Answer {
+    Read(u16),
+    Syntax(u16),
+    TooDeep(u16),
+    Failed,
+}
+
+fn parsed<R: Abort>(rt: &R, alloc: Global, line: &[u8], want: Want) -> Answer {
+    assert!(rt; line.len() <= 255, "a line is too long");
+    let tokens = match scan(alloc, line) {
+        Ok(tokens) => tokens,
+        Err(_) => return Answer::Failed,
+    };
+    match parse_expr(alloc, &tokens, 0, want) {
+        Ok((_, end)) => Answer::Read(end),
+        Err(
+            Trouble::Refused(
+                Refusal {
+                    place,
+                    cause: Cause::Syntax,
+                },
+            ),
+        ) => Answer::Syntax(place),
+        Err(
+            Trouble::Refused(
+                Refusal {
+                    place,
+                    cause: Cause::TooDeep,
+                },
+            ),
+        ) => Answer::TooDeep(place),
+        Err(_) => Answer::Failed,
+    }
+}
+
+/// The longest run of tokens is taken, and what stands behind it is left.
+static EXPRESSIONS: [(&[u8], Want, Answer); 24] = [
+    (b"1%", Want::Number, Answer::Read(1)),
+    (b"A%(1%,2%)^-3%)", Want::Number, Answer::Read(9)),
+    (b"A%(1%,2%)^-3%)", Want::Text, Answer::Syntax(0)),
+    (b"B$+'C'=LEFT$(B$,1%)-1%", Want::Text, Answer::Read(3)),
+    (b"B$+'C'=LEFT$(B$,1%)-1%", Want::Number, Answer::Read(10)),
+    (b"1%+2% TO 3%", Want::Number, Answer::Read(3)),
+    (b"A$ THEN", Want::Number, Answer::Syntax(1)),
+    (b"A$ THEN", Want::Either, Answer::Read(1)),
+    (b"A$", Want::Number, Answer::Syntax(1)),
+    (b"", Want::Either, Answer::Syntax(0)),
+    (b"1%+", Want::Number, Answer::Syntax(2)),
+    (b"1%+NOT 2%", Want::Number, Answer::Syntax(2)),
+    (b"(1%", Want::Number, Answer::Syntax(2)),
+    (b"A%(1%,2%,3%)", Want::Number, Answer::Syntax(5)),
+    (b"LEN(5%)", Want::Number, Answer::Syntax(2)),
+    (b"LEFT(A$)", Want::Text, Answer::Syntax(3)),
+    (b"MID(A$,1%,2%)", Want::Text, Answer::Read(8)),
+    (b"ERR(1%)", Want::Number, Answer::Read(1)),
+    (b"FNA%()", Want::Number, Answer::Syntax(2)),
+    (b"FNA%(1%,B$)+FNC%", Want::Number, Answer::Read(8)),
+    (b"NOT A%=1% OR B%", Want::Number, Answer::Read(6)),
+    (b"A$-B$", Want::Text, Answer::Read(1)),
+    (b"A%=B%=C%", Want::Number, Answer::Read(5)),
+    (b"AND", Want::Either, Answer::Syntax(0)),
+];
+
+#[test]
+fn expressions_are_read_or_refused(rt: HostRuntime) {
+    for (line, want, answer) in &EXPRESSIONS {
+        let found = parsed(&rt, rt.alloc(), line, *want);
+        assert_eq!(rt; (line, found), (line, *answer));
+    }
+}
+
+fn signs(alloc: Global, count: usize) -> Result<Vec<u8>, AllocError> {
+    let mut line = Vec::new(alloc);
+    for _ in 0..count {
+        line.push(b'-')?;
+    }
+    line.push(b'1')?;
+    Ok(line)
+}
+
+#[test]
+fn the_65th_level_is_refused(rt: HostRuntime) -> Result<(), Fail> {
+    let line = signs(rt.alloc(), 64)?;
+    assert_eq!(rt;
+        parsed(&rt, rt.alloc(), &line, Want::Number),
+        Answer::Read(65)
+    );
+    let line = signs(rt.alloc(), 65)?;
+    assert_eq!(rt;
+        parsed(&rt, rt.alloc(), &line, Want::Number),
+        Answer::TooDeep(64)
+    );
+    Ok(())
+}
