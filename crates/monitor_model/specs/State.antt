@@ -1,5 +1,5 @@
 -- The monitor's state, and how calls change what it keeps of a job.
-use Rattle.std.specs.Prelude.{ℕ, ◌+◌, if◌then◌else◌, List, [], ◌∷◌, Option, Some, None, replicate}
+use Rattle.std.specs.Prelude.{ℕ, ◌+◌, List, Option, Some, None, replicate}
 use Rattle.std.specs.List.{find}
 use Rattle.std.proofs.Common.{get_or, set}
 use Rattle.monitor_calls.specs.declared.names.Account.{Account}
