@@ -3,6 +3,7 @@ use Rattle.std.specs.Prelude.{ℕ, ◌&&◌, nat_le, nat_lt, ◌-◌, ◌==◌, 
 use Rattle.std.specs.List.{position_or_len, before_first, after_first}
 use Rattle.std.specs.Str.Lines.{lines}
 use Rattle.basic_values.specs.Decimals.{number_between}
+use Rattle.basic_values.specs.declared.lists.TheConstants.{LINE_LENGTH}
 use Rattle.monitor_calls.specs.declared.volumes.AccountEntry.{AccountEntry}
 use Rattle.monitor_calls.specs.Names.{is_short_text, is_terminal_name}
 use Rattle.monitor_calls.specs.Volumes.{is_good_volume}
@@ -60,7 +61,7 @@ name_in line = do
 abbrev pub keys_in : List ℕ → Option (List ℕ)
 keys_in line = do
   keys ← behind (62 ∷ []) line
-  if nat_le (length keys) 255 then Some keys else None
+  if nat_le (length keys) LINE_LENGTH then Some keys else None
 
 -- the keys of the lines up to END, which is the last
 unfoldable pub all_keys_in : List (List ℕ) → Option (List (List ℕ))

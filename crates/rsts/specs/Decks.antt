@@ -31,10 +31,10 @@ head_of head =
     record { version = head.version.now; disk = head.disk.now; account = head.account.now; terminal = head.terminal.now; rest = lines head.rest.now }
 
 -- what was answered, seen by view, is what reading finds, unless memory ran out
-abbrev pub Gives : {X Y : Type 0} → (X → Y) → Result X ReadError → Option Y → Type 0
-Gives view (Ok x) read = read ≡ Some (view x)
-Gives view (Err errors.Memory) read = ⊤
-Gives view (Err errors.Refused) read = read ≡ None
+abbrev pub Decides : {X Y : Type 0} → (X → Y) → Result X ReadError → Option Y → Type 0
+Decides view (Ok x) read = read ≡ Some (view x)
+Decides view (Err errors.Memory) read = ⊤
+Decides view (Err errors.Refused) read = read ≡ None
 
 abbrev pub names_of : List Terminal → List (List ℕ)
 names_of terminals = map (λ (terminal : Terminal). terminal.name) terminals
