@@ -24,8 +24,8 @@ pub record IsTerminal (terminal : Terminal) : Type 0 where
   pub name : is_terminal_name terminal.name ≡ true
   pub keys : AllByRecursion IsKeyLine terminal.keys
 
--- a deck that can be run: its volume is good and its terminals are in their ranges; there is one account and
--- one terminal
+-- a deck that can be run: its volume is good and its terminals are in their ranges; there is one
+-- account and one terminal
 pub record IsDeck (deck : Deck) : Type 0 where
   pub volume : is_good_volume deck.blocks deck.accounts ≡ true
   pub terminals : AllByRecursion IsTerminal deck.terminals

@@ -2,7 +2,6 @@
 use Rattle.std.proofs.Common.{◌≡◌, ℕ, suc, true, false, List, ◌∷◌, [], length, map, Option, Some, None, Ok, Err, ◌⊎◌, inl, inr, ⊎_elim, refl, sym, ap, ◌∙◌}
 use Rattle.std.specs.Prelude.{Result, IsOk}
 use Rattle.monitor_calls.specs.declared.calls.Entry.{Entry}
-use Rattle.monitor_calls.specs.declared.records.RunRecord.{RunRecord}
 use Rattle.deck_model.specs.Deck as model
 use Rattle.rsts.specs.declared.decks.Deck.{Deck}
 use Rattle.rsts.specs.declared.decks.Terminal.{Terminal}
@@ -79,9 +78,9 @@ stopped_neither (stopped.Deck fault) P Q = (tt, tt)
 stopped_neither stopped.NoMemory P Q = (tt, tt)
 
 -- where a deck was found and run
-pub ran_answers : (deck : Deck) (ran : RunRecord) (before after : Ends) → MustStop (Ok deck) before.source after.source → MustRefuse (Ok deck) before.source after.source → Answers IsReport HasRan before after (outcome.Ok ran)
+pub ran_answers : (deck : Deck) (history : List Entry) (before after : Ends) → MustStop (Ok deck) before.source after.source → MustRefuse (Ok deck) before.source after.source → Answers IsReport HasRan before after (outcome.Ok history)
 unfolding some_deck no_deck
-ran_answers deck ran before after stop refuse = record {
+ran_answers deck history before after stop refuse = record {
   not_usage = tt;
   read_fault = tt;
   too_long = tt;
@@ -90,5 +89,5 @@ ran_answers deck ran before after stop refuse = record {
   no_memory = tt;
   must_be_too_long = λ over. absurd (is_found deck stopped.TooLong (stop over));
   must_refuse = λ none. absurd (⊎_elim (λ refused. is_found deck (stopped.Deck refused.0) refused.1) (is_found deck stopped.NoMemory) (refuse none));
-  completes = λ fair. inl (ran, refl);
+  completes = λ fair. inl (history, refl);
 }

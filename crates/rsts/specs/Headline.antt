@@ -1,4 +1,5 @@
 -- What the program does. Whoever trusts this file, and the definitions that it names, knows it.
+-- `Does`, at the end, is the one clause of the program's call; what stands before it are its words.
 use Rattle.std.specs.Prelude.{◌≡◌, ℕ, ◌≤◌, List, length, map, slice_get, Option, Some, ◌⊎◌}
 use Rattle.monitor_calls.specs.declared.calls.Entry.{Entry}
 use Rattle.monitor_calls.specs.Pairs.{requests, replies}
@@ -20,8 +21,8 @@ use Rattle.rsts.specs.Outcomes.{IfRan, OnChecked, OnUsage, IfDeck, OnReadFault, 
 use Rattle.rsts.specs.Streams.{IsInput, IsOverLimit, IsTooMuch, Written, BrokeOff}
 
 -- THE TWO ENDS
--- The program reads a source and writes to a sink. What they were before a call and what they are after it is all that
--- is said of them.
+-- The program reads a source and writes to a sink. What they were before a call and what they are
+-- after it is all that is said of them.
 
 pub record Ends : Type 0 where
   pub source : SourceState
@@ -32,15 +33,21 @@ ends source sink = record { source = source; sink = sink }
 
 -- A RUN OF A DECK
 
--- there is a screen for each terminal, and at each place the terminal's part of the history is what its talk makes, and
--- the screen is what the talk shows
-pub record AllTalk (history : List Entry) (terminals : List Terminal) (screens : List (List ℕ)) : Type 0 where
-  pub as_many : length screens ≡ length terminals
-  pub each : (j : ℕ) (terminal : Terminal) (screen : List ℕ) → slice_get terminals j ≡ Some terminal → slice_get screens j ≡ Some screen
-      → IsTalk terminal.keys (replies (part_of j history)) (requests (part_of j history)) screen
+-- a job's part of the history is what the terminal's talk makes, and the screen is what it shows
+abbrev pub HasTalked : List Entry → ℕ → Terminal → List ℕ → Type 0
+HasTalked history job terminal screen =
+    IsTalk terminal.keys (replies (part_of job history)) (requests (part_of job history)) screen
 
--- the monitor answered one call at a time, from the deck's opening state, and each job asked what its terminal's keys
--- make given the replies
+-- there are as many screens as terminals, and at each place the terminal has talked so, as the job
+-- of that number
+pub record AllTalk (history : List Entry) (terminals : List Terminal) (screens : List (List ℕ))
+    : Type 0 where
+  pub as_many : length screens ≡ length terminals
+  pub each : (j : ℕ) (terminal : Terminal) (screen : List ℕ) → slice_get terminals j ≡ Some terminal
+      → slice_get screens j ≡ Some screen → HasTalked history j terminal screen
+
+-- the monitor answered one call at a time, from the deck's opening state, and each job asked what
+-- its terminal's keys make given the replies
 pub record IsRun (deck : Deck) (history : List Entry) (screens : List (List ℕ)) : Type 0 where
   pub legal : Legal (monitor.opening deck.accounts deck.blocks (length deck.terminals)) history
   pub proper : Proper history
@@ -152,12 +159,14 @@ pub record IsFair (before after : Ends) : Type 0 where
 
 -- unless memory runs out, such a deck is answered so
 abbrev pub Completes : (Outcome → Type 0) → Ends → Ends → Outcome → Type 0
-Completes Succeeds before after result = IsFair before after → Succeeds result ⊎ (result ≡ outcome.NoMemory)
+Completes Succeeds before after result =
+    IsFair before after → Succeeds result ⊎ (result ≡ outcome.NoMemory)
 
 -- unless memory runs out, an input that spells none is refused
 abbrev pub Refuses : Ends → Ends → Outcome → Type 0
 Refuses before after result =
-    SpellsNone before.source after.source → ((fault : DeckFault) × (result ≡ outcome.Deck fault)) ⊎ (result ≡ outcome.NoMemory)
+    SpellsNone before.source after.source
+    → ((fault : DeckFault) × (result ≡ outcome.Deck fault)) ⊎ (result ≡ outcome.NoMemory)
 
 -- one byte more than an input may have is too much
 abbrev pub EndsTooLong : Ends → Ends → Outcome → Type 0
@@ -171,9 +180,10 @@ HasChecked result = result ≡ outcome.Checked
 
 -- WHAT THE PROGRAM DOES
 
--- what a run and a check have in common: what they may write, how they succeed, the cause of every other answer, and
--- what must come
-pub record Answers (IsOutput : Deck → List ℕ → Type 0) (Succeeds : Outcome → Type 0) (before after : Ends) (result : Outcome) : Type 0 where
+-- what a run and a check have in common: what they may write, how they succeed, the cause of every
+-- other answer, and what must come
+pub record Answers (IsOutput : Deck → List ℕ → Type 0) (Succeeds : Outcome → Type 0)
+    (before after : Ends) (result : Outcome) : Type 0 where
   pub not_usage : OnUsage result ⊥
   pub read_fault : OnReadFault result (SourceFailed before after)
   pub too_long : OnTooLong result (InputTooLong before after)

@@ -28,7 +28,8 @@ abbrev pub Found : Result Deck Stopped → SourceState → SourceState → Type 
 Found (Ok deck) old new = FoundDeck (deck_of deck) old new
 Found (Err why) old new = WhyStopped why old new
 
--- unless memory runs out: too much stops the reading, a deck is found, and where there is none that is told
+-- unless memory runs out: too much stops the reading, a deck is found, and where there is none that
+-- is told
 abbrev pub MustStop : Result Deck Stopped → SourceState → SourceState → Type 0
 MustStop result old new = IsOverLimit old new → result ≡ Err stopped.TooLong
 
@@ -37,4 +38,5 @@ MustFind result old new = SpellsDeck old new → IsOk result ⊎ (result ≡ Err
 
 abbrev pub MustRefuse : Result Deck Stopped → SourceState → SourceState → Type 0
 MustRefuse result old new =
-    SpellsNone old new → ((fault : DeckFault) × (result ≡ Err (stopped.Deck fault))) ⊎ (result ≡ Err stopped.NoMemory)
+    SpellsNone old new → ((fault : DeckFault) × (result ≡ Err (stopped.Deck fault)))
+    ⊎ (result ≡ Err stopped.NoMemory)

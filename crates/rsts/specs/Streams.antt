@@ -11,7 +11,8 @@ abbrev pub AreAll : List ℕ → Option (List ℕ) → Option (List ℕ) → Typ
 AreAll bytes None after = after ≡ None
 AreAll bytes (Some left) after = (left ≡ bytes) × (after ≡ Some [])
 
--- the source was read to its end and did not fail, and these bytes are what it had: no more than an input may have
+-- the source was read to its end and did not fail, and these bytes are what it had: no more than an
+-- input may have
 pub record IsInput (read : List ℕ) (old new : SourceState) : Type 0 where
   pub all : AreAll read old.left new.left
   pub count : new.taken ≡ old.taken + length read
@@ -34,7 +35,8 @@ ReadSo (Err end.Fault) old new = Rose old.faults new.faults
 ReadSo (Err end.TooLong) old new = IsTooMuch old new
 ReadSo (Err end.NoMemory) old new = new.faults ≡ old.faults
 
--- what was taken stood next, where that is told, and is at most one byte more than an input may have
+-- what was taken stood next, where that is told, and is at most one byte more than an input may
+-- have
 pub record TookNext (old new : SourceState) : Type 0 where
   pub bytes : List ℕ
   pub count : new.taken ≡ old.taken + length bytes
@@ -49,9 +51,11 @@ pub record Written (bytes : List ℕ) (old new : SinkState) : Type 0 where
 -- a front of the bytes was given, and not all of them
 abbrev pub GaveFront : List ℕ → Option (List ℕ) → Option (List ℕ) → Type 0
 GaveFront bytes given given' =
-    (front rest : List ℕ) × (bytes ≡ front ++ rest) × (0 < length rest) × Appended front given given'
+    (front rest : List ℕ) × (bytes ≡ front ++ rest) × (0 < length rest)
+    × Appended front given given'
 
--- the sink failed, and was given nothing behind that: it has a front of the bytes, and not all of them
+-- the sink failed, and was given nothing behind that: it has a front of the bytes, and not all of
+-- them
 pub record BrokeOff (bytes : List ℕ) (old new : SinkState) : Type 0 where
   pub front : GaveFront bytes old.given new.given
   pub fault : Rose old.faults new.faults

@@ -10,7 +10,7 @@ ghost use Rattle.rsts.specs.Lines.{Finds, IsWhole};
 ghost use Rattle.rsts.specs.Decks.{Decides, deck_of, volume_of, fields_of, head_of};
 
 use crate::lines::{behind, cut, next_line};
-use basic_values::{KeyLine, NoMemory, Trouble, number_between};
+use basic_values::{KeyLine, LINE_LENGTH, NoMemory, Trouble, number_between};
 use monitor_calls::{Account, AccountEntry, Short, TerminalName, Volume};
 use std::alloc::{AllocError, AllocFailed, Global};
 
@@ -103,7 +103,9 @@ pub fn read_deck(alloc: Global, bytes: &[u8]) -> Result<Deck, Trouble<DeckFault>
     // What is read is spelled so.
     ensures found { IfOk result (λ deck. Spelled bytes.now (deck_of deck)) }
     // What is refused is the spelling of no deck.
-    ensures refused { (f : _) → result ≡ Err (Trouble.Refused f) → (f ≡ record { line = 0; cause = DeckCause.Stage }) × ((d : model.Deck) → Spelled bytes.now d → ⊥) }
+    ensures refused { (f : _) → result ≡ Err (Trouble.Refused f)
+        → (f ≡ record { line = 0; cause = DeckCause.Stage })
+        × ((d : model.Deck) → Spelled bytes.now d → ⊥) }
 {
     match deck_at(alloc, bytes) {
         Ok(deck) => Ok(deck),
@@ -169,7 +171,8 @@ fn volume_of(alloc: Global, head: &Head<'_>) -> Result<Volume, ReadError>
 
 /// Whether the version is the one that is read, and a monitor can open from the volume.
 fn can_open(version: &[u8], volume: &Volume) -> bool
-    ensures { result ≡ (bytes_eq version.now (codes "RSTS-DECK 1") && is_good_volume volume.now.blocks volume.now.accounts.items) }
+    ensures { result ≡ (bytes_eq version.now (codes "RSTS-DECK 1")
+        && is_good_volume volume.now.blocks volume.now.accounts.items) }
 {
     version == b"RSTS-DECK 1".as_slice() && volume.is_good()
 }
@@ -226,7 +229,7 @@ fn keys_of(alloc: Global, line: &[u8]) -> Result<KeyLine, ReadError>
     ensures { Decides (λ keys. keys) result (keys_in line.now) }
 {
     match behind(b">", line) {
-        Some(keys) if keys.len() <= 255 => Ok(KeyLine::of(alloc, keys)?),
+        Some(keys) if keys.len() <= LINE_LENGTH => Ok(KeyLine::of(alloc, keys)?),
         _ => Err(ReadError::Refused),
     }
 }

@@ -18,7 +18,8 @@ use std::process::ExitCode;
 use std::rt::Env;
 use std::{env, io, str};
 
-/// Calls the top call with standard input and output, says on standard error how it ended, and ends with its status.
+/// Calls the top call with standard input and output, says on standard error how it ended, and ends
+/// with its status.
 fn main(rt: HostRuntime) -> ExitCode {
     let outcome = match words_of(&rt) {
         Ok(words) => rsts_main(

@@ -34,9 +34,11 @@ impl From<AllocError> for ReadEnd {
 /// All the bytes of a source, up to its end. It asks for no byte beyond the first that is too many.
 pub fn read_all<S: Source>(alloc: Global, source: &mut S) -> Result<Vec<u8>, ReadEnd>
     ensures ended { ReadSo result (S.state source.old) (S.state source.new) }
-    // Whatever the answer, what was taken stood next, and is at most one byte more than an input may have.
+    // Whatever the answer, what was taken stood next, and is at most one byte more than an input
+    // may have.
     ensures next { TookNext (S.state source.old) (S.state source.new) }
-    ensures too_long { IsOverLimit (S.state source.old) (S.state source.new) → result ≡ Err ReadEnd.TooLong }
+    ensures too_long { IsOverLimit (S.state source.old) (S.state source.new)
+        → result ≡ Err ReadEnd.TooLong }
 {
     let mut chunk = [0u8; 4096];
     read_through(alloc, source, &mut chunk)
@@ -50,7 +52,8 @@ fn read_through<S: Source>(
     requires { 0 < length chunk.old }
     ensures ended { ReadSo result (S.state source.old) (S.state source.new) }
     ensures next { TookNext (S.state source.old) (S.state source.new) }
-    ensures too_long { IsOverLimit (S.state source.old) (S.state source.new) → result ≡ Err ReadEnd.TooLong }
+    ensures too_long { IsOverLimit (S.state source.old) (S.state source.new)
+        → result ≡ Err ReadEnd.TooLong }
 {
     let mut bytes = Vec::new(alloc);
     'reading: loop {
@@ -94,7 +97,8 @@ pub fn give_all<K: Sink>(sink: &mut K, bytes: &[u8]) -> Result<(), SinkFault>
 
 /// How many bytes the first line has, with its LF.
 fn line_length(bytes: &[u8]) -> usize
-    ensures line { MatchOption (position (λ b. b == 10) bytes.now) (result ≡ length bytes.now) (λ at. result ≡ at + 1) }
+    ensures line { MatchOption (position (λ b. b == 10) bytes.now)
+        (result ≡ length bytes.now) (λ at. result ≡ at + 1) }
     ensures within { result ≤ length bytes.now }
 {
     match place_of(b'\n', bytes) {

@@ -62,7 +62,8 @@ pub(crate) fn run_system<S: Source, K: Sink, P: Pacer>(
     }
 }
 
-/// Reads a deck and writes `GOOD`, the numbers of its accounts, files and terminals, as the word `check` asks.
+/// Reads a deck and writes `GOOD`, the numbers of its accounts, files and terminals, as the word
+/// `check` asks.
 pub fn check_system<S: Source, K: Sink>(alloc: Global, source: &mut S, sink: &mut K) -> Outcome
     ensures { Checks (ends (S.state source.old) (K.state sink.old))
         (ends (S.state source.new) (K.state sink.new)) result }
@@ -108,7 +109,7 @@ fn run_and_report<P: Pacer>(
     pacer: &P,
 ) -> Result<(RunRecord, Vec<u8>), NoMemory>
     requires { IsDeck (deck_of deck.now) }
-    ensures { IfOk result (λ ran. Reports (deck_of deck.now) ran.0.history.items ran.1.items) }
+    ensures { IfOk result (λ ran. Reports (deck_of deck.now) ran.0 ran.1.items) }
 {
     let ran = run_deck(alloc, deck, pacer)?;
     let output = report(alloc, deck.terminals.as_slice(), ran.screens.as_slice())?;

@@ -10,8 +10,8 @@ use crate::words::{Asked, action_of};
 use rsts_io::{Pacer, Sink, Source};
 use std::alloc::Global;
 
-/// Reads a deck from the source, runs its terminal, and writes the report to the sink; or reads a deck and writes
-/// whether it is good; as the words ask.
+/// Reads a deck from the source, runs its terminal, and writes the report to the sink; or reads a
+/// deck and writes whether it is good; as the words ask.
 pub fn rsts_main<S: Source, K: Sink, P: Pacer>(
     alloc: Global,
     words: &[String],
@@ -19,7 +19,8 @@ pub fn rsts_main<S: Source, K: Sink, P: Pacer>(
     sink: &mut K,
     pacer: &P,
 ) -> Outcome
-    ensures { Does (asked (map string_bytes words.now)) (ends (S.state source.old) (K.state sink.old))
+    ensures { Does (asked (map string_bytes words.now))
+        (ends (S.state source.old) (K.state sink.old))
         (ends (S.state source.new) (K.state sink.new)) result }
 {
     match action_of(words) {

@@ -6,7 +6,8 @@ use Rattle.rsts_io.specs.declared.source.Took.TheVariants as took
 use Rattle.rsts_io.specs.declared.sink.Gave.{Gave}
 use Rattle.rsts_io.specs.declared.sink.Gave.TheVariants as gave
 
--- the bytes that a source has left, where it can tell them; how many were taken; how often it failed
+-- the bytes that a source has left, where it can tell them; how many were taken; how often it
+-- failed
 pub record SourceState : Type 0 where
   pub left : Option (List ℕ)
   pub taken : ℕ
@@ -34,21 +35,26 @@ AreNext bytes (Some left) after = (rest : List ℕ) × (left ≡ bytes ++ rest) 
 abbrev pub IsAtEnd : Option (List ℕ) → Type 0
 IsAtEnd left = IfSome left (λ bytes. bytes ≡ [])
 
--- what a source's answer says of the buffer behind it, and of the source before and after: the bytes stand at the
--- buffer's front; at its end nothing changes; a failure is counted, and nothing else changes
+-- what a source's answer says of the buffer behind it, and of the source before and after: the
+-- bytes stand at the buffer's front; at its end nothing changes; a failure is counted, and nothing
+-- else changes
 abbrev pub Takes : Took → List ℕ → SourceState → SourceState → Type 0
 Takes (took.Bytes n) buffer old new =
-    (1 ≤ n) × (n ≤ length buffer) × AreNext (take n buffer) old.left new.left × (new.taken ≡ old.taken + n) × (new.faults ≡ old.faults)
-Takes took.End buffer old new = IsAtEnd old.left × (new.left ≡ old.left) × (new.taken ≡ old.taken) × (new.faults ≡ old.faults)
-Takes took.Failed buffer old new = (new.left ≡ old.left) × (new.taken ≡ old.taken) × Rose old.faults new.faults
+    (1 ≤ n) × (n ≤ length buffer) × AreNext (take n buffer) old.left new.left
+    × (new.taken ≡ old.taken + n) × (new.faults ≡ old.faults)
+Takes took.End buffer old new =
+    IsAtEnd old.left × (new.left ≡ old.left) × (new.taken ≡ old.taken) × (new.faults ≡ old.faults)
+Takes took.Failed buffer old new =
+    (new.left ≡ old.left) × (new.taken ≡ old.taken) × Rose old.faults new.faults
 
 -- these bytes came behind what was given, where that is told
 abbrev pub Appended : List ℕ → Option (List ℕ) → Option (List ℕ) → Type 0
 Appended bytes given given' = given' ≡ option_map (λ old. old ++ bytes) given
 
--- what a sink's answer says of the piece, and of the sink before and after: it has the bytes of the piece's front; a
--- failure is counted, and nothing else changes
+-- what a sink's answer says of the piece, and of the sink before and after: it has the bytes of the
+-- piece's front; a failure is counted, and nothing else changes
 abbrev pub Accepts : Gave → List ℕ → SinkState → SinkState → Type 0
 Accepts (gave.Bytes n) piece old new =
-    (1 ≤ n) × (n ≤ length piece) × Appended (take n piece) old.given new.given × (new.faults ≡ old.faults)
+    (1 ≤ n) × (n ≤ length piece) × Appended (take n piece) old.given new.given
+    × (new.faults ≡ old.faults)
 Accepts gave.Failed piece old new = (new.given ≡ old.given) × Rose old.faults new.faults

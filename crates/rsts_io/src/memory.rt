@@ -27,7 +27,13 @@ impl Model for MemorySource {
 
     ghost Value = { Feed };
 
-    ghost view = { λ s. record { left = drop s.at s.bytes.items; taken = s.at; failing = s.failing.items; calls = s.calls; faults = s.faults } };
+    ghost view = { λ s. record {
+      left = drop s.at s.bytes.items;
+      taken = s.at;
+      failing = s.failing.items;
+      calls = s.calls;
+      faults = s.faults;
+    } };
 
     ghost invariant = { λ s. s.at ≤ vec_len s.bytes };
 }
@@ -59,8 +65,10 @@ impl Source for MemorySource {
     fn take(&mut self, buffer: &mut [u8]) -> Took
         requires { 0 < length buffer.old }
         ensures told { Takes result buffer.new (feed_state self.old) (feed_state self.new) }
-        ensures fails { (result ≡ Took.Failed) ↔ (is_listed self.new.calls self.old.failing ≡ true) }
-        ensures fits { (n : ℕ) → result ≡ Took.Bytes n → n ≡ min (length self.old.left) (length buffer.old) }
+        ensures fails { (result ≡ Took.Failed)
+            ↔ (is_listed self.new.calls self.old.failing ≡ true) }
+        ensures fits { (n : ℕ) → result ≡ Took.Bytes n
+            → n ≡ min (length self.old.left) (length buffer.old) }
         ensures calls { self.new.calls ≡ raised self.old.calls }
         ensures failing { self.new.failing ≡ self.old.failing }
     {
@@ -78,8 +86,8 @@ impl Source for MemorySource {
     }
 }
 
-/// A sink that keeps what it is given. It counts its calls, from 1, and fails those that it was told, and where its
-/// room of 16 MiB is full.
+/// A sink that keeps what it is given. It counts its calls, from 1, and fails those that it was
+/// told, and where its room of 16 MiB is full.
 #[derive(Debug, Drop)]
 pub struct MemorySink {
     kept: Vec<u8>,
@@ -94,7 +102,12 @@ impl Model for MemorySink {
 
     ghost Value = { Store };
 
-    ghost view = { λ s. record { given = s.kept.items; failing = s.failing.items; calls = s.calls; faults = s.faults } };
+    ghost view = { λ s. record {
+      given = s.kept.items;
+      failing = s.failing.items;
+      calls = s.calls;
+      faults = s.faults;
+    } };
 
     ghost invariant = { λ s. (vec_len s.kept ≤ sink_room) × (sink_room ≤ vec_capacity s.kept) };
 }
@@ -131,8 +144,11 @@ impl Sink for MemorySink {
     fn give(&mut self, piece: &[u8]) -> Gave
         requires { 0 < length piece.now }
         ensures told { Accepts result piece.now (store_state self.old) (store_state self.new) }
-        ensures fails { (result ≡ Gave.Failed) ↔ ((is_listed self.new.calls self.old.failing ≡ true) ⊎ (length self.old.given ≡ sink_room)) }
-        ensures fits { (n : ℕ) → result ≡ Gave.Bytes n → n ≡ min (length piece.now) (sink_room - length self.old.given) }
+        ensures fails { (result ≡ Gave.Failed)
+            ↔ ((is_listed self.new.calls self.old.failing ≡ true)
+            ⊎ (length self.old.given ≡ sink_room)) }
+        ensures fits { (n : ℕ) → result ≡ Gave.Bytes n
+            → n ≡ min (length piece.now) (sink_room - length self.old.given) }
         ensures calls { self.new.calls ≡ raised self.old.calls }
         ensures failing { self.new.failing ≡ self.old.failing }
     {

@@ -47,8 +47,10 @@ impl Source for PlainSource {
 
     fn take(&mut self, buffer: &mut [u8]) -> Took
         requires { 0 < length buffer.old }
-        ensures told { Takes result buffer.new (plain_feed_state self.old) (plain_feed_state self.new) }
-        ensures fits { (n : ℕ) → result ≡ Took.Bytes n → n ≡ min (length self.old.left) (length buffer.old) }
+        ensures told { Takes result buffer.new
+            (plain_feed_state self.old) (plain_feed_state self.new) }
+        ensures fits { (n : ℕ) → result ≡ Took.Bytes n
+            → n ≡ min (length self.old.left) (length buffer.old) }
     {
         let count = copy_next(&self.bytes, self.at, buffer);
         if count == 0 {
@@ -103,9 +105,11 @@ impl Sink for PlainSink {
 
     fn give(&mut self, piece: &[u8]) -> Gave
         requires { 0 < length piece.now }
-        ensures told { Accepts result piece.now (plain_store_state self.old) (plain_store_state self.new) }
+        ensures told { Accepts result piece.now
+            (plain_store_state self.old) (plain_store_state self.new) }
         ensures fails { (result ≡ Gave.Failed) ↔ (length self.old.given ≡ sink_room) }
-        ensures fits { (n : ℕ) → result ≡ Gave.Bytes n → n ≡ min (length piece.now) (sink_room - length self.old.given) }
+        ensures fits { (n : ℕ) → result ≡ Gave.Bytes n
+            → n ≡ min (length piece.now) (sink_room - length self.old.given) }
     {
         let count = keep_front(&mut self.kept, piece);
         if count == 0 {

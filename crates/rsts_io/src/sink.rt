@@ -14,7 +14,8 @@ pub enum Gave {
 
 /// Where bytes go.
 pub trait Sink {
-    /// The bytes that it was given, where the sink can tell; how often it failed, up to the greatest number of 64 bits.
+    /// The bytes that it was given, where the sink can tell; how often it failed, up to the
+    /// greatest number of 64 bits.
     ghost state: { Self → SinkState };
 
     /// Takes at least one byte of the piece's front, unless it fails.

@@ -16,8 +16,8 @@ pub enum Took {
 
 /// Where bytes come from.
 pub trait Source {
-    /// The bytes that are left, where the source can tell; how many were taken; how often it failed, up to the greatest
-    /// number of 64 bits.
+    /// The bytes that are left, where the source can tell; how many were taken; how often it
+    /// failed, up to the greatest number of 64 bits.
     ghost state: { Self → SourceState };
 
     /// Puts the next bytes into the buffer: at least one, unless it is at its end or fails.

@@ -1,5 +1,5 @@
-//! The real ends: any reader and any writer of std. They can't tell what they read and write; `read` and `written` say it
-//! of a reader and a writer whose bytes are known.
+//! The real ends: any reader and any writer of std. They can't tell what they read and write;
+//! `read` and `written` say it of a reader and a writer whose bytes are known.
 
 ghost use Rattle.std.specs.Prelude.{◌≡◌, ◌<◌, length};
 ghost use Rattle.rsts_io.specs.Ends.{Takes, Accepts};
@@ -36,8 +36,11 @@ impl<R: Read> Source for StdSource<R> {
 
     fn take(&mut self, buffer: &mut [u8]) -> Took
         requires { 0 < length buffer.old }
-        ensures told { Takes result buffer.new (untold_source self.old.taken self.old.faults) (untold_source self.new.taken self.new.faults) }
-        ensures read { ReadSo result buffer.new (R.remaining self.old.inner) (R.remaining self.new.inner) self.old.taken }
+        ensures told { Takes result buffer.new
+            (untold_source self.old.taken self.old.faults)
+            (untold_source self.new.taken self.new.faults) }
+        ensures read { ReadSo result buffer.new
+            (R.remaining self.old.inner) (R.remaining self.new.inner) self.old.taken }
     {
         let room = u64::MAX - self.taken;
         if room == 0 {
@@ -79,8 +82,10 @@ impl<W: Write> Sink for StdSink<W> {
 
     fn give(&mut self, piece: &[u8]) -> Gave
         requires { 0 < length piece.now }
-        ensures told { Accepts result piece.now (untold_sink self.old.faults) (untold_sink self.new.faults) }
-        ensures written { WrittenSo result piece.now (W.contents self.old.inner) (W.contents self.new.inner) }
+        ensures told { Accepts result piece.now
+            (untold_sink self.old.faults) (untold_sink self.new.faults) }
+        ensures written { WrittenSo result piece.now
+            (W.contents self.old.inner) (W.contents self.new.inner) }
     {
         match self.inner.write(piece) {
             Ok(0) | Err(_) => {

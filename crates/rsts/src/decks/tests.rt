@@ -61,7 +61,7 @@ fn decks_are_read_or_refused(rt: HostRuntime) {
             false,
         ),
         (
-            b"RSTS-DECK 1\nDISK 100000000000000000000000000000\nACCOUNT 1,2 PW 50\nTERMINAL T1\nEND\n",
+            b"RSTS-DECK 1\nDISK 10000000000000000000000000\nACCOUNT 1,2 PW 50\nTERMINAL T1\nEND\n",
             false,
         ),
         (

@@ -4,6 +4,7 @@ ghost use Rattle.deck_model.specs.Spelling.{Spelled};
 ghost use Rattle.rsts.specs.Headline.{HasRan};
 
 use super::*;
+use crate::streams::INPUT_LIMIT;
 use rsts_io::{IdlePacer, MemorySink, MemorySource, PlainSink, PlainSource, StdSink, StdSource};
 use std::io;
 use std::io::{Read, Write};
@@ -12,8 +13,8 @@ use std::test::Fail;
 
 const HEAD: &[u8] = b"RSTS-DECK 1\nDISK 8\nACCOUNT 100,5 DEMO 100\nTERMINAL T1\n";
 
-const FIRST_SUM: &[u8] =
-    b"RSTS-DECK 1\nDISK 8\nACCOUNT 100,5 DEMO 100\nTERMINAL T1\n>HELLO 100,5;DEMO\n>PRINT 2%+3%\n>BYE\nEND\n";
+const FIRST_SUM: &[u8] = b"RSTS-DECK 1\nDISK 8\nACCOUNT 100,5 DEMO 100\nTERMINAL T1\n\
+>HELLO 100,5;DEMO\n>PRINT 2%+3%\n>BYE\nEND\n";
 
 const SUM_REPORT: &[u8] =
     b"TERMINAL T1 60\nHELLO 100,5;DEMO\r\nReady\r\nPRINT 2%+3%\r\n 5 \r\nReady\r\nBYE\r\nBye\r\n\n";
@@ -99,7 +100,7 @@ fn other_words_are_told_the_usage(rt: HostRuntime) -> Result<(), Fail> {
 #[test]
 fn bad_input_is_refused_and_nothing_is_written(rt: HostRuntime) -> Result<(), Fail> {
     let long_keys = deck_with_keys(rt.alloc(), 256)?;
-    let too_long = deck_with_keys(rt.alloc(), 8_388_609 - HEAD.len() - 6)?;
+    let too_long = deck_with_keys(rt.alloc(), INPUT_LIMIT + 1 - HEAD.len() - 6)?;
     let no_deck = "deck line 0: not a deck of this stage";
     let rows: [(&[u8], &[u64], u8, &str); 7] = [
         (b"", &[], 2, no_deck),
@@ -215,7 +216,9 @@ fn lines_are_judged_by_the_grammar(rt: HostRuntime) -> Result<(), Fail> {
 
 /// Runs an input between ends in memory, and tells how that ended.
 fn run_between_plain_ends(alloc: Global, input: &[u8]) -> Result<(Outcome, PlainSink), Fail>
-    ensures completes { IfOk result (λ ended. (deck : Deck) → length input.now ≤ 8388608 → Spelled input.now deck → ended.1.faults ≡ 0 → HasRan ended.0 ⊎ (ended.0 ≡ Outcome.NoMemory)) }
+    ensures completes { IfOk result (λ ended. (deck : Deck) → length input.now ≤ INPUT_LIMIT
+        → Spelled input.now deck → ended.1.faults ≡ 0
+        → HasRan ended.0 ⊎ (ended.0 ≡ Outcome.NoMemory)) }
 {
     let mut words = Vec::new(alloc);
     words.push(String::from_str(alloc, "run")?)?;
