@@ -99,7 +99,7 @@ pub record Checked (before after : Ends) : Type 0 where
 abbrev pub NothingGiven : Ends → Ends → Type 0
 NothingGiven before after = after.sink ≡ before.sink
 
--- the source failed, and nothing was taken or given behind that
+-- the source failed once, and nothing was given
 pub record SourceFailed (before after : Ends) : Type 0 where
   pub fault : Rose before.source.faults after.source.faults
   pub given : NothingGiven before after
@@ -120,7 +120,7 @@ pub record Refused (before after : Ends) (fault : DeckFault) : Type 0 where
   pub found : FoundNone fault before.source after.source
   pub given : NothingGiven before after
 
--- the input spells a deck, and the sink failed in the middle of the output
+-- the input spells a deck, and the sink failed once, before it had all of the output
 pub record SinkFailed (IsOutput : Deck → List ℕ → Type 0) (before after : Ends) : Type 0 where
   pub deck : Deck
   pub found : FoundDeck deck before.source after.source
@@ -157,7 +157,7 @@ pub record IsFair (before after : Ends) : Type 0 where
   pub source : SpellsDeck before.source after.source
   pub sink : Rose before.sink.faults after.sink.faults → ⊥
 
--- unless memory runs out, such a deck is answered so
+-- unless memory runs out, such a deck is run, or checked
 abbrev pub Completes : (Outcome → Type 0) → Ends → Ends → Outcome → Type 0
 Completes Succeeds before after result =
     IsFair before after → Succeeds result ⊎ (result ≡ outcome.NoMemory)

@@ -54,8 +54,7 @@ GaveFront bytes given given' =
     (front rest : List ℕ) × (bytes ≡ front ++ rest) × (0 < length rest)
     × Appended front given given'
 
--- the sink failed, and was given nothing behind that: it has a front of the bytes, and not all of
--- them
+-- the sink failed once, and has a front of the bytes, and not all of them
 pub record BrokeOff (bytes : List ℕ) (old new : SinkState) : Type 0 where
   pub front : GaveFront bytes old.given new.given
   pub fault : Rose old.faults new.faults

@@ -99,13 +99,6 @@ fn decks_are_read_or_refused(rt: HostRuntime) {
 }
 
 #[test]
-fn a_deck_that_is_cut_is_refused(rt: HostRuntime) {
-    for end in 0..DECK.len() {
-        assert!(rt; !is_read(rt.alloc(), &DECK[..end]), "cut at {end}");
-    }
-}
-
-#[test]
 fn a_key_line_has_at_most_255_bytes(rt: HostRuntime) -> Result<(), Fail> {
     for (count, want) in [(255, true), (256, false)] {
         let mut deck = Vec::new(rt.alloc());
