@@ -1,11 +1,10 @@
 -- What was read, and what a run leaves for its report.
-use Rattle.std.proofs.Common.{◌≡◌, ℕ, suc, true, false, List, ◌∷◌, [], length, map, Option, Some, None, Ok, Err, ◌⊎◌, inl, inr, ⊎_elim, refl, sym, ap, ◌∙◌}
+use Rattle.std.proofs.Common.{◌≡◌, ℕ, suc, true, false, List, ◌∷◌, [], length, map, Option, Some, None, Ok, Err, inl, inr, ⊎_elim, refl, sym, ap, ◌∙◌}
 use Rattle.std.specs.Prelude.{Result, IsOk}
 use Rattle.monitor_calls.specs.declared.calls.Entry.{Entry}
 use Rattle.deck_model.specs.Deck as model
 use Rattle.rsts.specs.declared.decks.Deck.{Deck}
 use Rattle.rsts.specs.declared.decks.Terminal.{Terminal}
-use Rattle.rsts.specs.declared.decks.DeckFault.{DeckFault}
 use Rattle.rsts.specs.declared.outcomes.Outcome.{Outcome}
 use Rattle.rsts.specs.declared.outcomes.Outcome.TheVariants as outcome
 use Rattle.rsts.specs.declared.systems.Stopped.{Stopped}

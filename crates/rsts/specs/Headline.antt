@@ -1,6 +1,6 @@
 -- What the program does. Whoever trusts this file, and the definitions that it names, knows it.
 -- `Does`, at the end, is the one clause of the program's call; what stands before it are its words.
-use Rattle.std.specs.Prelude.{◌≡◌, ℕ, ◌≤◌, List, length, map, slice_get, Option, Some, ◌⊎◌}
+use Rattle.std.specs.Prelude.{◌≡◌, ℕ, ◌≤◌, List, length, map, slice_get, Some, ◌⊎◌}
 use Rattle.monitor_calls.specs.declared.calls.Entry.{Entry}
 use Rattle.monitor_calls.specs.Pairs.{requests, replies}
 use Rattle.monitor_calls.specs.Proper.{Proper}
