@@ -5,4 +5,5 @@ use Rattle.deck_model.specs.Spelling.{Spelled}
 
 -- bytes spell one deck at the most
 abbrev pub OneDeck : Type 0
-OneDeck = (bytes : List ℕ) (deck other : Deck) → Spelled bytes deck → Spelled bytes other → deck ≡ other
+OneDeck =
+    (bytes : List ℕ) (deck other : Deck) → Spelled bytes deck → Spelled bytes other → deck ≡ other

@@ -4,7 +4,8 @@ use Rattle.std.specs.Fmt.{decimal}
 
 -- TERMINAL, the name, and how many bytes its screen has
 abbrev pub head_line : List ℕ → List ℕ → List ℕ
-head_line name screen = codes "TERMINAL " ++ name ++ codes " " ++ decimal (length screen) ++ codes "\n"
+head_line name screen =
+    codes "TERMINAL " ++ name ++ codes " " ++ decimal (length screen) ++ codes "\n"
 
 -- a screen behind its head line, with a LF behind it
 abbrev pub terminal_report : List ℕ → List ℕ → List ℕ
@@ -19,4 +20,5 @@ report (name ∷ names) (screen ∷ screens) = terminal_report name screen ++ re
 -- what a check of a good deck writes: how many accounts, files and terminals it has
 abbrev pub good_line : ℕ → ℕ → ℕ → List ℕ
 good_line accounts files terminals =
-    codes "GOOD " ++ decimal accounts ++ codes " " ++ decimal files ++ codes " " ++ decimal terminals ++ codes "\n"
+    codes "GOOD " ++ decimal accounts ++ codes " " ++ decimal files ++ codes " "
+    ++ decimal terminals ++ codes "\n"

@@ -9,7 +9,9 @@ use Rattle.deck_model.specs.Deck.{Terminal, Deck, IsDeck}
 -- ACCOUNT p,n password limit
 abbrev pub account_line : AccountEntry → List ℕ
 account_line entry =
-    codes "ACCOUNT " ++ decimal entry.account.project ++ codes "," ++ decimal entry.account.programmer ++ codes " " ++ entry.password ++ codes " " ++ decimal entry.limit
+    codes "ACCOUNT " ++ decimal entry.account.project ++ codes ","
+    ++ decimal entry.account.programmer ++ codes " " ++ entry.password ++ codes " "
+    ++ decimal entry.limit
 
 -- DISK blocks
 abbrev pub disk_line : ℕ → List ℕ
@@ -26,7 +28,8 @@ terminal_lines terminal = (codes "TERMINAL " ++ terminal.name) ∷ map key_line 
 -- the lines of a deck, in their order
 abbrev pub deck_lines : Deck → List (List ℕ)
 deck_lines deck =
-    codes "RSTS-DECK 1" ∷ disk_line deck.blocks ∷ (map account_line deck.accounts ++ flat_map terminal_lines deck.terminals ++ codes "END" ∷ [])
+    codes "RSTS-DECK 1" ∷ disk_line deck.blocks
+    ∷ (map account_line deck.accounts ++ flat_map terminal_lines deck.terminals ++ codes "END" ∷ [])
 
 -- the last line has its LF too
 abbrev pub EndsInLine : List ℕ → Type 0

@@ -9,5 +9,7 @@ pub data Asked : Type 0 where
 
 abbrev pub asked : List (List ℕ) → Asked
 asked [] = Nothing
-asked (word ∷ []) = if bytes_eq word (codes "run") then Run else if bytes_eq word (codes "check") then Check else Nothing
+asked (word ∷ []) =
+    if bytes_eq word (codes "run") then Run
+    else if bytes_eq word (codes "check") then Check else Nothing
 asked (word ∷ second ∷ words) = Nothing

@@ -6,7 +6,7 @@ use Rattle.std.proofs.lemmas.List.{append-nil}
 use Rattle.deck_model.specs.Reading.{◌>>=◌, keys_in, all_keys_in, first_line}
 use Rattle.rsts.specs.declared.decks.ReadError.{ReadError}
 use Rattle.rsts.specs.declared.decks.ReadError.TheVariants as errors
-use Rattle.rsts.specs.Decks.{Gives}
+use Rattle.rsts.specs.Decks.{Decides}
 
 -- what was read before, and what is still read
 abbrev pub with_front : List (List ℕ) → Option (List (List ℕ)) → Option (List (List ℕ))
@@ -51,8 +51,8 @@ goes_on front lines line keys others total first no_end h so_far =
     let one : with_front front (all_keys_in lines) ≡ with_front (front ++ keys ∷ []) (all_keys_in others) = rw (first, no_end, h) (regroup front keys (all_keys_in others)) in
     sym one ∙ so_far
 
-pub bad_line : (e : ReadError) (front lines : List (List ℕ)) (line : List ℕ) (others : List (List ℕ)) (total : Option (List (List ℕ))) → lines ≡ line ∷ others → bytes_eq line (codes "END") ≡ false → Gives {X = List ℕ} (λ keys. keys) (Err e) (keys_in line)
-    → with_front front (all_keys_in lines) ≡ total → {X : Type 0} (view : X → List (List ℕ)) → Gives view (Err e) total
+pub bad_line : (e : ReadError) (front lines : List (List ℕ)) (line : List ℕ) (others : List (List ℕ)) (total : Option (List (List ℕ))) → lines ≡ line ∷ others → bytes_eq line (codes "END") ≡ false → Decides {X = List ℕ} (λ keys. keys) (Err e) (keys_in line)
+    → with_front front (all_keys_in lines) ≡ total → {X : Type 0} (view : X → List (List ℕ)) → Decides view (Err e) total
 unfolding all_keys_in
 bad_line errors.Memory front lines line others total first no_end h so_far view = tt
 bad_line errors.Refused front lines line others total first no_end h so_far view =

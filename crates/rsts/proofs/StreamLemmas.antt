@@ -1,8 +1,8 @@
 -- Bytes that are taken or given one part after the other.
 use Rattle.std.proofs.Common.{◌≡◌, ℕ, ◌+◌, ◌≤◌, List, [], ◌++◌, length, take, drop, Option, Some, None, refl, sym, ap, subst, ◌∙◌, append_assoc, arith, ◌-◌, length-drop}
 use Rattle.std.proofs.lemmas.List.{append-nil, take-append-drop, take_all, length-append, length-take-le}
-use Rattle.rsts_io.specs.Ends.{AreNext, IsAtEnd, Appended}
-use Rattle.rsts.specs.Streams.{AreAll, TookNext, GaveFront}
+use Rattle.rsts_io.specs.Ends.{SourceState, SinkState, raised, AreNext, IsAtEnd, Appended}
+use Rattle.rsts.specs.Streams.{AreAll, TookNext, Written, BrokeOff}
 
 pub next_none : (left : Option (List ℕ)) → AreNext [] left left
 next_none None = refl
@@ -18,9 +18,16 @@ next_more a b (Some left) y z p q =
     (r.0, p.1 ∙ ap (λ (t : List ℕ). a ++ t) r.1 ∙ sym (append_assoc a b r.0), r.2)
 
 -- what was taken before, and a buffer's front behind it
-pub took_more : (bytes chunk : List ℕ) (n t t' t'' : ℕ) (x y z : Option (List ℕ)) → t' ≡ t + length bytes → AreNext bytes x y → n ≤ length chunk → AreNext (take n chunk) y z → t'' ≡ t' + n → TookNext t t'' x z
-took_more bytes chunk n t t' t'' x y z before p fits q after =
-    (bytes ++ take n chunk, omega (arith, length-append bytes (take n chunk), length-take-le n chunk fits, before, after), next_more bytes (take n chunk) x y z p q)
+pub took_more : (bytes chunk : List ℕ) (n : ℕ) (old mid new : SourceState) → mid.taken ≡ old.taken + length bytes → AreNext bytes old.left mid.left → n ≤ length chunk → AreNext (take n chunk) mid.left new.left
+    → new.taken ≡ mid.taken + n → new.taken ≤ old.taken + 8388609 → TookNext old new
+took_more bytes chunk n old mid new before p fits q after few =
+    let len : length (bytes ++ take n chunk) ≡ length bytes + n = omega (arith, length-append bytes (take n chunk), length-take-le n chunk fits) in
+    record {
+      bytes = bytes ++ take n chunk;
+      count = omega (arith, len, before, after);
+      most = omega (arith, len, before, after, few);
+      next = next_more bytes (take n chunk) old.left mid.left new.left p q;
+    }
 
 pub all_at_end : (bytes : List ℕ) (x y z : Option (List ℕ)) → AreNext bytes x y → IsAtEnd y → z ≡ y → AreAll bytes x z
 all_at_end bytes None y z p at e = e ∙ p
@@ -37,13 +44,19 @@ given_more a b None y z p q = subst (λ (w : Option (List ℕ)). Appended b w z)
 given_more a b (Some given) y z p q = subst (λ (w : Option (List ℕ)). Appended b w z) p q ∙ ap (λ (t : List ℕ). Some t) (append_assoc given a b)
 
 -- a front of the second part, behind the first
-pub front_behind : (a b : List ℕ) (x y z : Option (List ℕ)) → Appended a x y → GaveFront b y z → GaveFront (a ++ b) x z
-front_behind a b x y z p q =
-    (a ++ q.0, q.1, ap (λ (t : List ℕ). a ++ t) q.2 ∙ sym (append_assoc a q.0 q.1), q.3, given_more a q.0 x y z p q.4)
+pub broke_off_behind : (a b : List ℕ) (old mid new : SinkState) → Written a old mid → BrokeOff b mid new → BrokeOff (a ++ b) old new
+broke_off_behind a b old mid new p q =
+    let f = q.front in
+    record {
+      front = (a ++ f.0, f.1, ap (λ (t : List ℕ). a ++ t) f.2 ∙ sym (append_assoc a f.0 f.1), f.3, given_more a f.0 old.given mid.given new.given p.given f.4);
+      fault = q.fault ∙ ap raised p.no_fault;
+    }
 
 -- a front of the first part is a front of both
-pub front_of_first : (a b : List ℕ) (x y : Option (List ℕ)) → GaveFront a x y → GaveFront (a ++ b) x y
-front_of_first a b x y q = (q.0, q.1 ++ b, ap (λ (t : List ℕ). t ++ b) q.2 ∙ append_assoc q.0 q.1 b, omega (arith, length-append q.1 b, q.3), q.4)
+pub broke_off_first : (a b : List ℕ) (old new : SinkState) → BrokeOff a old new → BrokeOff (a ++ b) old new
+broke_off_first a b old new q =
+    let f = q.front in
+    record { front = (f.0, f.1 ++ b, ap (λ (t : List ℕ). t ++ b) f.2 ∙ append_assoc f.0 f.1 b, omega (arith, length-append f.1 b, f.3), f.4); fault = q.fault }
 
 -- what is left of a piece when more of it was given
 pub goes_on : (piece front rest : List ℕ) (n : ℕ) → piece ≡ front ++ rest → piece ≡ (front ++ take n rest) ++ take (length rest - n) (drop n rest)

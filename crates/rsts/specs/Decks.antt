@@ -17,24 +17,37 @@ terminal_of terminal = record { name = terminal.name; keys = terminal.keys.items
 
 -- a deck without where it lies in memory
 abbrev pub deck_of : Deck → model.Deck
-deck_of deck =
-    record { blocks = deck.volume.blocks; accounts = deck.volume.accounts.items; terminals = map terminal_of deck.terminals.items }
+deck_of deck = record {
+  blocks = deck.volume.blocks;
+  accounts = deck.volume.accounts.items;
+  terminals = map terminal_of deck.terminals.items;
+}
 
 abbrev pub volume_of : Volume → ℕ × List AccountEntry
 volume_of volume = (volume.blocks, volume.accounts.items)
 
 abbrev pub fields_of : Fields → reading.Fields
-fields_of f = record { project = f.project.now; programmer = f.programmer.now; password = f.password.now; limit = f.limit.now }
+fields_of f = record {
+  project = f.project.now;
+  programmer = f.programmer.now;
+  password = f.password.now;
+  limit = f.limit.now;
+}
 
 abbrev pub head_of : Head → reading.Head
-head_of head =
-    record { version = head.version.now; disk = head.disk.now; account = head.account.now; terminal = head.terminal.now; rest = lines head.rest.now }
+head_of head = record {
+  version = head.version.now;
+  disk = head.disk.now;
+  account = head.account.now;
+  terminal = head.terminal.now;
+  rest = lines head.rest.now;
+}
 
 -- what was answered, seen by view, is what reading finds, unless memory ran out
-abbrev pub Gives : {X Y : Type 0} → (X → Y) → Result X ReadError → Option Y → Type 0
-Gives view (Ok x) read = read ≡ Some (view x)
-Gives view (Err errors.Memory) read = ⊤
-Gives view (Err errors.Refused) read = read ≡ None
+abbrev pub Decides : {X Y : Type 0} → (X → Y) → Result X ReadError → Option Y → Type 0
+Decides view (Ok x) read = read ≡ Some (view x)
+Decides view (Err errors.Memory) read = ⊤
+Decides view (Err errors.Refused) read = read ≡ None
 
 abbrev pub names_of : List Terminal → List (List ℕ)
 names_of terminals = map (λ (terminal : Terminal). terminal.name) terminals

@@ -1,5 +1,6 @@
 -- What the program does. Whoever trusts this file, and the definitions that it names, knows it.
-use Rattle.std.specs.Prelude.{◌≡◌, ℕ, suc, ◌+◌, ◌≤◌, List, [], ◌∷◌, length, map, Option, Some, ◌⊎◌}
+-- `Does`, at the end, is the one clause of the program's call; what stands before it are its words.
+use Rattle.std.specs.Prelude.{◌≡◌, ℕ, ◌≤◌, List, length, map, slice_get, Some, ◌⊎◌}
 use Rattle.monitor_calls.specs.declared.calls.Entry.{Entry}
 use Rattle.monitor_calls.specs.Pairs.{requests, replies}
 use Rattle.monitor_calls.specs.Proper.{Proper}
@@ -9,161 +10,207 @@ use Rattle.job_model.specs.Talk.{IsTalk}
 use Rattle.deck_model.specs.Deck.{Deck, Terminal}
 use Rattle.deck_model.specs.Spelling.{Spelled}
 use Rattle.deck_model.specs.Report.{report, good_line}
-use Rattle.rsts_io.specs.Ends.{Rose, Appended}
+use Rattle.deck_model.specs.Words.{Asked, Run, Check, Nothing}
+use Rattle.rsts_io.specs.Ends.{SourceState, SinkState, Rose}
 use Rattle.rsts.specs.declared.decks.DeckFault.{DeckFault}
 use Rattle.rsts.specs.declared.decks.DeckCause.TheVariants.{Stage}
 use Rattle.rsts.specs.declared.outcomes.Outcome.{Outcome}
 use Rattle.rsts.specs.declared.outcomes.Outcome.TheVariants as outcome
-use Rattle.rsts.specs.Outcomes.{IfDeck, OnReadFault, OnTooLong, OnWriteFault, OnNoMemory}
-use Rattle.rsts.specs.Streams.{AreAll, GaveFront}
+use Rattle.rsts.specs.declared.streams.TheConstants.{INPUT_LIMIT}
+use Rattle.rsts.specs.Outcomes.{IfRan, OnChecked, OnUsage, IfDeck, OnReadFault, OnTooLong, OnWriteFault, OnNoMemory}
+use Rattle.rsts.specs.Streams.{IsInput, IsOverLimit, IsTooMuch, Written, BrokeOff}
 
--- The two ends of the program, before a call and behind it: the bytes that the source has left and how many were taken,
--- the bytes that the sink was given, and how often each has failed.
+-- THE TWO ENDS
+-- The program reads a source and writes to a sink. What they were before a call and what they are
+-- after it is all that is said of them.
+
 pub record Ends : Type 0 where
-  pub left : Option (List ℕ)
-  pub left' : Option (List ℕ)
-  pub taken : ℕ
-  pub taken' : ℕ
-  pub read_faults : ℕ
-  pub read_faults' : ℕ
-  pub given : Option (List ℕ)
-  pub given' : Option (List ℕ)
-  pub write_faults : ℕ
-  pub write_faults' : ℕ
+  pub source : SourceState
+  pub sink : SinkState
 
-abbrev pub ends : {S K : Type 0} → (S → Option (List ℕ)) → (S → ℕ) → (S → ℕ) → S → S → (K → Option (List ℕ)) → (K → ℕ) → K → K → Ends
-ends left taken read_faults source source' given write_faults sink sink' = record {
-  left = left source;
-  left' = left source';
-  taken = taken source;
-  taken' = taken source';
-  read_faults = read_faults source;
-  read_faults' = read_faults source';
-  given = given sink;
-  given' = given sink';
-  write_faults = write_faults sink;
-  write_faults' = write_faults sink';
-}
+abbrev pub ends : SourceState → SinkState → Ends
+ends source sink = record { source = source; sink = sink }
 
--- THE HEADLINE
+-- A RUN OF A DECK
 
--- each terminal's part of the history, by its number, is what its talk makes, and its screen is what the talk shows; each
--- talk is that of a judge of lines that judges by the grammar
-abbrev pub AllTalk : List Entry → ℕ → List Terminal → List (List ℕ) → Type 0
-AllTalk history job [] screens = screens ≡ []
-AllTalk history job (terminal ∷ terminals) [] = ⊥
-AllTalk history job (terminal ∷ terminals) (screen ∷ screens) =
-    IsTalk terminal.keys (replies (part_of job history)) (requests (part_of job history)) screen × AllTalk history (suc job) terminals screens
+-- a job's part of the history is what the terminal's talk makes, and the screen is what it shows
+abbrev pub HasTalked : List Entry → ℕ → Terminal → List ℕ → Type 0
+HasTalked history job terminal screen =
+    IsTalk terminal.keys (replies (part_of job history)) (requests (part_of job history)) screen
 
--- a run of a deck: the monitor answered one call at a time, from the deck's opening state, and each job asked what its
--- terminal's keys make given the replies
+-- there are as many screens as terminals, and at each place the terminal has talked so, as the job
+-- of that number
+pub record AllTalk (history : List Entry) (terminals : List Terminal) (screens : List (List ℕ))
+    : Type 0 where
+  pub as_many : length screens ≡ length terminals
+  pub each : (j : ℕ) (terminal : Terminal) (screen : List ℕ) → slice_get terminals j ≡ Some terminal
+      → slice_get screens j ≡ Some screen → HasTalked history j terminal screen
+
+-- the monitor answered one call at a time, from the deck's opening state, and each job asked what
+-- its terminal's keys make given the replies
 pub record IsRun (deck : Deck) (history : List Entry) (screens : List (List ℕ)) : Type 0 where
   pub legal : Legal (monitor.opening deck.accounts deck.blocks (length deck.terminals)) history
   pub proper : Proper history
-  pub talks : AllTalk history 0 deck.terminals screens
+  pub talks : AllTalk history deck.terminals screens
 
 abbrev pub names_in : Deck → List (List ℕ)
 names_in deck = map (λ (terminal : Terminal). terminal.name) deck.terminals
 
--- the input was read to its end, and these bytes were the whole of it
-pub record IsInput (e : Ends) (read : List ℕ) : Type 0 where
-  pub all : AreAll read e.left e.left'
-  pub count : e.taken' ≡ e.taken + length read
-  pub most : length read ≤ 8388608
-
--- the input spells a deck, the history is one of a run of it, and what was written is the report of that run
-pub record Headline (e : Ends) (history : List Entry) : Type 0 where
-  pub read : List ℕ
-  pub deck : Deck
+-- the report of a run of the deck with this history
+pub record Reports (deck : Deck) (history : List Entry) (output : List ℕ) : Type 0 where
   pub screens : List (List ℕ)
-  pub input : IsInput e read
-  pub spelled : Spelled read deck
   pub run : IsRun deck history screens
-  pub written : Appended (report (names_in deck) screens) e.given e.given'
+  pub reported : output ≡ report (names_in deck) screens
 
--- what a run of the deck may write, and what a check of it writes
+-- what a run of the deck may write
 abbrev pub IsReport : Deck → List ℕ → Type 0
-IsReport deck output =
-    (history : List Entry) × (screens : List (List ℕ)) × IsRun deck history screens × (output ≡ report (names_in deck) screens)
+IsReport deck output = (history : List Entry) × Reports deck history output
 
+-- what a check of the deck writes
 abbrev pub IsGoodLine : Deck → List ℕ → Type 0
 IsGoodLine deck output = output ≡ good_line (length deck.accounts) 0 (length deck.terminals)
 
--- the input spells a deck, and what was written says so
-pub record Checked (e : Ends) : Type 0 where
+-- THE HEADLINE
+
+-- the input was read whole, and spells the deck
+pub record FoundDeck (deck : Deck) (old new : SourceState) : Type 0 where
   pub read : List ℕ
-  pub deck : Deck
-  pub input : IsInput e read
+  pub input : IsInput read old new
   pub spelled : Spelled read deck
-  pub written : Appended (good_line (length deck.accounts) 0 (length deck.terminals)) e.given e.given'
+
+-- the input spells a deck, and what was written is the report of a run of it with this history
+pub record Headline (before after : Ends) (history : List Entry) : Type 0 where
+  pub deck : Deck
+  pub output : List ℕ
+  pub found : FoundDeck deck before.source after.source
+  pub reports : Reports deck history output
+  pub written : Written output before.sink after.sink
+
+-- the input spells a deck, and what was written says so
+pub record Checked (before after : Ends) : Type 0 where
+  pub deck : Deck
+  pub output : List ℕ
+  pub found : FoundDeck deck before.source after.source
+  pub is_good_line : IsGoodLine deck output
+  pub written : Written output before.sink after.sink
 
 -- THE CAUSES OF EVERY OTHER ANSWER
 
-abbrev pub NothingGiven : Ends → Type 0
-NothingGiven e = e.given' ≡ e.given
+abbrev pub NothingGiven : Ends → Ends → Type 0
+NothingGiven before after = after.sink ≡ before.sink
 
-abbrev pub Untouched : Ends → Type 0
-Untouched e = (e.left' ≡ e.left) × (e.taken' ≡ e.taken) × NothingGiven e
+-- the source failed once, and nothing was given
+pub record SourceFailed (before after : Ends) : Type 0 where
+  pub fault : Rose before.source.faults after.source.faults
+  pub given : NothingGiven before after
 
--- the source failed
-abbrev pub ReadFaultComes : Ends → Outcome → Type 0
-ReadFaultComes e result = OnReadFault result (Rose e.read_faults e.read_faults' × NothingGiven e)
+-- one byte more than an input may have was taken
+pub record InputTooLong (before after : Ends) : Type 0 where
+  pub taken : IsTooMuch before.source after.source
+  pub given : NothingGiven before after
 
--- one byte more than the limit was taken
-abbrev pub TooLongComes : Ends → Outcome → Type 0
-TooLongComes e result = OnTooLong result ((e.taken' ≡ e.taken + 8388609) × NothingGiven e)
-
--- the input was read to its end, and spells no deck
-pub record Refused (e : Ends) (fault : DeckFault) : Type 0 where
+-- the input was read whole, and spells no deck
+pub record FoundNone (fault : DeckFault) (old new : SourceState) : Type 0 where
   pub fault_is : fault ≡ record { line = 0; cause = Stage }
   pub read : List ℕ
-  pub input : IsInput e read
+  pub input : IsInput read old new
   pub none : (deck : Deck) → Spelled read deck → ⊥
-  pub given : NothingGiven e
 
-abbrev pub DeckComes : Ends → Outcome → Type 0
-DeckComes e result = IfDeck result (λ fault. Refused e fault)
+pub record Refused (before after : Ends) (fault : DeckFault) : Type 0 where
+  pub found : FoundNone fault before.source after.source
+  pub given : NothingGiven before after
 
--- the sink failed behind a proper front of the output
-pub record WriteFailed (e : Ends) (IsOutput : Deck → List ℕ → Type 0) : Type 0 where
-  pub rose : Rose e.write_faults e.write_faults'
-  pub read : List ℕ
+-- the input spells a deck, and the sink failed once, before it had all of the output
+pub record SinkFailed (IsOutput : Deck → List ℕ → Type 0) (before after : Ends) : Type 0 where
   pub deck : Deck
-  pub input : IsInput e read
-  pub spelled : Spelled read deck
+  pub found : FoundDeck deck before.source after.source
   pub output : List ℕ
   pub is_output : IsOutput deck output
-  pub front : GaveFront output e.given e.given'
+  pub broke_off : BrokeOff output before.sink after.sink
 
-abbrev pub WriteFaultComes : Ends → (Deck → List ℕ → Type 0) → Outcome → Type 0
-WriteFaultComes e IsOutput result = OnWriteFault result (WriteFailed e IsOutput)
-
-abbrev pub NoMemoryComes : Ends → Outcome → Type 0
-NoMemoryComes e result = OnNoMemory result (NothingGiven e)
+-- memory ran out, and no end failed
+pub record WantedMemory (before after : Ends) : Type 0 where
+  pub no_fault : after.source.faults ≡ before.source.faults
+  pub given : NothingGiven before after
 
 -- WHAT MUST COME
 
-abbrev pub Quiet : ℕ → ℕ → Type 0
-Quiet faults faults' = Rose faults faults' → ⊥
+-- the source tells its bytes, they are no more than an input may have, and it does not fail
+pub record IsTold (read : List ℕ) (old new : SourceState) : Type 0 where
+  pub told : old.left ≡ Some read
+  pub most : length read ≤ INPUT_LIMIT
+  pub no_fault : Rose old.faults new.faults → ⊥
 
--- an input that spells a deck, between ends that do not fail, is answered so, unless memory runs out
-abbrev pub Completes : Ends → Outcome → (Outcome → Type 0) → Type 0
-Completes e result Succeeds =
-    Quiet e.read_faults e.read_faults' → Quiet e.write_faults e.write_faults' → (read : List ℕ) (deck : Deck) → e.left ≡ Some read → length read ≤ 8388608 → Spelled read deck
-    → Succeeds result ⊎ (result ≡ outcome.NoMemory)
+pub record SpellsDeck (old new : SourceState) : Type 0 where
+  pub read : List ℕ
+  pub deck : Deck
+  pub told : IsTold read old new
+  pub spelled : Spelled read deck
 
--- an input that spells none is refused, unless memory runs out
-abbrev pub Refuses : Ends → Outcome → Type 0
-Refuses e result =
-    Quiet e.read_faults e.read_faults' → (read : List ℕ) → e.left ≡ Some read → length read ≤ 8388608 → ((deck : Deck) → Spelled read deck → ⊥)
+pub record SpellsNone (old new : SourceState) : Type 0 where
+  pub read : List ℕ
+  pub told : IsTold read old new
+  pub none : (deck : Deck) → Spelled read deck → ⊥
+
+-- a deck between ends that do not fail
+pub record IsFair (before after : Ends) : Type 0 where
+  pub source : SpellsDeck before.source after.source
+  pub sink : Rose before.sink.faults after.sink.faults → ⊥
+
+-- unless memory runs out, such a deck is run, or checked
+abbrev pub Completes : (Outcome → Type 0) → Ends → Ends → Outcome → Type 0
+Completes Succeeds before after result =
+    IsFair before after → Succeeds result ⊎ (result ≡ outcome.NoMemory)
+
+-- unless memory runs out, an input that spells none is refused
+abbrev pub Refuses : Ends → Ends → Outcome → Type 0
+Refuses before after result =
+    SpellsNone before.source after.source
     → ((fault : DeckFault) × (result ≡ outcome.Deck fault)) ⊎ (result ≡ outcome.NoMemory)
 
--- one byte more than the limit is too long
-abbrev pub IsTooLong : Ends → Outcome → Type 0
-IsTooLong e result = e.taken' ≡ e.taken + 8388609 → result ≡ outcome.TooLong
+-- one byte more than an input may have is too much
+abbrev pub EndsTooLong : Ends → Ends → Outcome → Type 0
+EndsTooLong before after result = IsOverLimit before.source after.source → result ≡ outcome.TooLong
 
 abbrev pub HasRan : Outcome → Type 0
 HasRan result = (history : List Entry) × (result ≡ outcome.Ok history)
 
 abbrev pub HasChecked : Outcome → Type 0
 HasChecked result = result ≡ outcome.Checked
+
+-- WHAT THE PROGRAM DOES
+
+-- what a run and a check have in common: what they may write, how they succeed, the cause of every
+-- other answer, and what must come
+pub record Answers (IsOutput : Deck → List ℕ → Type 0) (Succeeds : Outcome → Type 0)
+    (before after : Ends) (result : Outcome) : Type 0 where
+  pub not_usage : OnUsage result ⊥
+  pub read_fault : OnReadFault result (SourceFailed before after)
+  pub too_long : OnTooLong result (InputTooLong before after)
+  pub deck : IfDeck result (Refused before after)
+  pub write_fault : OnWriteFault result (SinkFailed IsOutput before after)
+  pub no_memory : OnNoMemory result (WantedMemory before after)
+  pub must_be_too_long : EndsTooLong before after result
+  pub must_refuse : Refuses before after result
+  pub completes : Completes Succeeds before after result
+
+pub record Runs (before after : Ends) (result : Outcome) : Type 0 where
+  pub ran : IfRan result (Headline before after)
+  pub not_checked : OnChecked result ⊥
+  pub answers : Answers IsReport HasRan before after result
+
+pub record Checks (before after : Ends) (result : Outcome) : Type 0 where
+  pub checked : OnChecked result (Checked before after)
+  pub not_ran : IfRan result (λ history. ⊥)
+  pub answers : Answers IsGoodLine HasChecked before after result
+
+-- nothing was read and nothing was written
+pub record TellsUsage (before after : Ends) (result : Outcome) : Type 0 where
+  pub usage : result ≡ outcome.Usage
+  pub untouched : after ≡ before
+
+-- as the words ask, a deck is run or checked, or the usage is told
+abbrev pub Does : Asked → Ends → Ends → Outcome → Type 0
+Does Run before after result = Runs before after result
+Does Check before after result = Checks before after result
+Does Nothing before after result = TellsUsage before after result

@@ -1,19 +1,15 @@
--- What reading a deck from a source answers, and what a run of it leaves.
-use Rattle.std.specs.Prelude.{◌≡◌, ℕ, ◌+◌, ◌≤◌, List, length, Option, Some, Result, Err, IsOk, ◌⊎◌}
-use Rattle.monitor_calls.specs.declared.calls.Entry.{Entry}
-use Rattle.deck_model.specs.Deck as model
-use Rattle.deck_model.specs.Spelling.{Spelled}
-use Rattle.deck_model.specs.Report.{report}
-use Rattle.rsts_io.specs.Ends.{Rose}
+-- What reading a deck from a source answers.
+use Rattle.std.specs.Prelude.{◌≡◌, Result, Ok, Err, IsOk, ◌⊎◌}
+use Rattle.rsts_io.specs.Ends.{SourceState, Rose}
 use Rattle.rsts.specs.declared.decks.Deck.{Deck}
 use Rattle.rsts.specs.declared.decks.DeckFault.{DeckFault}
-use Rattle.rsts.specs.declared.decks.DeckCause.TheVariants.{Stage}
 use Rattle.rsts.specs.declared.outcomes.Outcome.{Outcome}
 use Rattle.rsts.specs.declared.outcomes.Outcome.TheVariants as outcome
 use Rattle.rsts.specs.declared.systems.Stopped.{Stopped}
 use Rattle.rsts.specs.declared.systems.Stopped.TheVariants as stopped
-use Rattle.rsts.specs.Headline.{IsRun, names_in, Quiet}
-use Rattle.rsts.specs.Streams.{AreAll}
+use Rattle.rsts.specs.Decks.{deck_of}
+use Rattle.rsts.specs.Headline.{FoundDeck, FoundNone, SpellsDeck, SpellsNone}
+use Rattle.rsts.specs.Streams.{IsOverLimit, IsTooMuch}
 
 abbrev pub outcome_of : Stopped → Outcome
 outcome_of stopped.ReadFault = outcome.ReadFault
@@ -21,43 +17,26 @@ outcome_of stopped.TooLong = outcome.TooLong
 outcome_of (stopped.Deck fault) = outcome.Deck fault
 outcome_of stopped.NoMemory = outcome.NoMemory
 
--- the whole input, read to its end
-pub record WholeInput (read : List ℕ) (left left' : Option (List ℕ)) (taken taken' : ℕ) : Type 0 where
-  pub all : AreAll read left left'
-  pub count : taken' ≡ taken + length read
-  pub most : length read ≤ 8388608
+abbrev pub WhyStopped : Stopped → SourceState → SourceState → Type 0
+WhyStopped stopped.ReadFault old new = Rose old.faults new.faults
+WhyStopped stopped.TooLong old new = IsTooMuch old new
+WhyStopped (stopped.Deck fault) old new = FoundNone fault old new
+WhyStopped stopped.NoMemory old new = new.faults ≡ old.faults
 
-pub record FoundDeck (deck : model.Deck) (left left' : Option (List ℕ)) (taken taken' : ℕ) : Type 0 where
-  pub read : List ℕ
-  pub input : WholeInput read left left' taken taken'
-  pub spelled : Spelled read deck
+-- a deck, or why there is none
+abbrev pub Found : Result Deck Stopped → SourceState → SourceState → Type 0
+Found (Ok deck) old new = FoundDeck (deck_of deck) old new
+Found (Err why) old new = WhyStopped why old new
 
-pub record FoundNone (fault : DeckFault) (left left' : Option (List ℕ)) (taken taken' : ℕ) : Type 0 where
-  pub fault_is : fault ≡ record { line = 0; cause = Stage }
-  pub read : List ℕ
-  pub input : WholeInput read left left' taken taken'
-  pub none : (deck : model.Deck) → Spelled read deck → ⊥
+-- unless memory runs out: too much stops the reading, a deck is found, and where there is none that
+-- is told
+abbrev pub MustStop : Result Deck Stopped → SourceState → SourceState → Type 0
+MustStop result old new = IsOverLimit old new → result ≡ Err stopped.TooLong
 
-abbrev pub WhyStopped : Stopped → Option (List ℕ) → Option (List ℕ) → ℕ → ℕ → ℕ → ℕ → Type 0
-WhyStopped stopped.ReadFault left left' taken taken' faults faults' = Rose faults faults'
-WhyStopped stopped.TooLong left left' taken taken' faults faults' = taken' ≡ taken + 8388609
-WhyStopped (stopped.Deck fault) left left' taken taken' faults faults' = FoundNone fault left left' taken taken'
-WhyStopped stopped.NoMemory left left' taken taken' faults faults' = Unit {0}
+abbrev pub MustFind : Result Deck Stopped → SourceState → SourceState → Type 0
+MustFind result old new = SpellsDeck old new → IsOk result ⊎ (result ≡ Err stopped.NoMemory)
 
-abbrev pub MustStop : ℕ → ℕ → Result Deck Stopped → Type 0
-MustStop taken taken' result = taken' ≡ taken + 8388609 → result ≡ Err stopped.TooLong
-
-abbrev pub MustFind : Option (List ℕ) → ℕ → ℕ → Result Deck Stopped → Type 0
-MustFind left faults faults' result =
-    Quiet faults faults' → (read : List ℕ) (deck : model.Deck) → left ≡ Some read → length read ≤ 8388608 → Spelled read deck → IsOk result ⊎ (result ≡ Err stopped.NoMemory)
-
-abbrev pub MustRefuse : Option (List ℕ) → ℕ → ℕ → Result Deck Stopped → Type 0
-MustRefuse left faults faults' result =
-    Quiet faults faults' → (read : List ℕ) → left ≡ Some read → length read ≤ 8388608 → ((deck : model.Deck) → Spelled read deck → ⊥)
-    → ((fault : DeckFault) × (result ≡ Err (stopped.Deck fault))) ⊎ (result ≡ Err stopped.NoMemory)
-
--- a run of the deck, and the bytes of its report
-pub record RunAndReport (deck : model.Deck) (history : List Entry) (output : List ℕ) : Type 0 where
-  pub screens : List (List ℕ)
-  pub run : IsRun deck history screens
-  pub reported : output ≡ report (names_in deck) screens
+abbrev pub MustRefuse : Result Deck Stopped → SourceState → SourceState → Type 0
+MustRefuse result old new =
+    SpellsNone old new → ((fault : DeckFault) × (result ≡ Err (stopped.Deck fault)))
+    ⊎ (result ≡ Err stopped.NoMemory)

@@ -1,17 +1,60 @@
 -- What was read from a source, and what was given to a sink.
-use Rattle.std.specs.Prelude.{◌≡◌, ℕ, ◌+◌, ◌<◌, List, [], ◌++◌, length, Option, Some, None}
-use Rattle.rsts_io.specs.Ends.{AreNext, Appended}
+use Rattle.std.specs.Prelude.{◌≡◌, ℕ, ◌+◌, ◌<◌, ◌≤◌, List, [], ◌++◌, length, Option, Some, None, Result, Ok, Err}
+use Rattle.std.specs.Global.{Vec}
+use Rattle.rsts_io.specs.Ends.{SourceState, SinkState, Rose, AreNext, Appended}
+use Rattle.rsts.specs.declared.streams.ReadEnd.{ReadEnd}
+use Rattle.rsts.specs.declared.streams.ReadEnd.TheVariants as end
+use Rattle.rsts.specs.declared.streams.TheConstants.{INPUT_LIMIT}
 
 -- the bytes were all that was left, where that is told
 abbrev pub AreAll : List ℕ → Option (List ℕ) → Option (List ℕ) → Type 0
 AreAll bytes None after = after ≡ None
 AreAll bytes (Some left) after = (left ≡ bytes) × (after ≡ Some [])
 
--- so many bytes were taken, the next of what was left, where that is told
-abbrev pub TookNext : ℕ → ℕ → Option (List ℕ) → Option (List ℕ) → Type 0
-TookNext taken taken' left left' = (bytes : List ℕ) × (taken' ≡ taken + length bytes) × AreNext bytes left left'
+-- the source was read to its end and did not fail, and these bytes are what it had: no more than an
+-- input may have
+pub record IsInput (read : List ℕ) (old new : SourceState) : Type 0 where
+  pub all : AreAll read old.left new.left
+  pub count : new.taken ≡ old.taken + length read
+  pub most : length read ≤ INPUT_LIMIT
+  pub no_fault : new.faults ≡ old.faults
+
+-- one byte more than an input may have was taken
+abbrev pub IsOverLimit : SourceState → SourceState → Type 0
+IsOverLimit old new = new.taken ≡ old.taken + (INPUT_LIMIT + 1)
+
+-- and the source did not fail
+pub record IsTooMuch (old new : SourceState) : Type 0 where
+  pub count : IsOverLimit old new
+  pub no_fault : new.faults ≡ old.faults
+
+-- how reading a source ends
+abbrev pub ReadSo : Result (Vec ℕ) ReadEnd → SourceState → SourceState → Type 0
+ReadSo (Ok bytes) old new = IsInput bytes.items old new
+ReadSo (Err end.Fault) old new = Rose old.faults new.faults
+ReadSo (Err end.TooLong) old new = IsTooMuch old new
+ReadSo (Err end.NoMemory) old new = new.faults ≡ old.faults
+
+-- what was taken stood next, where that is told, and is at most one byte more than an input may
+-- have
+pub record TookNext (old new : SourceState) : Type 0 where
+  pub bytes : List ℕ
+  pub count : new.taken ≡ old.taken + length bytes
+  pub most : length bytes ≤ INPUT_LIMIT + 1
+  pub next : AreNext bytes old.left new.left
+
+-- the bytes were given, and the sink did not fail
+pub record Written (bytes : List ℕ) (old new : SinkState) : Type 0 where
+  pub given : Appended bytes old.given new.given
+  pub no_fault : new.faults ≡ old.faults
 
 -- a front of the bytes was given, and not all of them
 abbrev pub GaveFront : List ℕ → Option (List ℕ) → Option (List ℕ) → Type 0
 GaveFront bytes given given' =
-    (front rest : List ℕ) × (bytes ≡ front ++ rest) × (0 < length rest) × Appended front given given'
+    (front rest : List ℕ) × (bytes ≡ front ++ rest) × (0 < length rest)
+    × Appended front given given'
+
+-- the sink failed once, and has a front of the bytes, and not all of them
+pub record BrokeOff (bytes : List ℕ) (old new : SinkState) : Type 0 where
+  pub front : GaveFront bytes old.given new.given
+  pub fault : Rose old.faults new.faults

@@ -7,10 +7,10 @@ ghost use Rattle.deck_model.specs.Deck as model;
 ghost use Rattle.deck_model.specs.Spelling.{Spelled};
 ghost use Rattle.deck_model.specs.Reading.{fields_in, entry_in, blocks_in, name_in, keys_in, all_keys_in, head_in, volume_in, deck_at};
 ghost use Rattle.rsts.specs.Lines.{Finds, IsWhole};
-ghost use Rattle.rsts.specs.Decks.{Gives, deck_of, volume_of, fields_of, head_of};
+ghost use Rattle.rsts.specs.Decks.{Decides, deck_of, volume_of, fields_of, head_of};
 
 use crate::lines::{behind, cut, next_line};
-use basic_values::{KeyLine, NoMemory, Trouble, number_between};
+use basic_values::{KeyLine, LINE_LENGTH, NoMemory, Trouble, number_between};
 use monitor_calls::{Account, AccountEntry, Short, TerminalName, Volume};
 use std::alloc::{AllocError, AllocFailed, Global};
 
@@ -103,7 +103,9 @@ pub fn read_deck(alloc: Global, bytes: &[u8]) -> Result<Deck, Trouble<DeckFault>
     // What is read is spelled so.
     ensures found { IfOk result (λ deck. Spelled bytes.now (deck_of deck)) }
     // What is refused is the spelling of no deck.
-    ensures refused { (f : _) → result ≡ Err (Trouble.Refused f) → (f ≡ record { line = 0; cause = DeckCause.Stage }) × ((d : model.Deck) → Spelled bytes.now d → ⊥) }
+    ensures refused { (f : _) → result ≡ Err (Trouble.Refused f)
+        → (f ≡ record { line = 0; cause = DeckCause.Stage })
+        × ((d : model.Deck) → Spelled bytes.now d → ⊥) }
 {
     match deck_at(alloc, bytes) {
         Ok(deck) => Ok(deck),
@@ -117,7 +119,7 @@ pub fn read_deck(alloc: Global, bytes: &[u8]) -> Result<Deck, Trouble<DeckFault>
 
 #[tactic(auto, unfolding(deck_model::specs::Reading::deck_at, deck_model::specs::Reading::deck_in))]
 fn deck_at(alloc: Global, bytes: &[u8]) -> Result<Deck, ReadError>
-    ensures { Gives deck_of result (deck_at bytes.now) }
+    ensures { Decides deck_of result (deck_at bytes.now) }
 {
     if bytes.last() != Some(&b'\n') {
         return Err(ReadError::Refused);
@@ -152,7 +154,7 @@ fn head_of(bytes: &[u8]) -> Option<Head<'_>>
 
 #[tactic(auto, unfolding(deck_model::specs::Reading::volume_in))]
 fn volume_of(alloc: Global, head: &Head<'_>) -> Result<Volume, ReadError>
-    ensures { Gives volume_of result (volume_in (head_of head.now)) }
+    ensures { Decides volume_of result (volume_in (head_of head.now)) }
 {
     let blocks = blocks_of(head.disk).ok_or(ReadError::Refused)?;
     let fields = fields_of(head.account).ok_or(ReadError::Refused)?;
@@ -169,7 +171,8 @@ fn volume_of(alloc: Global, head: &Head<'_>) -> Result<Volume, ReadError>
 
 /// Whether the version is the one that is read, and a monitor can open from the volume.
 fn can_open(version: &[u8], volume: &Volume) -> bool
-    ensures { result ≡ (bytes_eq version.now (codes "RSTS-DECK 1") && is_good_volume volume.now.blocks volume.now.accounts.items) }
+    ensures { result ≡ (bytes_eq version.now (codes "RSTS-DECK 1")
+        && is_good_volume volume.now.blocks volume.now.accounts.items) }
 {
     version == b"RSTS-DECK 1".as_slice() && volume.is_good()
 }
@@ -223,17 +226,17 @@ fn name_of(line: &[u8]) -> Option<TerminalName>
 }
 
 fn keys_of(alloc: Global, line: &[u8]) -> Result<KeyLine, ReadError>
-    ensures { Gives (λ keys. keys) result (keys_in line.now) }
+    ensures { Decides (λ keys. keys) result (keys_in line.now) }
 {
     match behind(b">", line) {
-        Some(keys) if keys.len() <= 255 => Ok(KeyLine::of(alloc, keys)?),
+        Some(keys) if keys.len() <= LINE_LENGTH => Ok(KeyLine::of(alloc, keys)?),
         _ => Err(ReadError::Refused),
     }
 }
 
 fn all_keys_of(alloc: Global, bytes: &[u8]) -> Result<Vec<KeyLine>, ReadError>
     requires { IsWhole bytes.now }
-    ensures { Gives (λ keys. keys.items) result (all_keys_in (lines bytes.now)) }
+    ensures { Decides (λ keys. keys.items) result (all_keys_in (lines bytes.now)) }
 {
     let mut keys = Vec::new(alloc);
     let mut rest = bytes;

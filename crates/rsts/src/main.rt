@@ -1,4 +1,11 @@
 //! The program: time sharing after RSTS/E, with BASIC-PLUS jobs.
+//!
+//! `top::rsts_main` carries the program's promise: its one clause is `Does` of `specs/Headline`.
+//! `streams` reads a source and gives to a sink, `lines` and `decks` read a deck, `runs` runs it,
+//! `reports` spells what is written, `systems` puts these together, `words` tells what is asked,
+//! and `outcomes` the status. It stands on `command_level`, for the session, on `monitor_core`, for
+//! the monitor, and on `rsts_io`, for the ends; what they mean stands in `job_model`,
+//! `monitor_model` and `deck_model`.
 #![tactic(auto)]
 
 mod decks;
@@ -18,7 +25,8 @@ use std::process::ExitCode;
 use std::rt::Env;
 use std::{env, io, str};
 
-/// Calls the top call with standard input and output, says on standard error how it ended, and ends with its status.
+/// Calls the top call with standard input and output, says on standard error how it ended, and ends
+/// with its status.
 fn main(rt: HostRuntime) -> ExitCode {
     let outcome = match words_of(&rt) {
         Ok(words) => rsts_main(

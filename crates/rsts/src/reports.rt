@@ -60,6 +60,3 @@ pub fn good_line(
     out.push(b'\n')?;
     Ok(out)
 }
-
-#[cfg(test)]
-mod tests;

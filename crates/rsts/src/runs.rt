@@ -75,7 +75,8 @@ fn run_terminal<P: Pacer>(
     requires { port.history ≡ [] }
     ensures legal { IfOk result (λ ran. Legal port.opening ran.1) }
     ensures proper { IfOk result (λ ran. Proper ran.1) }
-    ensures talk { IfOk result (λ ran. IsTalk terminal.now.keys.items (replies (part_of port.job ran.1)) (requests (part_of port.job ran.1)) ran.0) }
+    ensures talk { IfOk result (λ ran. IsTalk terminal.now.keys.items
+        (replies (part_of port.job ran.1)) (requests (part_of port.job ran.1)) ran.0) }
 {
     let mut port = PacedPort {
         port,

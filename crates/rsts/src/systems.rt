@@ -1,11 +1,10 @@
 //! What a run and a check do: a deck is read, and what there is to say of it is written.
 
-ghost use Rattle.std.specs.Prelude.{◌≡◌, ◌≤◌, Err, IfOk, IfErr};
+ghost use Rattle.std.specs.Prelude.{◌≡◌, IfOk};
 ghost use Rattle.deck_model.specs.Deck.{IsDeck};
 ghost use Rattle.rsts.specs.Decks.{deck_of};
-ghost use Rattle.rsts.specs.Headline.{ends, Headline, Checked, IsReport, IsGoodLine, ReadFaultComes, TooLongComes, DeckComes, WriteFaultComes, NoMemoryComes, Completes, Refuses, IsTooLong, HasRan, HasChecked};
-ghost use Rattle.rsts.specs.Outcomes.{IfRan, OnChecked, OnUsage};
-ghost use Rattle.rsts.specs.Readings.{FoundDeck, WhyStopped, MustFind, MustRefuse, MustStop, outcome_of, RunAndReport};
+ghost use Rattle.rsts.specs.Headline.{ends, Reports, Runs, Checks};
+ghost use Rattle.rsts.specs.Readings.{Found, MustFind, MustRefuse, MustStop, outcome_of};
 
 use crate::decks::{Deck, DeckFault, read_deck};
 use crate::outcomes::Outcome;
@@ -46,17 +45,8 @@ pub(crate) fn run_system<S: Source, K: Sink, P: Pacer>(
     sink: &mut K,
     pacer: &P,
 ) -> Outcome
-    ensures ran { IfRan result (λ history. Headline (ends S.left S.taken S.faults source.old source.new K.given K.faults sink.old sink.new) history) }
-    ensures not_checked { OnChecked result ⊥ }
-    ensures not_usage { OnUsage result ⊥ }
-    ensures read_fault { ReadFaultComes (ends S.left S.taken S.faults source.old source.new K.given K.faults sink.old sink.new) result }
-    ensures too_long { TooLongComes (ends S.left S.taken S.faults source.old source.new K.given K.faults sink.old sink.new) result }
-    ensures deck { DeckComes (ends S.left S.taken S.faults source.old source.new K.given K.faults sink.old sink.new) result }
-    ensures write_fault { WriteFaultComes (ends S.left S.taken S.faults source.old source.new K.given K.faults sink.old sink.new) IsReport result }
-    ensures no_memory { NoMemoryComes (ends S.left S.taken S.faults source.old source.new K.given K.faults sink.old sink.new) result }
-    ensures must_be_too_long { IsTooLong (ends S.left S.taken S.faults source.old source.new K.given K.faults sink.old sink.new) result }
-    ensures must_refuse { Refuses (ends S.left S.taken S.faults source.old source.new K.given K.faults sink.old sink.new) result }
-    ensures completes { Completes (ends S.left S.taken S.faults source.old source.new K.given K.faults sink.old sink.new) result HasRan }
+    ensures { Runs (ends (S.state source.old) (K.state sink.old))
+        (ends (S.state source.new) (K.state sink.new)) result }
 {
     let deck = match read_system(alloc, source) {
         Ok(deck) => deck,
@@ -72,19 +62,11 @@ pub(crate) fn run_system<S: Source, K: Sink, P: Pacer>(
     }
 }
 
-/// Reads a deck and writes `GOOD`, the numbers of its accounts, files and terminals, as the word `check` asks.
+/// Reads a deck and writes `GOOD`, the numbers of its accounts, files and terminals, as the word
+/// `check` asks.
 pub fn check_system<S: Source, K: Sink>(alloc: Global, source: &mut S, sink: &mut K) -> Outcome
-    ensures checked { OnChecked result (Checked (ends S.left S.taken S.faults source.old source.new K.given K.faults sink.old sink.new)) }
-    ensures not_ran { IfRan result (λ _. ⊥) }
-    ensures not_usage { OnUsage result ⊥ }
-    ensures read_fault { ReadFaultComes (ends S.left S.taken S.faults source.old source.new K.given K.faults sink.old sink.new) result }
-    ensures too_long { TooLongComes (ends S.left S.taken S.faults source.old source.new K.given K.faults sink.old sink.new) result }
-    ensures deck { DeckComes (ends S.left S.taken S.faults source.old source.new K.given K.faults sink.old sink.new) result }
-    ensures write_fault { WriteFaultComes (ends S.left S.taken S.faults source.old source.new K.given K.faults sink.old sink.new) IsGoodLine result }
-    ensures no_memory { NoMemoryComes (ends S.left S.taken S.faults source.old source.new K.given K.faults sink.old sink.new) result }
-    ensures must_be_too_long { IsTooLong (ends S.left S.taken S.faults source.old source.new K.given K.faults sink.old sink.new) result }
-    ensures must_refuse { Refuses (ends S.left S.taken S.faults source.old source.new K.given K.faults sink.old sink.new) result }
-    ensures completes { Completes (ends S.left S.taken S.faults source.old source.new K.given K.faults sink.old sink.new) result HasChecked }
+    ensures { Checks (ends (S.state source.old) (K.state sink.old))
+        (ends (S.state source.new) (K.state sink.new)) result }
 {
     let deck = match read_system(alloc, source) {
         Ok(deck) => deck,
@@ -102,12 +84,10 @@ pub fn check_system<S: Source, K: Sink>(alloc: Global, source: &mut S, sink: &mu
 
 /// The deck that the source spells, read to its end.
 fn read_system<S: Source>(alloc: Global, source: &mut S) -> Result<Deck, Stopped>
-    ensures found { IfOk result (λ deck. FoundDeck (deck_of deck) (S.left source.old) (S.left source.new) (S.taken source.old) (S.taken source.new)) }
-    ensures stopped { IfErr result (λ stopped. WhyStopped stopped (S.left source.old) (S.left source.new) (S.taken source.old) (S.taken source.new) (S.faults source.old) (S.faults source.new)) }
-    ensures must_stop { MustStop (S.taken source.old) (S.taken source.new) result }
-    ensures must_find { MustFind (S.left source.old) (S.faults source.old) (S.faults source.new) result }
-    ensures must_refuse { MustRefuse (S.left source.old) (S.faults source.old) (S.faults source.new) result }
-    ensures faults { S.faults source.old ≤ S.faults source.new }
+    ensures found { Found result (S.state source.old) (S.state source.new) }
+    ensures must_stop { MustStop result (S.state source.old) (S.state source.new) }
+    ensures must_find { MustFind result (S.state source.old) (S.state source.new) }
+    ensures must_refuse { MustRefuse result (S.state source.old) (S.state source.new) }
 {
     let bytes = match read_all(alloc, source) {
         Ok(bytes) => bytes,
@@ -129,7 +109,7 @@ fn run_and_report<P: Pacer>(
     pacer: &P,
 ) -> Result<(RunRecord, Vec<u8>), NoMemory>
     requires { IsDeck (deck_of deck.now) }
-    ensures { IfOk result (λ ran. RunAndReport (deck_of deck.now) ran.0 ran.1.items) }
+    ensures { IfOk result (λ ran. Reports (deck_of deck.now) ran.0 ran.1.items) }
 {
     let ran = run_deck(alloc, deck, pacer)?;
     let output = report(alloc, deck.terminals.as_slice(), ran.screens.as_slice())?;

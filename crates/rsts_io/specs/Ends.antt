@@ -1,4 +1,4 @@
--- What a source has left and a sink was given, and when their counts of faults have risen.
+-- What a source and a sink tell of themselves, and what each of their answers changes.
 use Rattle.std.specs.Prelude.{◌≡◌, ℕ, ◌+◌, ◌-◌, ◌^◌, ◌≤◌, min, List, [], ◌++◌, length, take, Option, Some, None, IfSome}
 use Rattle.std.specs.Option.{option_map}
 use Rattle.rsts_io.specs.declared.source.Took.{Took}
@@ -6,9 +6,25 @@ use Rattle.rsts_io.specs.declared.source.Took.TheVariants as took
 use Rattle.rsts_io.specs.declared.sink.Gave.{Gave}
 use Rattle.rsts_io.specs.declared.sink.Gave.TheVariants as gave
 
--- a count in 64 bits rose, or stands at its end, where it can rise no more
+-- the bytes that a source has left, where it can tell them; how many were taken; how often it
+-- failed
+pub record SourceState : Type 0 where
+  pub left : Option (List ℕ)
+  pub taken : ℕ
+  pub faults : ℕ
+
+-- the bytes that a sink was given, where it can tell them; how often it failed
+pub record SinkState : Type 0 where
+  pub given : Option (List ℕ)
+  pub faults : ℕ
+
+-- one more, in 64 bits, where it stays at the end
+abbrev pub raised : ℕ → ℕ
+raised count = min (count + 1) (2 ^ 64 - 1)
+
+-- a count of faults rose by one, or stands at its end, where it can rise no more
 abbrev pub Rose : ℕ → ℕ → Type 0
-Rose before now = min (before + 1) (2 ^ 64 - 1) ≤ now
+Rose before now = now ≡ raised before
 
 -- these bytes were the next of what was left, where that is told, and are gone from it
 abbrev pub AreNext : List ℕ → Option (List ℕ) → Option (List ℕ) → Type 0
@@ -19,18 +35,26 @@ AreNext bytes (Some left) after = (rest : List ℕ) × (left ≡ bytes ++ rest) 
 abbrev pub IsAtEnd : Option (List ℕ) → Type 0
 IsAtEnd left = IfSome left (λ bytes. bytes ≡ [])
 
--- what a source's answer says of the buffer behind it, of the bytes left and taken before and after, and of the faults
-abbrev pub Takes : Took → List ℕ → Option (List ℕ) → Option (List ℕ) → ℕ → ℕ → ℕ → ℕ → Type 0
-Takes (took.Bytes n) buffer left left' taken taken' faults faults' =
-    (1 ≤ n) × (n ≤ length buffer) × AreNext (take n buffer) left left' × (taken' ≡ taken + n)
-Takes took.End buffer left left' taken taken' faults faults' = IsAtEnd left × (left' ≡ left) × (taken' ≡ taken)
-Takes took.Failed buffer left left' taken taken' faults faults' = Rose faults faults' × (left' ≡ left) × (taken' ≡ taken)
+-- what a source's answer says of the buffer behind it, and of the source before and after: the
+-- bytes stand at the buffer's front; at its end nothing changes; a failure is counted, and nothing
+-- else changes
+abbrev pub Takes : Took → List ℕ → SourceState → SourceState → Type 0
+Takes (took.Bytes n) buffer old new =
+    (1 ≤ n) × (n ≤ length buffer) × AreNext (take n buffer) old.left new.left
+    × (new.taken ≡ old.taken + n) × (new.faults ≡ old.faults)
+Takes took.End buffer old new =
+    IsAtEnd old.left × (new.left ≡ old.left) × (new.taken ≡ old.taken) × (new.faults ≡ old.faults)
+Takes took.Failed buffer old new =
+    (new.left ≡ old.left) × (new.taken ≡ old.taken) × Rose old.faults new.faults
 
 -- these bytes came behind what was given, where that is told
 abbrev pub Appended : List ℕ → Option (List ℕ) → Option (List ℕ) → Type 0
 Appended bytes given given' = given' ≡ option_map (λ old. old ++ bytes) given
 
--- what a sink's answer says of the piece, of the bytes given before and after, and of the faults
-abbrev pub Gives : Gave → List ℕ → Option (List ℕ) → Option (List ℕ) → ℕ → ℕ → Type 0
-Gives (gave.Bytes n) piece given given' faults faults' = (1 ≤ n) × (n ≤ length piece) × Appended (take n piece) given given'
-Gives gave.Failed piece given given' faults faults' = Rose faults faults' × (given' ≡ given)
+-- what a sink's answer says of the piece, and of the sink before and after: it has the bytes of the
+-- piece's front; a failure is counted, and nothing else changes
+abbrev pub Accepts : Gave → List ℕ → SinkState → SinkState → Type 0
+Accepts (gave.Bytes n) piece old new =
+    (1 ≤ n) × (n ≤ length piece) × Appended (take n piece) old.given new.given
+    × (new.faults ≡ old.faults)
+Accepts gave.Failed piece old new = (new.given ≡ old.given) × Rose old.faults new.faults

@@ -1,10 +1,11 @@
 -- What sources and sinks in memory are seen as.
-use Rattle.std.specs.Prelude.{ℕ, ◌+◌, ◌-◌, ◌^◌, ◌==◌, Bool, min, List}
+use Rattle.std.specs.Prelude.{ℕ, ◌==◌, Bool, List, Some}
 use Rattle.std.specs.List.{list_any}
-use Rattle.rsts_io.specs.declared.source.Took.{Took}
-use Rattle.rsts_io.specs.declared.source.Took.TheVariants as took
-use Rattle.rsts_io.specs.declared.sink.Gave.{Gave}
-use Rattle.rsts_io.specs.declared.sink.Gave.TheVariants as gave
+use Rattle.rsts_io.specs.Ends.{SourceState, SinkState}
+
+-- how many bytes a sink in memory has room for: 16 MiB
+abbrev pub sink_room : ℕ
+sink_room = 16777216
 
 -- the bytes that are left, and how many were taken
 pub record PlainFeed : Type 0 where
@@ -31,21 +32,19 @@ pub record Store : Type 0 where
   pub calls : ℕ
   pub faults : ℕ
 
+-- each as a source or a sink that can tell its bytes
+abbrev pub plain_feed_state : PlainFeed → SourceState
+plain_feed_state feed = record { left = Some feed.left; taken = feed.taken; faults = 0 }
+
+abbrev pub feed_state : Feed → SourceState
+feed_state feed = record { left = Some feed.left; taken = feed.taken; faults = feed.faults }
+
+abbrev pub plain_store_state : PlainStore → SinkState
+plain_store_state store = record { given = Some store.given; faults = store.faults }
+
+abbrev pub store_state : Store → SinkState
+store_state store = record { given = Some store.given; faults = store.faults }
+
 -- whether a call is among those that fail
 abbrev pub is_listed : ℕ → List ℕ → Bool
 is_listed call failing = list_any (λ number. number == call) failing
-
--- one more, in 64 bits, where it stays at the end
-abbrev pub raised : ℕ → ℕ
-raised count = min (count + 1) (2 ^ 64 - 1)
-
--- a sink's count of faults behind an answer
-abbrev pub counted : Gave → ℕ → ℕ
-counted (gave.Bytes n) faults = faults
-counted gave.Failed faults = raised faults
-
--- a source's count of faults behind an answer
-abbrev pub counted_take : Took → ℕ → ℕ
-counted_take (took.Bytes n) faults = faults
-counted_take took.End faults = faults
-counted_take took.Failed faults = raised faults

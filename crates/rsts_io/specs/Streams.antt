@@ -1,10 +1,18 @@
--- What a real source and a real sink do with their reader's and their writer's bytes, where those are known.
-use Rattle.std.specs.Prelude.{◌≡◌, ℕ, ◌-◌, ◌^◌, ◌⊎◌, List, take, Option}
+-- What a source over a reader and a sink over a writer do with those bytes, where they are known.
+use Rattle.std.specs.Prelude.{◌≡◌, ℕ, ◌-◌, ◌^◌, ◌⊎◌, List, take, Option, None}
 use Rattle.std.specs.Io.KnownBytes.{Keeps, Appends, Consumes, IsAtEnd}
+use Rattle.rsts_io.specs.Ends.{SourceState, SinkState}
 use Rattle.rsts_io.specs.declared.source.Took.{Took}
 use Rattle.rsts_io.specs.declared.source.Took.TheVariants as took
 use Rattle.rsts_io.specs.declared.sink.Gave.{Gave}
 use Rattle.rsts_io.specs.declared.sink.Gave.TheVariants as gave
+
+-- neither can tell its bytes of itself
+abbrev pub untold_source : ℕ → ℕ → SourceState
+untold_source taken faults = record { left = None; taken = taken; faults = faults }
+
+abbrev pub untold_sink : ℕ → SinkState
+untold_sink faults = record { given = None; faults = faults }
 
 -- the bytes come from the reader; the end is the reader's, or that of the count of bytes taken
 abbrev pub ReadSo : Took → List ℕ → Option (List ℕ) → Option (List ℕ) → ℕ → Type 0

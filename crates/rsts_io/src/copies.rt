@@ -1,12 +1,13 @@
 //! What sources and sinks in memory do with their bytes.
 
 ghost use Rattle.std.specs.Prelude.{◌≡◌, ◌+◌, ◌-◌, ◌≤◌, ◌++◌, min, length, take, drop, vec_len, vec_capacity};
-ghost use Rattle.rsts_io.specs.Memory.{is_listed};
+ghost use Rattle.rsts_io.specs.Memory.{sink_room, is_listed};
 
-/// How many bytes a sink in memory has room for: 16 MiB.
+/// How many bytes a sink in memory has room for.
 pub const SINK_ROOM: usize = 16_777_216;
 
-/// Copies the bytes from `at` on to the buffer's front, as many as it has room for, and tells how many.
+/// Copies the bytes from `at` on to the buffer's front, as many as it has room for, and tells how
+/// many.
 pub(crate) fn copy_next(bytes: &[u8], at: usize, buffer: &mut [u8]) -> usize
     requires { at ≤ length bytes.now }
     ensures count { result ≡ min (length bytes.now - at) (length buffer.old) }
@@ -25,14 +26,15 @@ pub(crate) fn is_listed(call: u64, failing: &[u64]) -> bool
     failing.contains(&call)
 }
 
-/// Keeps as much of the piece's front as there is room for, and tells how many bytes. It takes no memory.
+/// Keeps as much of the piece's front as there is room for, and tells how many bytes. It takes no
+/// memory.
 pub(crate) fn keep_front(kept: &mut Vec<u8>, piece: &[u8]) -> usize
-    requires length { vec_len kept.old ≤ SINK_ROOM }
-    requires room { SINK_ROOM ≤ vec_capacity kept.old }
-    ensures count { result ≡ min (length piece.now) (SINK_ROOM - vec_len kept.old) }
+    requires length { vec_len kept.old ≤ sink_room }
+    requires room { sink_room ≤ vec_capacity kept.old }
+    ensures count { result ≡ min (length piece.now) (sink_room - vec_len kept.old) }
     ensures kept { kept.new.items ≡ kept.old.items ++ take result piece.now }
-    ensures length { vec_len kept.new ≤ SINK_ROOM }
-    ensures room { SINK_ROOM ≤ vec_capacity kept.new }
+    ensures length { vec_len kept.new ≤ sink_room }
+    ensures room { sink_room ≤ vec_capacity kept.new }
 {
     let count = piece.len().min(SINK_ROOM - kept.len());
     match kept.extend_from_slice(&piece[..count]) {

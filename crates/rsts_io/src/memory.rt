@@ -1,8 +1,8 @@
 //! Sources and sinks in memory that fail the calls that they are told.
 
 ghost use Rattle.std.specs.Prelude.{◌≡◌, ℕ, ◌-◌, ◌<◌, ◌≤◌, ◌⊎◌, ◌↔◌, true, [], min, length, Some, IfOk};
-ghost use Rattle.rsts_io.specs.Ends.{Takes, Gives};
-ghost use Rattle.rsts_io.specs.Memory.{raised, counted, is_listed, counted_take};
+ghost use Rattle.rsts_io.specs.Ends.{raised, Takes, Accepts};
+ghost use Rattle.rsts_io.specs.Memory.{sink_room, is_listed, feed_state, store_state};
 
 use crate::copies::{SINK_ROOM, copy_next, is_listed, keep_front};
 use crate::sink::{Gave, Sink};
@@ -27,7 +27,13 @@ impl Model for MemorySource {
 
     ghost Value = { Feed };
 
-    ghost view = { λ s. record { left = drop s.at s.bytes.items; taken = s.at; failing = s.failing.items; calls = s.calls; faults = s.faults } };
+    ghost view = { λ s. record {
+      left = drop s.at s.bytes.items;
+      taken = s.at;
+      failing = s.failing.items;
+      calls = s.calls;
+      faults = s.faults;
+    } };
 
     ghost invariant = { λ s. s.at ≤ vec_len s.bytes };
 }
@@ -54,20 +60,15 @@ impl MemorySource {
 }
 
 impl Source for MemorySource {
-    ghost left = { λ s. Some s.left };
-
-    ghost taken = { λ s. s.taken };
-
-    ghost faults = { λ s. s.faults };
+    ghost state = { λ s. feed_state s };
 
     fn take(&mut self, buffer: &mut [u8]) -> Took
         requires { 0 < length buffer.old }
-        ensures told { Takes result buffer.new (Some self.old.left) (Some self.new.left) self.old.taken self.new.taken self.old.faults self.new.faults }
-        ensures faults { self.old.faults ≤ self.new.faults }
-        ensures fails { (result ≡ Took.Failed) ↔ (is_listed self.new.calls self.old.failing ≡ true) }
-        ensures ends { result ≡ Took.End → self.old.left ≡ [] }
-        ensures fits { (n : ℕ) → result ≡ Took.Bytes n → n ≡ min (length self.old.left) (length buffer.old) }
-        ensures counted { self.new.faults ≡ counted_take result self.old.faults }
+        ensures told { Takes result buffer.new (feed_state self.old) (feed_state self.new) }
+        ensures fails { (result ≡ Took.Failed)
+            ↔ (is_listed self.new.calls self.old.failing ≡ true) }
+        ensures fits { (n : ℕ) → result ≡ Took.Bytes n
+            → n ≡ min (length self.old.left) (length buffer.old) }
         ensures calls { self.new.calls ≡ raised self.old.calls }
         ensures failing { self.new.failing ≡ self.old.failing }
     {
@@ -85,8 +86,8 @@ impl Source for MemorySource {
     }
 }
 
-/// A sink that keeps what it is given. It counts its calls, from 1, and fails those that it was told, and where its
-/// room of 16 MiB is full.
+/// A sink that keeps what it is given. It counts its calls, from 1, and fails those that it was
+/// told, and where its room of 16 MiB is full.
 #[derive(Debug, Drop)]
 pub struct MemorySink {
     kept: Vec<u8>,
@@ -97,14 +98,18 @@ pub struct MemorySink {
 
 impl Model for MemorySink {
     ghost use Rattle.std.specs.Prelude.{◌≤◌, vec_len, vec_capacity};
-    ghost use Rattle.rsts_io.specs.declared.copies.TheConstants.{SINK_ROOM};
-    ghost use Rattle.rsts_io.specs.Memory.{Store};
+    ghost use Rattle.rsts_io.specs.Memory.{sink_room, Store};
 
     ghost Value = { Store };
 
-    ghost view = { λ s. record { given = s.kept.items; failing = s.failing.items; calls = s.calls; faults = s.faults } };
+    ghost view = { λ s. record {
+      given = s.kept.items;
+      failing = s.failing.items;
+      calls = s.calls;
+      faults = s.faults;
+    } };
 
-    ghost invariant = { λ s. (vec_len s.kept ≤ SINK_ROOM) × (SINK_ROOM ≤ vec_capacity s.kept) };
+    ghost invariant = { λ s. (vec_len s.kept ≤ sink_room) × (sink_room ≤ vec_capacity s.kept) };
 }
 
 impl MemorySink {
@@ -127,24 +132,23 @@ impl MemorySink {
     /// What it was given.
     pub fn bytes(&self) -> &[u8]
         ensures bytes { result.now ≡ self.now.given }
-        ensures room { length self.now.given ≤ SINK_ROOM }
+        ensures room { length self.now.given ≤ sink_room }
     {
         self.kept.as_slice()
     }
 }
 
 impl Sink for MemorySink {
-    ghost given = { λ s. Some s.given };
-
-    ghost faults = { λ s. s.faults };
+    ghost state = { λ s. store_state s };
 
     fn give(&mut self, piece: &[u8]) -> Gave
         requires { 0 < length piece.now }
-        ensures told { Gives result piece.now (Some self.old.given) (Some self.new.given) self.old.faults self.new.faults }
-        ensures faults { self.old.faults ≤ self.new.faults }
-        ensures fails { (result ≡ Gave.Failed) ↔ ((is_listed self.new.calls self.old.failing ≡ true) ⊎ (length self.old.given ≡ SINK_ROOM)) }
-        ensures fits { (n : ℕ) → result ≡ Gave.Bytes n → n ≡ min (length piece.now) (SINK_ROOM - length self.old.given) }
-        ensures counted { self.new.faults ≡ counted result self.old.faults }
+        ensures told { Accepts result piece.now (store_state self.old) (store_state self.new) }
+        ensures fails { (result ≡ Gave.Failed)
+            ↔ ((is_listed self.new.calls self.old.failing ≡ true)
+            ⊎ (length self.old.given ≡ sink_room)) }
+        ensures fits { (n : ℕ) → result ≡ Gave.Bytes n
+            → n ≡ min (length piece.now) (sink_room - length self.old.given) }
         ensures calls { self.new.calls ≡ raised self.old.calls }
         ensures failing { self.new.failing ≡ self.old.failing }
     {

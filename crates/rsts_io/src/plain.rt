@@ -1,8 +1,8 @@
 //! Sources and sinks in memory that never fail, but for a sink that is full.
 
 ghost use Rattle.std.specs.Prelude.{◌≡◌, ℕ, ◌+◌, ◌-◌, ◌<◌, ◌≤◌, ◌↔◌, [], min, length, Some, IfOk};
-ghost use Rattle.rsts_io.specs.Ends.{Takes, Gives};
-ghost use Rattle.rsts_io.specs.Memory.{counted};
+ghost use Rattle.rsts_io.specs.Ends.{Takes, Accepts};
+ghost use Rattle.rsts_io.specs.Memory.{sink_room, plain_feed_state, plain_store_state};
 
 use crate::copies::{SINK_ROOM, copy_next, keep_front};
 use crate::sink::{Gave, Sink};
@@ -43,17 +43,14 @@ impl PlainSource {
 }
 
 impl Source for PlainSource {
-    ghost left = { λ s. Some s.left };
-
-    ghost taken = { λ s. s.taken };
-
-    ghost faults = { λ _. 0 };
+    ghost state = { λ s. plain_feed_state s };
 
     fn take(&mut self, buffer: &mut [u8]) -> Took
         requires { 0 < length buffer.old }
-        ensures told { Takes result buffer.new (Some self.old.left) (Some self.new.left) self.old.taken self.new.taken 0 0 }
-        ensures faults { 0 ≤ 0 }
-        ensures fits { (n : ℕ) → result ≡ Took.Bytes n → n ≡ min (length self.old.left) (length buffer.old) }
+        ensures told { Takes result buffer.new
+            (plain_feed_state self.old) (plain_feed_state self.new) }
+        ensures fits { (n : ℕ) → result ≡ Took.Bytes n
+            → n ≡ min (length self.old.left) (length buffer.old) }
     {
         let count = copy_next(&self.bytes, self.at, buffer);
         if count == 0 {
@@ -73,14 +70,13 @@ pub struct PlainSink {
 
 impl Model for PlainSink {
     ghost use Rattle.std.specs.Prelude.{◌≤◌, vec_len, vec_capacity};
-    ghost use Rattle.rsts_io.specs.declared.copies.TheConstants.{SINK_ROOM};
-    ghost use Rattle.rsts_io.specs.Memory.{PlainStore};
+    ghost use Rattle.rsts_io.specs.Memory.{sink_room, PlainStore};
 
     ghost Value = { PlainStore };
 
     ghost view = { λ s. record { given = s.kept.items; faults = s.faults } };
 
-    ghost invariant = { λ s. (vec_len s.kept ≤ SINK_ROOM) × (SINK_ROOM ≤ vec_capacity s.kept) };
+    ghost invariant = { λ s. (vec_len s.kept ≤ sink_room) × (sink_room ≤ vec_capacity s.kept) };
 }
 
 impl PlainSink {
@@ -98,24 +94,22 @@ impl PlainSink {
     /// What it was given.
     pub fn bytes(&self) -> &[u8]
         ensures bytes { result.now ≡ self.now.given }
-        ensures room { length self.now.given ≤ SINK_ROOM }
+        ensures room { length self.now.given ≤ sink_room }
     {
         self.kept.as_slice()
     }
 }
 
 impl Sink for PlainSink {
-    ghost given = { λ s. Some s.given };
-
-    ghost faults = { λ s. s.faults };
+    ghost state = { λ s. plain_store_state s };
 
     fn give(&mut self, piece: &[u8]) -> Gave
         requires { 0 < length piece.now }
-        ensures told { Gives result piece.now (Some self.old.given) (Some self.new.given) self.old.faults self.new.faults }
-        ensures faults { self.old.faults ≤ self.new.faults }
-        ensures fails { (result ≡ Gave.Failed) ↔ (length self.old.given ≡ SINK_ROOM) }
-        ensures fits { (n : ℕ) → result ≡ Gave.Bytes n → n ≡ min (length piece.now) (SINK_ROOM - length self.old.given) }
-        ensures counted { self.new.faults ≡ counted result self.old.faults }
+        ensures told { Accepts result piece.now
+            (plain_store_state self.old) (plain_store_state self.new) }
+        ensures fails { (result ≡ Gave.Failed) ↔ (length self.old.given ≡ sink_room) }
+        ensures fits { (n : ℕ) → result ≡ Gave.Bytes n
+            → n ≡ min (length piece.now) (sink_room - length self.old.given) }
     {
         let count = keep_front(&mut self.kept, piece);
         if count == 0 {

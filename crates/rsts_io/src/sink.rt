@@ -1,7 +1,7 @@
 //! Sinks for bytes.
 
-ghost use Rattle.std.specs.Prelude.{ℕ, ◌<◌, ◌≤◌, List, length, Option};
-ghost use Rattle.rsts_io.specs.Ends.{Gives};
+ghost use Rattle.std.specs.Prelude.{◌<◌, length};
+ghost use Rattle.rsts_io.specs.Ends.{SinkState, Accepts};
 
 /// What a sink answers.
 #[derive(Clone, Copy, Debug, PartialEq, Eq)]
@@ -14,15 +14,12 @@ pub enum Gave {
 
 /// Where bytes go.
 pub trait Sink {
-    /// The bytes that it was given, where the sink can tell.
-    ghost given: { Self → Option (List ℕ) };
-
-    /// How often it failed. The count never falls, and stays at the greatest number of 64 bits.
-    ghost faults: { Self → ℕ };
+    /// The bytes that it was given, where the sink can tell; how often it failed, up to the
+    /// greatest number of 64 bits.
+    ghost state: { Self → SinkState };
 
     /// Takes at least one byte of the piece's front, unless it fails.
     fn give(&mut self, piece: &[u8]) -> Gave
         requires { 0 < length piece.now }
-        ensures told { Gives result piece.now (given self.old) (given self.new) (faults self.old) (faults self.new) }
-        ensures faults { faults self.old ≤ faults self.new };
+        ensures { Accepts result piece.now (state self.old) (state self.new) };
 }

@@ -1,7 +1,7 @@
 //! Sources of bytes.
 
-ghost use Rattle.std.specs.Prelude.{ℕ, ◌<◌, ◌≤◌, List, length, Option};
-ghost use Rattle.rsts_io.specs.Ends.{Takes};
+ghost use Rattle.std.specs.Prelude.{◌<◌, length};
+ghost use Rattle.rsts_io.specs.Ends.{SourceState, Takes};
 
 /// What a source answers.
 #[derive(Clone, Copy, Debug, PartialEq, Eq)]
@@ -16,18 +16,12 @@ pub enum Took {
 
 /// Where bytes come from.
 pub trait Source {
-    /// The bytes that are left, where the source can tell.
-    ghost left: { Self → Option (List ℕ) };
-
-    /// How many bytes were taken.
-    ghost taken: { Self → ℕ };
-
-    /// How often it failed. The count never falls, and stays at the greatest number of 64 bits.
-    ghost faults: { Self → ℕ };
+    /// The bytes that are left, where the source can tell; how many were taken; how often it
+    /// failed, up to the greatest number of 64 bits.
+    ghost state: { Self → SourceState };
 
     /// Puts the next bytes into the buffer: at least one, unless it is at its end or fails.
     fn take(&mut self, buffer: &mut [u8]) -> Took
         requires { 0 < length buffer.old }
-        ensures told { Takes result buffer.new (left self.old) (left self.new) (taken self.old) (taken self.new) (faults self.old) (faults self.new) }
-        ensures faults { faults self.old ≤ faults self.new };
+        ensures { Takes result buffer.new (state self.old) (state self.new) };
 }

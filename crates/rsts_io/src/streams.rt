@@ -1,9 +1,9 @@
-//! The real ends: any reader and any writer of std. What they read and write is not told.
+//! The real ends: any reader and any writer of std. They can't tell what they read and write;
+//! `read` and `written` say it of a reader and a writer whose bytes are known.
 
-ghost use Rattle.std.specs.Prelude.{◌≡◌, ℕ, ◌<◌, ◌≤◌, length, None};
-ghost use Rattle.rsts_io.specs.Ends.{Takes, Gives};
-ghost use Rattle.rsts_io.specs.Memory.{counted, counted_take};
-ghost use Rattle.rsts_io.specs.Streams.{ReadSo, WrittenSo};
+ghost use Rattle.std.specs.Prelude.{◌≡◌, ◌<◌, length};
+ghost use Rattle.rsts_io.specs.Ends.{Takes, Accepts};
+ghost use Rattle.rsts_io.specs.Streams.{ReadSo, WrittenSo, untold_source, untold_sink};
 
 use crate::sink::{Gave, Sink};
 use crate::source::{Source, Took};
@@ -32,18 +32,15 @@ impl<R: Read> StdSource<R> {
 }
 
 impl<R: Read> Source for StdSource<R> {
-    ghost left = { λ _. None };
-
-    ghost taken = { λ s. s.taken };
-
-    ghost faults = { λ s. s.faults };
+    ghost state = { λ s. untold_source s.taken s.faults };
 
     fn take(&mut self, buffer: &mut [u8]) -> Took
         requires { 0 < length buffer.old }
-        ensures told { Takes result buffer.new None None self.old.taken self.new.taken self.old.faults self.new.faults }
-        ensures faults { self.old.faults ≤ self.new.faults }
-        ensures counted { self.new.faults ≡ counted_take result self.old.faults }
-        ensures read { ReadSo result buffer.new (R.remaining self.old.inner) (R.remaining self.new.inner) self.old.taken }
+        ensures told { Takes result buffer.new
+            (untold_source self.old.taken self.old.faults)
+            (untold_source self.new.taken self.new.faults) }
+        ensures read { ReadSo result buffer.new
+            (R.remaining self.old.inner) (R.remaining self.new.inner) self.old.taken }
     {
         let room = u64::MAX - self.taken;
         if room == 0 {
@@ -81,16 +78,14 @@ impl<W: Write> StdSink<W> {
 }
 
 impl<W: Write> Sink for StdSink<W> {
-    ghost given = { λ _. None };
-
-    ghost faults = { λ s. s.faults };
+    ghost state = { λ s. untold_sink s.faults };
 
     fn give(&mut self, piece: &[u8]) -> Gave
         requires { 0 < length piece.now }
-        ensures told { Gives result piece.now None None self.old.faults self.new.faults }
-        ensures faults { self.old.faults ≤ self.new.faults }
-        ensures counted { self.new.faults ≡ counted result self.old.faults }
-        ensures written { WrittenSo result piece.now (W.contents self.old.inner) (W.contents self.new.inner) }
+        ensures told { Accepts result piece.now
+            (untold_sink self.old.faults) (untold_sink self.new.faults) }
+        ensures written { WrittenSo result piece.now
+            (W.contents self.old.inner) (W.contents self.new.inner) }
     {
         match self.inner.write(piece) {
             Ok(0) | Err(_) => {

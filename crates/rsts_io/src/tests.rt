@@ -11,7 +11,8 @@ fn answers<S: Source>(source: &mut S, answers: &mut [Took]) {
     }
 }
 
-/// Gives the sink the text's next bytes so often, as far as it has taken them, and tells the answers.
+/// Gives the sink the text's next bytes so often, as far as it has taken them, and tells the
+/// answers.
 fn gifts<K: Sink>(sink: &mut K, text: &[u8], gifts: &mut [Gave]) {
     let mut rest = text;
     for gift in gifts.iter_mut() {
@@ -137,7 +138,8 @@ fn a_source_goes_on_behind_a_failed_read(rt: HostRuntime) {
     assert_eq!(rt; source.take(&mut text), Took::End);
 }
 
-/// A writer that takes two bytes a call, fails once, before its third byte, and takes nothing behind its fourth.
+/// A writer that takes two bytes a call, fails once, before its third byte, and takes nothing
+/// behind its fourth.
 #[derive(Drop)]
 struct TakesLittle<'a> {
     kept: &'a mut Vec<u8>,

@@ -1,9 +1,5 @@
-ghost use Rattle.std.specs.Prelude.{◌≡◌, ◌≤◌, ◌⊎◌, length, IfOk};
-ghost use Rattle.deck_model.specs.Deck.{Deck};
-ghost use Rattle.deck_model.specs.Spelling.{Spelled};
-ghost use Rattle.rsts.specs.Headline.{HasRan};
-
 use super::*;
+use crate::streams::INPUT_LIMIT;
 use rsts_io::{IdlePacer, MemorySink, MemorySource, PlainSink, PlainSource, StdSink, StdSource};
 use std::io;
 use std::io::{Read, Write};
@@ -12,8 +8,8 @@ use std::test::Fail;
 
 const HEAD: &[u8] = b"RSTS-DECK 1\nDISK 8\nACCOUNT 100,5 DEMO 100\nTERMINAL T1\n";
 
-const FIRST_SUM: &[u8] =
-    b"RSTS-DECK 1\nDISK 8\nACCOUNT 100,5 DEMO 100\nTERMINAL T1\n>HELLO 100,5;DEMO\n>PRINT 2%+3%\n>BYE\nEND\n";
+const FIRST_SUM: &[u8] = b"RSTS-DECK 1\nDISK 8\nACCOUNT 100,5 DEMO 100\nTERMINAL T1\n\
+>HELLO 100,5;DEMO\n>PRINT 2%+3%\n>BYE\nEND\n";
 
 const SUM_REPORT: &[u8] =
     b"TERMINAL T1 60\nHELLO 100,5;DEMO\r\nReady\r\nPRINT 2%+3%\r\n 5 \r\nReady\r\nBYE\r\nBye\r\n\n";
@@ -99,7 +95,7 @@ fn other_words_are_told_the_usage(rt: HostRuntime) -> Result<(), Fail> {
 #[test]
 fn bad_input_is_refused_and_nothing_is_written(rt: HostRuntime) -> Result<(), Fail> {
     let long_keys = deck_with_keys(rt.alloc(), 256)?;
-    let too_long = deck_with_keys(rt.alloc(), 8_388_609 - HEAD.len() - 6)?;
+    let too_long = deck_with_keys(rt.alloc(), INPUT_LIMIT + 1 - HEAD.len() - 6)?;
     let no_deck = "deck line 0: not a deck of this stage";
     let rows: [(&[u8], &[u64], u8, &str); 7] = [
         (b"", &[], 2, no_deck),
@@ -213,21 +209,13 @@ fn lines_are_judged_by_the_grammar(rt: HostRuntime) -> Result<(), Fail> {
     assert_line(&rt, line.as_str(), "?Expression too deep")
 }
 
-/// Runs an input between ends in memory, and tells how that ended.
-fn run_between_plain_ends(alloc: Global, input: &[u8]) -> Result<(Outcome, PlainSink), Fail>
-    ensures completes { IfOk result (λ ended. (deck : Deck) → length input.now ≤ 8388608 → Spelled input.now deck → ended.1.faults ≡ 0 → HasRan ended.0 ⊎ (ended.0 ≡ Outcome.NoMemory)) }
-{
-    let mut words = Vec::new(alloc);
-    words.push(String::from_str(alloc, "run")?)?;
-    let mut source = PlainSource::new(alloc, input)?;
-    let mut sink = PlainSink::new(alloc)?;
-    let outcome = rsts_main(alloc, words.as_slice(), &mut source, &mut sink, &IdlePacer);
-    Ok((outcome, sink))
-}
-
 #[test]
 fn a_good_deck_between_ends_that_never_fail_is_run(rt: HostRuntime) -> Result<(), Fail> {
-    let (outcome, sink) = run_between_plain_ends(rt.alloc(), FIRST_SUM)?;
+    let mut words = Vec::new(rt.alloc());
+    words.push(String::from_str(rt.alloc(), "run")?)?;
+    let mut source = PlainSource::new(rt.alloc(), FIRST_SUM)?;
+    let mut sink = PlainSink::new(rt.alloc())?;
+    let outcome = rsts_main(rt.alloc(), &words, &mut source, &mut sink, &IdlePacer);
     assert_eq!(rt; outcome.status(), 0);
     assert_eq!(rt; sink.bytes(), SUM_REPORT);
     Ok(())

@@ -5,9 +5,9 @@ use Rattle.rsts.proofs.streams.read_through.Given as goal
 abbrev pub invariant-reading : goal.invariant-reading
 invariant-reading g l = record {
   few : vec_len l.bytes ≤ 8388608;
-  taken : g.S.Source.taken l.source ≡ g.S.Source.taken l.initial.source + vec_len l.bytes;
-  next : AreNext l.bytes.items (g.S.Source.left l.initial.source) (g.S.Source.left l.source);
-  faults : g.S.Source.faults l.initial.source ≤ g.S.Source.faults l.source;
+  taken : (g.S.Source.state l.source).taken ≡ (g.S.Source.state l.initial.source).taken + vec_len l.bytes;
+  next : AreNext l.bytes.items (g.S.Source.state l.initial.source).left (g.S.Source.state l.source).left;
+  no_fault : (g.S.Source.state l.source).faults ≡ (g.S.Source.state l.initial.source).faults;
 }
 
 abbrev pub decreases-reading : goal.decreases-reading

@@ -5,6 +5,6 @@ use Rattle.rsts.proofs.SystemLemmas.{read_is}
 use Rattle.rsts.proofs.systems.read_system.Goals as goal
 
 pub returns-in-Ok-read_deck-clause-must_refuse : goal.returns-in-Ok-read_deck-clause-must_refuse
-returns-in-Ok-read_deck-clause-must_refuse g c = λ quiet read told most none.
-    let same : read ≡ c.as_slice.result.now = read_is c.in-Ok.bytes.items read (g.S.Source.left c.args.source.now) (g.S.Source.left c.read_all.new.source) c.in-Ok.ensures.all told ∙ sym c.as_slice.ensures.value in
-    absurd (none (deck_of c.in-Ok-read_deck.deck) (subst (λ (bytes : List ℕ). Spelled bytes (deck_of c.in-Ok-read_deck.deck)) (sym same) c.in-Ok-read_deck.ensures.found))
+returns-in-Ok-read_deck-clause-must_refuse g c = λ none.
+    let same : none.read ≡ c.as_slice.result.now = read_is c.in-Ok.bytes.items none.read (g.S.Source.state c.args.source.now).left (g.S.Source.state c.read_all.new.source).left c.in-Ok.ensures.ended.all none.told.told ∙ sym c.as_slice.ensures.value in
+    absurd (none.none (deck_of c.in-Ok-read_deck.deck) (subst (λ (bytes : List ℕ). Spelled bytes (deck_of c.in-Ok-read_deck.deck)) (sym same) c.in-Ok-read_deck.ensures.found))

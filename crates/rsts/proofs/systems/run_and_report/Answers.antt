@@ -1,15 +1,13 @@
 use Rattle.std.proofs.Common.{ℕ, List, length, sym, ap, ◌∙◌}
 use Rattle.deck_model.specs.Report.{report}
-use Rattle.rsts.specs.Decks.{deck_of, names_of}
-use Rattle.rsts.proofs.SystemLemmas.{screens_are, as_many, names_are}
+use Rattle.rsts.specs.Decks.{names_of}
+use Rattle.rsts.proofs.SystemLemmas.{as_many, names_are}
 use Rattle.rsts.proofs.systems.run_and_report.Goals as goal
 
 pub report-requires : goal.report-requires
 report-requires g c =
-    let deck = deck_of c.args.deck.now in
-    let screens = c.in_ok-ran.ran.screens.items in
     ap length c.as_slice-2.ensures.value
-    ∙ screens_are c.in_ok-ran.ran.record 0 deck.terminals screens c.in_ok-ran.ensures.talks
+    ∙ c.in_ok-ran.ensures.talks.as_many
     ∙ as_many c.args.deck.now.terminals.items
     ∙ sym (ap length c.as_slice.ensures.value)
 

@@ -1,22 +1,36 @@
-use Rattle.std.proofs.Common.{ℕ, List, refl, inl, subst}
+use Rattle.std.proofs.Common.{ℕ, List, refl, sym, subst}
+use Rattle.rsts.specs.declared.outcomes.Outcome.{Outcome}
 use Rattle.rsts.specs.Decks.{deck_of}
-use Rattle.rsts.specs.Streams.{GaveFront}
+use Rattle.rsts.specs.Headline.{ends, IsReport, HasRan, Headline, Runs}
+use Rattle.rsts.specs.Streams.{Written}
+use Rattle.rsts.proofs.SystemLemmas.{stopped_answers, stopped_neither, ran_answers}
 use Rattle.rsts.proofs.systems.run_system.Goals as goal
 
-pub returns-in-Ok-give_all-clause-completes : goal.returns-in-Ok-give_all-clause-completes
-returns-in-Ok-give_all-clause-completes g c = λ quiet_source quiet_sink read deck told most spelled. inl (c.in-Ok-run_and_report.ran.0, refl)
+pub returns-in-Err : goal.returns-in-Err
+returns-in-Err g c =
+    let before = ends (g.S.Source.state c.args.source.now) (g.K.Sink.state c.args.sink.now) in
+    let after = ends (g.S.Source.state c.read_system.new.source) (g.K.Sink.state c.args.sink.now) in
+    let told = c.in-Err.ensures in
+    let neither = stopped_neither c.in-Err.stopped (Headline before after) ⊥ in
+    subst (λ (result : Outcome). Runs before after result) (sym c.outcome.ensures)
+    (record {
+      ran = neither.0;
+      not_checked = neither.1;
+      answers = stopped_answers IsReport HasRan c.in-Err.stopped before after told.found refl told.must_stop told.must_find told.must_refuse;
+    })
 
-pub returns-clause-write_fault : goal.returns-clause-write_fault
-returns-clause-write_fault g c =
-    let found = c.in-Ok.ensures.found in
-    let ran = c.in-Ok-run_and_report.ensures in
+pub returns-in-Ok-give_all : goal.returns-in-Ok-give_all
+returns-in-Ok-give_all g c =
+    let before = ends (g.S.Source.state c.args.source.now) (g.K.Sink.state c.args.sink.now) in
+    let after = ends (g.S.Source.state c.read_system.new.source) (g.K.Sink.state c.give_all.new.sink) in
     record {
-      rose = c.in-Err-give_all.ensures.fault;
-      read = found.read;
-      deck = deck_of c.in-Ok.deck;
-      input = record { all = found.input.all; count = found.input.count; most = found.input.most };
-      spelled = found.spelled;
-      output = c.in-Ok-run_and_report.ran.1.items;
-      is_output = (c.in-Ok-run_and_report.ran.0, ran.screens, ran.run, ran.reported);
-      front = subst (λ (output : List ℕ). GaveFront output (g.K.Sink.given c.args.sink.now) (g.K.Sink.given c.give_all.new.sink)) c.as_slice.ensures.value c.in-Err-give_all.ensures.front;
+      ran = record {
+        deck = deck_of c.in-Ok.deck;
+        output = c.in-Ok-run_and_report.ran.1.items;
+        found = c.in-Ok.ensures.found;
+        reports = c.in-Ok-run_and_report.ensures;
+        written = subst (λ (output : List ℕ). Written output before.sink after.sink) c.as_slice.ensures.value c.in-Ok-give_all.ensures.all;
+      };
+      not_checked = tt;
+      answers = ran_answers c.in-Ok.deck c.in-Ok-run_and_report.ran.0 before after c.in-Ok.ensures.must_stop c.in-Ok.ensures.must_refuse;
     }
