@@ -6,7 +6,7 @@ use Rattle.basic_tree.specs.declared.tokens.Cause.TheVariants as cause
 use Rattle.basic_tree.specs.SpellingWords.{Word, Step, words, most_levels, too_deep}
 use Rattle.basic_tree.specs.Trees.{Tree}
 use Rattle.basic_tree.specs.SpellingExpressions.{steps_of, IsExpr}
-use Rattle.basic_tree.specs.GrammarPlaces.{Expression, between, IsLimit, IsRead, RefusesExpr}
+use Rattle.basic_tree.specs.GrammarPlaces.{ExprWhole, between, IsLimit, IsRead, RefusesExpr}
 use Rattle.basic_tree.specs.MachineStack.{Term, Values, top, Symbol, Level, loosest}
 use Rattle.basic_tree.specs.MachineRun.{Wrong, TooDeep, Outcome, run}
 use Rattle.basic_tree.proofs.MachineSpelled.{Spelled}
@@ -37,12 +37,12 @@ expression_nests w x u s =
     let i = is_tree w x u s in
     subst (λ y. Above 0 y) (sym (i.1 ∙ sym (append-nil (steps_of i.0)))) (tree_above i.0 0 [] tt)
 
-expression_taken : (w : Want) → TakesWhole (AnyWhole (Expression w)) (wanted w) []
+expression_taken : (w : Want) → TakesWhole (AnyWhole (ExprWhole w)) (wanted w) []
 expression_taken w ws x =
     let t = x.1.0 in
     (depth_of t, Term t ∷ [], taken_whole (most_levels + depth_of t) w ws t x.1.1 (omega arith))
 
-reads_expression : (w : Want) → ReadsWhole (Expression w) (wanted w) []
+reads_expression : (w : Want) → ReadsWhole (ExprWhole w) (wanted w) []
 reads_expression w = record {
   spells = λ x u s. let i = is_tree w x u s in (i.0, i.2, i.1);
   takes = expression_taken w;
@@ -54,10 +54,10 @@ reads_expression w = record {
 at_cut : (w : Want) (ws : List Word) (from k : ℕ) (o : Outcome) (n : ℕ) → from ≤ k → run n (drop from ws) (wanted w) [] ≡ o → run n (between ws from k ++ drop k ws) (wanted w) [] ≡ o
 at_cut w ws from k o n le h = ap (λ (x : List Word). run n x (wanted w) []) (cut_between ws from k le) ∙ h
 
-limit_behind : (w : Want) (ws : List Word) (from k : ℕ) (o : Outcome) → from ≤ k → k ≤ length ws → run most_levels (drop from ws) (wanted w) [] ≡ o → left o ≡ drop k ws → (o ≡ Err (TooDeep (drop k ws)) → ⊥) → IsLimit (Expression w) (drop from ws) (k - from)
+limit_behind : (w : Want) (ws : List Word) (from k : ℕ) (o : Outcome) → from ≤ k → k ≤ length ws → run most_levels (drop from ws) (wanted w) [] ≡ o → left o ≡ drop k ws → (o ≡ Err (TooDeep (drop k ws)) → ⊥) → IsLimit (ExprWhole w) (drop from ws) (k - from)
 limit_behind w ws from k o le inside h l not_deep =
     let e : drop (k - from) (drop from ws) ≡ drop k ws = drop_between ws from k le in
-    limit_there (Expression w) (wanted w) [] (reads_expression w) (drop from ws) (k - from) o (inside_between ws from k inside) h (l ∙ sym e) (λ d. not_deep (d ∙ ap (λ (x : List Word). Err (TooDeep x)) e))
+    limit_there (ExprWhole w) (wanted w) [] (reads_expression w) (drop from ws) (k - from) o (inside_between ws from k inside) h (l ∙ sym e) (λ d. not_deep (d ∙ ap (λ (x : List Word). Err (TooDeep x)) e))
 
 -- ---- an expression
 
@@ -89,8 +89,8 @@ expression_wrong w ws from k le inside h =
       le,
       record {
         limit = limit_behind w ws from k (Err (Wrong (drop k ws))) le inside h refl (λ e. cc);
-        flat = flat_there (Expression w) (wanted w) [] (reads_expression w) (drop from ws) (k - from) (Err (Wrong (drop k ws))) (inside_between ws from k inside) h (sym (drop_between ws from k le));
-        none = λ g x. none_there (AnyWhole (Expression w)) (wanted w) [] (ALevel loosest w, tt) (expression_taken w) (between ws from k) (drop k ws) here (g, x);
+        flat = flat_there (ExprWhole w) (wanted w) [] (reads_expression w) (drop from ws) (k - from) (Err (Wrong (drop k ws))) (inside_between ws from k inside) h (sym (drop_between ws from k le));
+        none = λ g x. none_there (AnyWhole (ExprWhole w)) (wanted w) [] (ALevel loosest w, tt) (expression_taken w) (between ws from k) (drop k ws) here (g, x);
       },
     )
 
@@ -99,4 +99,4 @@ expression_wrong w ws from k le inside h =
 pub expression_deep : (w : Want) (ws : List Word) (from k : ℕ) → from ≤ k → k < length ws → run most_levels (drop from ws) (Level loosest w ∷ []) [] ≡ Err (TooDeep (drop k ws)) → RefusesExpr w ws from k cause.TooDeep
 expression_deep w ws from k le lt h =
     let there = h ∙ ap (λ (x : List Word). Err (TooDeep x)) (sym (drop_between ws from k le)) in
-    (le, deep_there (Expression w) (wanted w) [] (reads_expression w) (drop from ws) (k - from) (before_between ws from k le lt) there)
+    (le, deep_there (ExprWhole w) (wanted w) [] (reads_expression w) (drop from ws) (k - from) (before_between ws from k le lt) there)

@@ -5,7 +5,7 @@ use Rattle.basic_tree.specs.declared.tokens.Cause.TheVariants as cause
 use Rattle.basic_tree.specs.SpellingWords.{Word, Step, words, most_levels, too_deep}
 use Rattle.basic_tree.specs.Trees.{LineTree}
 use Rattle.basic_tree.specs.SpellingStatements.{line_steps, IsLine}
-use Rattle.basic_tree.specs.GrammarPlaces.{Line, IsLimit, IsReadLine, RefusesLine, OneLine}
+use Rattle.basic_tree.specs.GrammarPlaces.{LineWhole, IsLimit, IsReadLine, RefusesLine, OneLine}
 use Rattle.basic_tree.specs.MachineStack.{Values, Symbol}
 use Rattle.basic_tree.specs.MachineRun.{Wrong, TooDeep, run}
 use Rattle.basic_tree.proofs.MachineSpelled.{Spelled}
@@ -22,7 +22,7 @@ pub record ReadsLines (s : List Symbol) (vs : Values) (made : LineTree → Value
   pub apart : (l m : LineTree) → made l ≡ made m → l ≡ m
 
 module _ (s : List Symbol) (vs : Values) (made : LineTree → Values) (reads : ReadsLines s vs made) where
-  lines_taken : TakesWhole (AnyWhole Line) s vs
+  lines_taken : TakesWhole (AnyWhole LineWhole) s vs
   lines_taken ws x =
       let t = reads.takes ws x.1.0 x.1.1 in
       (t.0, made x.1.0, t.1 (most_levels + t.0) (omega arith))
@@ -30,7 +30,7 @@ module _ (s : List Symbol) (vs : Values) (made : LineTree → Values) (reads : R
   lines_nest : Nests s vs
   lines_nest x u h = let i = reads.spells x u h in subst (λ (y : List Step). Above 0 y) (sym i.1) (reads.nests (words x) i.0 i.2)
 
-  reads_whole : ReadsWhole Line s vs
+  reads_whole : ReadsWhole LineWhole s vs
   reads_whole = record {
     spells = λ x u h. let i = reads.spells x u h in (i.0, i.2, i.1);
     takes = lines_taken;
@@ -49,7 +49,7 @@ module _ (s : List Symbol) (vs : Values) (made : LineTree → Values) (reads : R
   -- the words that were passed are those of the line, whatever the levels
   pub last_taken_line : (ws : List Word) (n k : ℕ) (l : LineTree) → run n ws s vs ≡ Ok (made l, drop k ws) → take k ws ≡ words (line_steps l)
   last_taken_line ws n k l h =
-      let f = finished (take k ws) (drop k ws) n s vs (made l) (at_place Line s vs reads_whole ws k n (Ok (made l, drop k ws)) h) in
+      let f = finished (take k ws) (drop k ws) n s vs (made l) (at_place LineWhole s vs reads_whole ws k n (Ok (made l, drop k ws)) h) in
       let i = reads.spells f.steps (made l) f.spells in
       let same : i.0 ≡ l = reads.apart i.0 l i.3 in
       sym f.spelled ∙ ap (λ x. words x) i.1 ∙ ap (λ x. words (line_steps x)) same
@@ -67,18 +67,18 @@ module _ (s : List Symbol) (vs : Values) (made : LineTree → Values) (reads : R
   -- ---- a word that is refused
 
   -- no line goes on with it, so the words are none
-  none_beyond : (ws : List Word) (k : ℕ) → IsLimit Line ws k → k < length ws → (g : List Step) → Line ws g → ⊥
-  none_beyond ws k a lt g x = a.no_more lt (drop (k + 1) ws, g, subst (λ (y : List Word). Line y g) (sym (take-append-drop (k + 1) ws)) x)
+  none_beyond : (ws : List Word) (k : ℕ) → IsLimit LineWhole ws k → k < length ws → (g : List Step) → LineWhole ws g → ⊥
+  none_beyond ws k a lt g x = a.no_more lt (drop (k + 1) ws, g, subst (λ (y : List Word). LineWhole y g) (sym (take-append-drop (k + 1) ws)) x)
 
   pub line_wrong : (ws : List Word) (k : ℕ) → k ≤ length ws → run most_levels ws s vs ≡ Err (Wrong (drop k ws)) → RefusesLine ws k cause.Syntax
   line_wrong ws k inside h =
-      let limit = limit_there Line s vs reads_whole ws k (Err (Wrong (drop k ws))) inside h refl (λ e. cc) in
+      let limit = limit_there LineWhole s vs reads_whole ws k (Err (Wrong (drop k ws))) inside h refl (λ e. cc) in
       record {
         limit = limit;
-        flat = flat_there Line s vs reads_whole ws k (Err (Wrong (drop k ws))) inside h refl;
+        flat = flat_there LineWhole s vs reads_whole ws k (Err (Wrong (drop k ws))) inside h refl;
         none = λ g x. neither inside (λ lt. none_beyond ws k limit lt g x) (λ at_end.
             let nothing : drop k ws ≡ [] = drop_all k ws (omega (arith, at_end)) in
-            none_at_end (AnyWhole Line) s vs lines_taken ws (h ∙ ap (λ (x : List Word). Err (Wrong x)) nothing) (g, x));
+            none_at_end (AnyWhole LineWhole) s vs lines_taken ws (h ∙ ap (λ (x : List Word). Err (Wrong x)) nothing) (g, x));
       } where
         neither : {n : ℕ} → k ≤ n → (k < n → ⊥) → (k ≡ n → ⊥) → ⊥
         neither x y z = omega (arith, x, y, z)
@@ -86,14 +86,14 @@ module _ (s : List Symbol) (vs : Values) (made : LineTree → Values) (reads : R
   -- a line that ends before a word
   pub line_stops : (ws : List Word) (k : ℕ) (u : Values) → k < length ws → run most_levels ws s vs ≡ Ok (u, drop k ws) → RefusesLine ws k cause.Syntax
   line_stops ws k u lt h =
-      let limit = limit_there Line s vs reads_whole ws k (Ok (u, drop k ws)) (omega (arith, lt)) h refl (λ e. cc) in
+      let limit = limit_there LineWhole s vs reads_whole ws k (Ok (u, drop k ws)) (omega (arith, lt)) h refl (λ e. cc) in
       record {
         limit = limit;
-        flat = flat_there Line s vs reads_whole ws k (Ok (u, drop k ws)) (omega (arith, lt)) h refl;
+        flat = flat_there LineWhole s vs reads_whole ws k (Ok (u, drop k ws)) (omega (arith, lt)) h refl;
         none = none_beyond ws k limit lt;
       }
 
   -- ---- a word that is too deep
 
   pub line_deep : (ws : List Word) (k : ℕ) → k < length ws → run most_levels ws s vs ≡ Err (TooDeep (drop k ws)) → RefusesLine ws k cause.TooDeep
-  line_deep ws k lt h = deep_there Line s vs reads_whole ws k lt h
+  line_deep ws k lt h = deep_there LineWhole s vs reads_whole ws k lt h

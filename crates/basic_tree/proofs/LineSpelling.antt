@@ -25,7 +25,7 @@ use Rattle.basic_tree.specs.SpellingExpressions.{steps_of, IsTree, Fits, IsExpr}
 use Rattle.basic_tree.specs.SpellingStatements.{line_steps, IsAdmissible}
 use Rattle.basic_tree.specs.GrammarPlaces.{IsRead, IsReadLine}
 use Rattle.basic_tree.specs.LineVerdicts.{SpelledBy, Spells}
-use Rattle.basic_tree.specs.ReadableWords.{IsQuotable, IsReadable, IsUncut, quote_behind, AreItems, AreReadable, TreesAreSpelled}
+use Rattle.basic_tree.specs.ReadableWords.{IsQuotable, IsReadable, IsUncut, quote_behind, AreDataItems, AreReadable, TreesAreSpelled}
 use Rattle.basic_tree.proofs.TokenLemmas.{tokens_step}
 use Rattle.basic_tree.proofs.TableSpelling.{SpelledWord, keyword_spelled, sign_spelled}
 use Rattle.basic_tree.proofs.NameSpelling.{named_spelled, fn_named_spelled}
@@ -195,7 +195,7 @@ record SpelledItems (ws : List Word) : Type 0 where
   pub bytes : List ℕ
   pub reads : (start : ℕ) → words_of (items_from start [] None bytes) ≡ ws
 
-items_spelled : (ws : List Word) → AreItems ws → SpelledItems ws
+items_spelled : (ws : List Word) → AreDataItems ws → SpelledItems ws
 items_spelled [] h = absurd h
 items_spelled (Item bytes ∷ []) h = record {
   bytes = bytes;

@@ -10,7 +10,7 @@ use Rattle.basic_tree.specs.SpellingWords.{Word, Step, words_of, levels, most_le
 use Rattle.basic_tree.specs.Trees.{Tree, LineTree}
 use Rattle.basic_tree.specs.SpellingExpressions.{steps_of, IsExpr}
 use Rattle.basic_tree.specs.SpellingStatements.{line_steps}
-use Rattle.basic_tree.specs.GrammarPlaces.{Whole, Expression, Line, Begins, BeginsFlat, IsLimit, IsDeep, IsRefused, between, IsRead, RefusesExpr, IsReadLine, RefusesLine}
+use Rattle.basic_tree.specs.GrammarPlaces.{Whole, ExprWhole, LineWhole, Begins, BeginsFlat, IsLimit, IsDeep, IsRefused, between, IsRead, RefusesExpr, IsReadLine, RefusesLine}
 use Rattle.basic_tree.specs.declared.tokens.Refusal.{Refusal}
 use Rattle.basic_tree.specs.LineVerdicts.{SpelledBy, RefusedBy, HasTree, RefusedFor}
 use Rattle.basic_tree.specs.AnswerLaws.{OneExprAnswer, OneLineAnswer, OneBytesAnswer, OneVerdict}
@@ -93,17 +93,17 @@ refusals whole settled ws j k x y c d a b = absurd a
 
 -- ---- lines
 
-lines_settled : Settled Line
+lines_settled : Settled LineWhole
 lines_settled p q r g h a b = rw (a.2, b.2) (line_levels p q r a.0 b.0 a.1 b.1)
 
 line_refusals : (ws : List Word) (j k : ℕ) (c d : Cause) → RefusesLine ws j c → RefusesLine ws k d → (j ≡ k) × (c ≡ d)
-line_refusals ws j k c d a b = refusals Line lines_settled ws j k ws ws c d a b
+line_refusals ws j k c d a b = refusals LineWhole lines_settled ws j k ws ws c d a b
 
 line_apart : (ws : List Word) (k : ℕ) (l : LineTree) (c : Cause) → IsReadLine ws l → RefusesLine ws k c → ⊥
 line_apart ws k l cause.Syntax a b = b.none (line_steps l) (l, a.line, refl)
 line_apart ws k l cause.TooDeep a b =
-    let whole : Line (take (length ws) ws) (line_steps l) = subst (λ (x : List Word). Line x (line_steps l)) (sym (take_all (length ws) ws (omega arith))) (l, a.line, refl) in
-    flat_ends Line lines_settled ws k (length ws) b.within b.opens (flat_of_read Line ws (length ws) (line_steps l) whole a.flat) b.within
+    let whole : LineWhole (take (length ws) ws) (line_steps l) = subst (λ (x : List Word). LineWhole x (line_steps l)) (sym (take_all (length ws) ws (omega arith))) (l, a.line, refl) in
+    flat_ends LineWhole lines_settled ws k (length ws) b.within b.opens (flat_of_read LineWhole ws (length ws) (line_steps l) whole a.flat) b.within
 line_apart ws k l c a b = absurd b
 
 pub one_line_answer : OneLineAnswer
@@ -145,7 +145,7 @@ one_verdict_lem line (RefusedFor c) (RefusedFor d) a b = ap RefusedFor (sym a.2 
 
 -- ---- expressions
 
-expressions_settled : (w : Want) → Settled (Expression w)
+expressions_settled : (w : Want) → Settled (ExprWhole w)
 expressions_settled w p q r g h a b = rw (a.2, b.2) (expression_levels w w p q r a.0 b.0 a.1 b.1)
 
 -- places that are as far behind another
@@ -154,19 +154,19 @@ same_place from j k a b e = omega (arith, e, a, b)
 
 expr_read : (w : Want) (ws : List Word) (from j k : ℕ) (t u : Tree) → IsRead w ws from t j → IsRead w ws from u k → (t ≡ u) × (j ≡ k)
 expr_read w ws from j k t u a b =
-    let same = same_place from j k a.after b.after (one_limit (Expression w) (drop from ws) (j - from) (k - from) a.limit b.limit) in
+    let same = same_place from j k a.after b.after (one_limit (ExprWhole w) (drop from ws) (j - from) (k - from) a.limit b.limit) in
     (one_tree_lem w w (between ws from j) t u a.expression (subst (λ (n : ℕ). IsExpr w (between ws from n) u) (sym same) b.expression), same)
 
 expr_refusals : (w : Want) (ws : List Word) (from j k : ℕ) (c d : Cause) → RefusesExpr w ws from j c → RefusesExpr w ws from k d → (j ≡ k) × (c ≡ d)
 expr_refusals w ws from j k c d a b =
-    let same = refusals (Expression w) (expressions_settled w) (drop from ws) (j - from) (k - from) (between ws from j) (between ws from k) c d a.1 b.1 in
+    let same = refusals (ExprWhole w) (expressions_settled w) (drop from ws) (j - from) (k - from) (between ws from j) (between ws from k) c d a.1 b.1 in
     (same_place from j k a.0 b.0 same.0, same.1)
 
 expr_apart : (w : Want) (ws : List Word) (from j k : ℕ) (t : Tree) (c : Cause) → IsRead w ws from t j → RefusesExpr w ws from k c → ⊥
 expr_apart w ws from j k t cause.Syntax a b =
-    let same = same_place from j k a.after b.0 (one_limit (Expression w) (drop from ws) (j - from) (k - from) a.limit b.1.limit) in
+    let same = same_place from j k a.after b.0 (one_limit (ExprWhole w) (drop from ws) (j - from) (k - from) a.limit b.1.limit) in
     b.1.none (steps_of t) (t, subst (λ (n : ℕ). IsExpr w (between ws from n) t) same a.expression, refl)
-expr_apart w ws from j k t cause.TooDeep a b = flat_and_deep (Expression w) (expressions_settled w) (drop from ws) (j - from) (k - from) a.limit (flat_of_read (Expression w) (drop from ws) (j - from) (steps_of t) (t, a.expression, refl) a.flat) b.1
+expr_apart w ws from j k t cause.TooDeep a b = flat_and_deep (ExprWhole w) (expressions_settled w) (drop from ws) (j - from) (k - from) a.limit (flat_of_read (ExprWhole w) (drop from ws) (j - from) (steps_of t) (t, a.expression, refl) a.flat) b.1
 expr_apart w ws from j k t c a b = absurd b.1
 
 pub one_expr_answer : OneExprAnswer

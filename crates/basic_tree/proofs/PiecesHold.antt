@@ -13,7 +13,7 @@ use Rattle.basic_tree.specs.declared.parts.OpenFor.TheVariants as purpose
 use Rattle.basic_tree.specs.SpellingWords.{Item, Step, Plain}
 use Rattle.basic_tree.specs.Trees.{Tree, Variable, PrintedTree, Value, Tab, ModifierTree, If, Unless, While, Until, ForModifier, PrintItemTree, PrintChannelTree, PromptTree, ChainLineTree, CloseChannelTree, FieldPartTree, ClauseTree, LineClause, StatementClause, ElseTree, NoElse, Else, StatementTree, IfThen, IfGoto, Modified, For, Next, FnEnd, Data, Dim, DimFile, Def, Let, Result, Print, Input, InputLine, Read, Restore, Goto, Gosub, Return, OnGoto, OnGosub, OnErrorGoto, Resume, Stop, End, Chain, Sleep, Open, Close, Get, Put, Unlock, Field, Lset, Rset, Kill, Rename, LineTree}
 use Rattle.basic_tree.specs.SpellingExpressions.{Fits, want_of}
-use Rattle.basic_tree.specs.SpellingParts.{perhaps, optional, each, IfThere, Every, Several, IsOf, is_line_number, is_bound, IsTarget, IsShape, is_size, IsFileShape, IsPrinted, kind_of_first, IsRange, IsModifier, IsChainLine, IsFieldPart}
+use Rattle.basic_tree.specs.SpellingParts.{perhaps, optional, each, IfThere, Every, OneOrMore, IsOf, is_line_number, is_bound, IsTarget, IsShape, is_size, IsFileShape, IsPrinted, kind_of_first, IsRange, IsModifier, IsChainLine, IsFieldPart}
 use Rattle.basic_tree.specs.SpellingStatements.{IsStatement, IsClause, IsElse, IsAdmissible}
 use Rattle.basic_tree.specs.MachinePieces.{Piece, Fixed, Expression, NameOf, LiteralOf, Holds, ArePieces, line, line_or_zero, target, after_commas, many}
 use Rattle.basic_tree.specs.MachineParts.{shape, element_size, file_shape, separator_piece, printed, print_item, channel_and_comma, print_channel, prompt, range, modifier, name, parameters, value, chain_line, open_for, option_of, close_channel, field_part}
@@ -86,7 +86,7 @@ module _ {A : Type 0} (pieces : A → List Piece) (P : A → Type 0) (same : (a 
   commas [] = nothing
   commas (a ∷ more) = fixed (two (same a) (commas more))
 
-  several : (list : List A) → Same (many pieces list) (Several P list)
+  several : (list : List A) → Same (many pieces list) (OneOrMore P list)
   several [] = held nothing
   several (a ∷ more) = change (two (same a) (commas more)) (λ h. (refl, h)) (λ h. h.1)
 
@@ -171,7 +171,7 @@ items_same : (list : List (List ℕ)) → Same (each (λ i. Fixed (Plain (Item i
 items_same [] = nothing
 items_same (item ∷ more) = fixed (items_same more)
 
-lines_same : (ns : List ℕ) → Same (many (λ n. line n ∷ []) ns) (Several (λ n. is_line_number n ≡ true) ns)
+lines_same : (ns : List ℕ) → Same (many (λ n. line n ∷ []) ns) (OneOrMore (λ n. is_line_number n ≡ true) ns)
 lines_same ns = several (λ n. line n ∷ []) (λ n. is_line_number n ≡ true) (λ n. last_literal) ns
 
 -- ---- statements and lines

@@ -1,12 +1,13 @@
 -- Which trees are lines, and which are too deep, computed.
-use Rattle.std.proofs.Common.{◌≡◌, ℕ, zero, suc, true, false, [], Some, None, refl, arith}
+use Rattle.std.proofs.Common.{◌≡◌, ℕ, zero, suc, true, false, [], ◌∷◌, Some, None, refl, arith}
 use Rattle.basic_tree.specs.declared.names.Name.{Name}
 use Rattle.basic_tree.specs.declared.expressions.Operator.TheVariants as operator
 use Rattle.basic_tree.specs.declared.expressions.Relation.TheVariants as relation
 use Rattle.basic_tree.specs.declared.expressions.Function.TheVariants as function
-use Rattle.basic_tree.specs.SpellingWords.{too_deep}
-use Rattle.basic_tree.specs.Trees.{Tree, Literal, Quoted, Variable, Element, FunctionOf, Parenthesized, Negative, Not, Operation, Comparison, NoTrees, AndTrees, Value, If, LineClause, StatementClause, NoElse, Else, StatementTree, IfThen, Modified, Print, Stop, Chain, LineTree}
+use Rattle.basic_tree.specs.SpellingWords.{words, too_deep}
+use Rattle.basic_tree.specs.Trees.{Tree, Literal, Quoted, Variable, Element, FunctionOf, Parenthesized, Negative, Not, Operation, Comparison, NoTrees, AndTrees, Value, If, LineClause, StatementClause, NoElse, Else, StatementTree, IfThen, Modified, Data, Print, Stop, Chain, LineTree}
 use Rattle.basic_tree.specs.SpellingExpressions.{steps_of, IsTree}
+use Rattle.basic_tree.specs.ReadableWords.{AreReadable}
 use Rattle.basic_tree.specs.SpellingStatements.{line_steps, IsAdmissible}
 
 abbrev alone : StatementTree → LineTree
@@ -40,6 +41,17 @@ a_line_with_a_sign = grind arith
 
 a_line_with_a_sign_behind_the_word : IsAdmissible (alone (Chain (Variable (text_name 65)) (Some (record { word = true; number = Negative (Literal 5) }))))
 a_line_with_a_sign_behind_the_word = grind arith
+
+-- ---- what bytes can spell
+
+a_readable_sum : AreReadable (words (line_steps (alone (Print None [] (Some (Value (Operation (Variable (number_name 65)) operator.Plus (Literal 3))))))))
+a_readable_sum = grind arith
+
+items_behind_data : AreReadable (words (line_steps (alone (Data ((49 ∷ []) ∷ (50 ∷ []) ∷ [])))))
+items_behind_data = grind arith
+
+a_statement_behind_data : AreReadable (words (line_steps (record { first = Some (Data ((49 ∷ []) ∷ [])); others = Some Stop ∷ [] }))) → ⊥
+a_statement_behind_data = grind arith
 
 -- ---- levels of operators
 

@@ -13,11 +13,11 @@ use Rattle.basic_tree.specs.SpellingStatements.{IsLine, line_steps}
 abbrev pub Whole : Type 1
 Whole = List Word → List Step → Type 0
 
-abbrev pub Expression : Want → Whole
-Expression w ws steps = (t : Tree) × IsExpr w ws t × (steps ≡ steps_of t)
+abbrev pub ExprWhole : Want → Whole
+ExprWhole w ws steps = (t : Tree) × IsExpr w ws t × (steps ≡ steps_of t)
 
-abbrev pub Line : Whole
-Line ws steps = (l : LineTree) × IsLine ws l × (steps ≡ line_steps l)
+abbrev pub LineWhole : Whole
+LineWhole ws steps = (l : LineTree) × IsLine ws l × (steps ≡ line_steps l)
 
 -- some whole begins with these words
 abbrev pub Begins : Whole → List Word → Type 0
@@ -63,13 +63,13 @@ between ws from k = take (k - from) (drop from ws)
 -- up to their limit the words are this expression, and no word of it is too deep
 pub record IsRead (w : Want) (ws : List Word) (from : ℕ) (t : Tree) (k : ℕ) : Type 0 where
   pub after : from ≤ k
-  pub limit : IsLimit (Expression w) (drop from ws) (k - from)
+  pub limit : IsLimit (ExprWhole w) (drop from ws) (k - from)
   pub expression : IsExpr w (between ws from k) t
   pub flat : too_deep (steps_of t) ≡ None
 
 -- why there is no expression, and where
 abbrev pub RefusesExpr : Want → List Word → ℕ → ℕ → Cause → Type 0
-RefusesExpr w ws from k why = (from ≤ k) × IsRefused (Expression w) (drop from ws) (k - from) (between ws from k) why
+RefusesExpr w ws from k why = (from ≤ k) × IsRefused (ExprWhole w) (drop from ws) (k - from) (between ws from k) why
 
 -- no words have two trees, whatever kinds are wanted
 abbrev pub OneTree : Type 0
@@ -88,7 +88,7 @@ pub record IsReadLine (ws : List Word) (l : LineTree) : Type 0 where
 
 -- why the words are no line, and where
 abbrev pub RefusesLine : List Word → ℕ → Cause → Type 0
-RefusesLine ws k why = IsRefused Line ws k ws why
+RefusesLine ws k why = IsRefused LineWhole ws k ws why
 
 -- no words are two lines
 abbrev pub OneLine : Type 0

@@ -53,16 +53,16 @@ quote_behind quote [] = quote
 quote_behind quote (b ∷ bytes) = quote_behind (quote_after quote b) bytes
 
 -- items, of which the last alone may leave a quote open
-abbrev pub AreItems : List Word → Type 0
-AreItems [] = ⊥
-AreItems (Item bytes ∷ []) = IsUncut None bytes
-AreItems (Item bytes ∷ (w ∷ ws)) = IsUncut None bytes × (quote_behind None bytes ≡ None) × AreItems (w ∷ ws)
-AreItems (other ∷ ws) = ⊥
+abbrev pub AreDataItems : List Word → Type 0
+AreDataItems [] = ⊥
+AreDataItems (Item bytes ∷ []) = IsUncut None bytes
+AreDataItems (Item bytes ∷ (w ∷ ws)) = IsUncut None bytes × (quote_behind None bytes ≡ None) × AreDataItems (w ∷ ws)
+AreDataItems (other ∷ ws) = ⊥
 
 -- readable words; behind DATA there are items to the end
 abbrev pub AreReadable : List Word → Type 0
 AreReadable [] = Unit {0}
-AreReadable (Key keyword.Data ∷ ws) = AreItems ws
+AreReadable (Key keyword.Data ∷ ws) = AreDataItems ws
 AreReadable (w ∷ ws) = IsReadable w × AreReadable ws
 
 -- every line within the limit of levels, of readable words, is spelled by some bytes, and so is every expression

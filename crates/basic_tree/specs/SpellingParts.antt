@@ -91,8 +91,8 @@ has_some [] = false
 has_some (a ∷ more) = true
 
 -- there are some, and all are so
-abbrev pub Several : {A : Type 0} → (A → Type 0) → List A → Type 0
-Several P list = (has_some list ≡ true) × Every P list
+abbrev pub OneOrMore : {A : Type 0} → (A → Type 0) → List A → Type 0
+OneOrMore P list = (has_some list ≡ true) × Every P list
 
 -- ---- expressions, names and numbers in statements
 

@@ -7,7 +7,7 @@ use Rattle.basic_tree.specs.declared.kinds.Want.TheVariants as want
 use Rattle.basic_tree.specs.SpellingWords.{Word, FnNamed, Item, Step, Plain, words}
 use Rattle.basic_tree.specs.Trees.{ClauseTree, LineClause, StatementClause, ElseTree, NoElse, Else, StatementTree, IfThen, IfGoto, Modified, For, Next, FnEnd, Data, Dim, DimFile, Def, Let, Result, Print, Input, InputLine, Read, Restore, Goto, Gosub, Return, OnGoto, OnGosub, OnErrorGoto, Resume, Stop, End, Chain, Sleep, Open, Close, Get, Put, Unlock, Field, Lset, Rset, Kill, Rename, LineTree}
 use Rattle.basic_tree.specs.SpellingExpressions.{steps_of, want_of}
-use Rattle.basic_tree.specs.SpellingParts.{Spelling, steps_in, keyed, signed, opens, closes, named, literal, perhaps, optional, each, listed, IfThere, Every, has_some, Several, IsOf, is_line_number, is_bound, IsTarget, shape_spelling, IsShape, file_shape_spelling, IsFileShape, printed_spelling, IsPrinted, item_spelling, channel_spelling, print_channel_spelling, is_parted, channel_comma_spelling, prompt_spelling, is_one, range_spelling, IsRange, modifier_spelling, IsModifier, parameters_spelling, value_spelling, kind_of_first, chain_line_spelling, IsChainLine, purpose_spelling, option_spelling, close_channel_spelling, field_part_spelling, IsFieldPart}
+use Rattle.basic_tree.specs.SpellingParts.{Spelling, steps_in, keyed, signed, opens, closes, named, literal, perhaps, optional, each, listed, IfThere, Every, has_some, OneOrMore, IsOf, is_line_number, is_bound, IsTarget, shape_spelling, IsShape, file_shape_spelling, IsFileShape, printed_spelling, IsPrinted, item_spelling, channel_spelling, print_channel_spelling, is_parted, channel_comma_spelling, prompt_spelling, is_one, range_spelling, IsRange, modifier_spelling, IsModifier, parameters_spelling, value_spelling, kind_of_first, chain_line_spelling, IsChainLine, purpose_spelling, option_spelling, close_channel_spelling, field_part_spelling, IsFieldPart}
 
 -- ---- where a statement may stand
 
@@ -130,26 +130,26 @@ abbrev mutual
   IsStatement (Next v) = v.text ≡ false
   IsStatement FnEnd = Unit {0}
   IsStatement (Data items) = has_some items ≡ true
-  IsStatement (Dim shapes) = Several IsShape shapes
-  IsStatement (DimFile c shapes) = (is_bound c ≡ true) × Several IsFileShape shapes
+  IsStatement (Dim shapes) = OneOrMore IsShape shapes
+  IsStatement (DimFile c shapes) = (is_bound c ≡ true) × OneOrMore IsFileShape shapes
   -- at most five parameters
   IsStatement (Def f ps v) = (nat_lt (length ps) 6 ≡ true) × IfThere (λ t. IsOf (want_of f.text) t) v
   -- all targets and the value are of one kind
-  IsStatement (Let word ts v) = Several (λ t. IsTarget (want_of (kind_of_first ts)) t) ts × IsOf (want_of (kind_of_first ts)) v
+  IsStatement (Let word ts v) = OneOrMore (λ t. IsTarget (want_of (kind_of_first ts)) t) ts × IsOf (want_of (kind_of_first ts)) v
   IsStatement (Result f v) = IsOf (want_of f.text) v
   IsStatement (Print c items last) =
       (is_parted c items last ≡ true) × IfThere (λ channel. IsOf want.Number channel.number) c
       × Every (λ item. IsPrinted item.printed) items × IfThere IsPrinted last
   IsStatement (Input c p ts) =
-      (is_one c p ≡ true) × IfThere (λ t. IsOf want.Number t) c × Several (λ t. IsTarget want.Either t) ts
+      (is_one c p ≡ true) × IfThere (λ t. IsOf want.Number t) c × OneOrMore (λ t. IsTarget want.Either t) ts
   IsStatement (InputLine c x) = IfThere (λ t. IsOf want.Number t) c × (x.text ≡ true)
-  IsStatement (Read ts) = Several (λ t. IsTarget want.Either t) ts
+  IsStatement (Read ts) = OneOrMore (λ t. IsTarget want.Either t) ts
   IsStatement Restore = Unit {0}
   IsStatement (Goto apart n) = is_line_number n ≡ true
   IsStatement (Gosub apart n) = is_line_number n ≡ true
   IsStatement Return = Unit {0}
-  IsStatement (OnGoto t ns) = IsOf want.Number t × Several (λ n. is_line_number n ≡ true) ns
-  IsStatement (OnGosub t ns) = IsOf want.Number t × Several (λ n. is_line_number n ≡ true) ns
+  IsStatement (OnGoto t ns) = IsOf want.Number t × OneOrMore (λ n. is_line_number n ≡ true) ns
+  IsStatement (OnGosub t ns) = IsOf want.Number t × OneOrMore (λ n. is_line_number n ≡ true) ns
   IsStatement (OnErrorGoto n) = IfThere (λ m. is_bound m ≡ true) n
   IsStatement (Resume n) = IfThere (λ m. is_bound m ≡ true) n
   IsStatement Stop = Unit {0}
@@ -159,11 +159,11 @@ abbrev mutual
   IsStatement (Open file purpose hash c record_size cluster_size mode) =
       IsOf want.Text file × IsOf want.Number c × IfThere (λ t. IsOf want.Number t) record_size
       × IfThere (λ t. IsOf want.Number t) cluster_size × IfThere (λ t. IsOf want.Number t) mode
-  IsStatement (Close cs) = Several (λ c. IsOf want.Number c.number) cs
+  IsStatement (Close cs) = OneOrMore (λ c. IsOf want.Number c.number) cs
   IsStatement (Get c block) = IsOf want.Number c × IfThere (λ t. IsOf want.Number t) block
   IsStatement (Put c block) = IsOf want.Number c × IfThere (λ t. IsOf want.Number t) block
   IsStatement (Unlock c) = IsOf want.Number c
-  IsStatement (Field c ps) = IsOf want.Number c × Several IsFieldPart ps
+  IsStatement (Field c ps) = IsOf want.Number c × OneOrMore IsFieldPart ps
   IsStatement (Lset x v) = (x.text ≡ true) × IsOf want.Text v
   IsStatement (Rset x v) = (x.text ≡ true) × IsOf want.Text v
   IsStatement (Kill t) = IsOf want.Text t
