@@ -1,6 +1,6 @@
 //! Texts: lists of at most 32,767 bytes.
 
-ghost use Rattle.std.specs.Prelude.{◌≡◌, ◌≤◌, ◌++◌, ◌↔◌, IsTrue, IfOk, length, slice_index_or};
+ghost use Rattle.std.specs.Prelude.{◌≡◌, ◌≤◌, ◌++◌, ◌↔◌, [], IsTrue, IfOk, length, slice_index_or};
 ghost use Rattle.basic_values.specs.Texts.{MakesText, order_of, space};
 
 use crate::failures::{Halt, NoMemory, Trouble};
@@ -34,6 +34,15 @@ impl Text {
         ensures { MakesText bytes.now result }
     {
         concat(alloc, bytes, &[])
+    }
+
+    /// The text without bytes. It takes no memory.
+    pub fn empty(alloc: Global) -> Text
+        ensures { result ≡ [] }
+    {
+        Text {
+            bytes: Vec::new(alloc),
+        }
     }
 
     /// The bytes of the text.

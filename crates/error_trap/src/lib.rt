@@ -1,4 +1,4 @@
-//! The trap of a job's errors: what ON ERROR sets, what an error finds there, and what RESUME leaves.
+//! The trap of a job's errors: what ON ERROR sets, what an error finds there, what RESUME leaves.
 //!
 //! `raise`, `resume` and `on_error` carry the whole rule, one equation each.
 #![tactic(auto)]

@@ -41,7 +41,8 @@ impl Trap {
         }
     }
 
-    /// An error has come. Where there is a handler and no error is being handled, the trap keeps it.
+    /// An error has come. Where there is a handler and no error is being handled, the trap keeps
+    /// it.
     pub fn raise(&mut self, fault: Fault, line: u16, place: u32) -> Raised
         ensures { (self.new, result) ≡ raised fault line place self.old }
     {
@@ -72,8 +73,8 @@ impl Trap {
         Ok(self.place)
     }
 
-    /// Sets the handler. Where it is taken away while an error is being handled, that error and its line are given,
-    /// to be reported. The manual's ON ERROR.
+    /// Sets the handler. Where it is taken away while an error is being handled, that error and its
+    /// line are given, to be reported. The manual's ON ERROR.
     pub fn on_error(&mut self, handler: Option<u16>) -> Option<(Fault, u16)>
         ensures { (self.new, result) ≡ handled_by handler self.old }
     {

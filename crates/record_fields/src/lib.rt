@@ -1,7 +1,8 @@
-//! Record fields: the buffers of a job's channels, the parts of them that FIELD names, and what LSET and RSET write there.
+//! Record fields: the buffers of a job's channels, the parts of them that FIELD names, and what
+//! LSET and RSET write there.
 //!
-//! `layout` carries which parts some widths give; `lend`, `write_part`, `lset_part` and `rset_part` carry that a part
-//! is a range of its buffer and that a write replaces that range and nothing else.
+//! `layout` carries which parts some widths give; `lend`, `write_part`, `lset_part` and `rset_part`
+//! carry that a part is a range of its buffer, and that a write replaces that range and no more.
 #![tactic(auto)]
 
 mod buffers;
