@@ -1,0 +1,90 @@
+//! Variables.
+
+ghost use Rattle.std.specs.Prelude.{◌≡◌};
+ghost use Rattle.job_memory.specs.declared.contents.Content.TheVariants as content;
+ghost use Rattle.job_memory.specs.Answers.{Stores};
+ghost use Rattle.job_memory.specs.Contents.{size_in, number_in, text_in, LiesInBuffer};
+ghost use Rattle.job_memory.specs.Memory.{variable, store, room_of};
+
+use crate::contents::{Content, MOST_ROOM, number_of, size, text_of};
+use crate::memory::Memory;
+use basic_tree::Name;
+use basic_values::{Halt, Int, Text, Trouble};
+use record_fields::{Buffers, Part, lend};
+
+impl Memory {
+    /// The number of a variable: 0 where nothing is stored.
+    pub fn number(&self, name: Name) -> Int
+        ensures { result ≡ number_in (variable name self.now) }
+    {
+        match self.variables.get(&name) {
+            Some(content) => number_of(content),
+            None => Int::new(0),
+        }
+    }
+
+    /// The text of a variable, lent: its own, or the part of a channel's buffer that stands for it.
+    /// It is empty where nothing is stored.
+    pub fn text<'a>(&'a self, name: Name, buffers: &'a Buffers) -> &'a [u8]
+        requires { LiesInBuffer (variable name self.now) }
+        ensures { result.now ≡ text_in buffers.entry.now (variable name self.entry.now) }
+    {
+        match self.variables.get(&name) {
+            Some(Content::Fielded { channel, part }) => lend(buffers.buffer(*channel), *part),
+            Some(content) => text_of(content),
+            None => &[],
+        }
+    }
+
+    /// Stores a number.
+    pub fn set_number(&mut self, name: Name, value: Int) -> Result<(), Trouble<Halt>>
+        ensures { Stores name (content.Number value) self.old self.new result }
+    {
+        self.put(name, Content::Number(value))
+    }
+
+    /// Stores a text of its own.
+    pub fn set_text(&mut self, name: Name, value: Text) -> Result<(), Trouble<Halt>>
+        ensures { Stores name (content.Own value) self.old self.new result }
+    {
+        self.put(name, Content::Own(value))
+    }
+
+    /// Lets a part of a channel's buffer stand for a text.
+    pub fn bind_part(&mut self, name: Name, channel: u8, part: Part) -> Result<(), Trouble<Halt>>
+        ensures { Stores name (content.Fielded channel part) self.old self.new result }
+    {
+        self.put(name, Content::Fielded { channel, part })
+    }
+
+    fn put(&mut self, name: Name, content: Content) -> Result<(), Trouble<Halt>>
+        ensures { Stores name content self.old self.new result }
+    {
+        let room = self.room_with(name, &content);
+        if room > MOST_ROOM {
+            return Err(Trouble::Refused(Halt::RoomFull));
+        }
+        if self.variables.insert(name, content).is_err() {
+            return Err(Trouble::NoMemory);
+        }
+        self.room = room;
+        Ok(())
+    }
+
+    /// The room that there would be with this content stored.
+    fn room_with(&self, name: Name, content: &Content) -> usize
+        ensures { result ≡ room_of (store name content.now self.now) }
+    {
+        self.room - self.size_at(name) + size(content)
+    }
+
+    /// The room of a variable.
+    fn size_at(&self, name: Name) -> usize
+        ensures { result ≡ size_in (variable name self.now) }
+    {
+        match self.variables.get(&name) {
+            Some(content) => size(content),
+            None => 0,
+        }
+    }
+}
