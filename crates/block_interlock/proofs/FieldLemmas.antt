@@ -112,10 +112,8 @@ module _ (fields : List (Option Held)) (index : List Hold) (room : ℕ) (k : IsK
   here_held : (name : FileName) (block : ℕ) → is_channel job channel (look index name block) ≡ true → field_at fields job channel ≡ Some (record { name = name; block = block })
   here_held name block is = (k.told job channel name block f).1 (channel_is job channel (look index name block) is)
 
-  pub let_go_nothing : field_at fields job channel ≡ None → LetsGo job channel fields index fields index room
+  pub let_go_nothing : field_at fields job channel ≡ None → LetsGo job channel index fields index
   let_go_nothing none = record {
-    kept = k;
-    width = refl;
     empty = none;
     looks = λ name block.
         elim (is_channel job channel (look index name block)) as (λ v. is_channel job channel (look index name block) ≡ v → look index name block ≡ cond v None (look index name block)) [
@@ -124,7 +122,7 @@ module _ (fields : List (Option Held)) (index : List Hold) (room : ℕ) (k : IsK
         ] refl;
   }
 
-  module _ (held : Held) (there : field_at fields job channel ≡ Some held) (left : List Hold) (after : ℕ) (d : Drops held index room left after) where
+  module _ (held : Held) (there : field_at fields job channel ≡ Some held) (left : List Hold) (d : Drops held index left) where
     -- a block that is left is another
     left_is : (j c : ℕ) (name : FileName) (block : ℕ) → look left name block ≡ Some (j, c) → (is_block name block held ≡ false) × (look index name block ≡ Some (j, c))
     left_is j c name block e = kept_out (is_block name block held) (look index name block) (j, c) (sym (d.looks name block) ∙ e)
@@ -147,16 +145,17 @@ module _ (fields : List (Option Held)) (index : List Hold) (room : ℕ) (k : IsK
         absurd (true≢false (sym (held_parts name block held here) ∙ l.0))
     back j c name block g (inr ne) e = other_field None j c ne ∙ (k.told j c name block g).1 (left_is j c name block e).1
 
-    pub let_go_block : LetsGo job channel fields index (set fields (slot job channel) None) left after
-    let_go_block = record {
-      kept = record {
-        rises = d.rises;
-        told = λ j c name block g. (forth j c name block (wider None j c g) (cases_eq (slot j c) (slot job channel)), back j c name block (wider None j c g) (cases_eq (slot j c) (slot job channel)));
-        within = λ j c name block e. narrower None j c (k.within j c name block (left_is j c name block e).1);
-        all = omega (arith, k.all, d.less job channel (held_here held there), count_less fields (slot job channel) held there);
-        fits = omega (arith, k.fits, d.keeps_room, length-set fields (slot job channel) None);
-      };
-      width = length-set fields (slot job channel) None;
+    pub let_go_kept : (after : ℕ) → room ≤ after → IsKept (set fields (slot job channel) None) left after
+    let_go_kept after more = record {
+      rises = d.rises;
+      told = λ j c name block g. (forth j c name block (wider None j c g) (cases_eq (slot j c) (slot job channel)), back j c name block (wider None j c g) (cases_eq (slot j c) (slot job channel)));
+      within = λ j c name block e. narrower None j c (k.within j c name block (left_is j c name block e).1);
+      all = omega (arith, k.all, d.less job channel (held_here held there), count_less fields (slot job channel) held there);
+      fits = omega (arith, k.fits, more, length-set fields (slot job channel) None);
+    }
+
+    pub let_go_gone : LetsGo job channel index (set fields (slot job channel) None) left
+    let_go_gone = record {
       empty = own_field None;
       looks = λ name block. d.looks name block
           ∙ (elim (is_block name block held) as (λ v. is_block name block held ≡ v → cond v None (look index name block) ≡ cond (is_channel job channel (look index name block)) None (look index name block)) [
@@ -172,7 +171,7 @@ module _ (fields : List (Option Held)) (index : List Hold) (room : ℕ) (k : IsK
     pub has_room : length index < room
     has_room = omega (arith, k.all, k.fits, count_below fields (slot job channel) f.0 none)
 
-    module _ (grown : List Hold) (after : ℕ) (a : Adds (record { held = held; job = job; channel = channel }) index room grown after) where
+    module _ (grown : List Hold) (a : Adds (record { held = held; job = job; channel = channel }) index grown) where
       new_block : (j c : ℕ) (name : FileName) (block : ℕ) → look index name block ≡ Some (j, c) → is_block name block held ≡ false
       new_block j c name block e =
           elim (is_block name block held) as (λ v. is_block name block held ≡ v → v ≡ false) [
@@ -212,37 +211,33 @@ module _ (fields : List (Option Held)) (index : List Hold) (room : ℕ) (k : IsK
       inside j c name block (is_new is p q) = subst (λ x. HasField fields x c) p (subst (λ y. HasField fields job y) q f)
       inside j c name block (is_old h) = k.within j c name block h
 
-      pub take_up_block : TakesUp (record { held = held; job = job; channel = channel }) fields index (set fields (slot job channel) (Some held)) grown after
-      take_up_block = record {
-        kept = record {
-          rises = a.rises;
-          told = λ j c name block g. (gain j c name block (wider (Some held) j c g) (cases_eq (slot j c) (slot job channel)), λ e. lose j c name block (wider (Some held) j c g) (cases_eq (slot j c) (slot job channel)) (grown_is j c name block e));
-          within = λ j c name block e. narrower (Some held) j c (inside j c name block (grown_is j c name block e));
-          all = omega (arith, k.all, a.more, count_more fields (slot job channel) held f.0 none);
-          fits = omega (arith, k.fits, a.keeps_room, length-set fields (slot job channel) (Some held));
-        };
-        width = length-set fields (slot job channel) (Some held);
-        looks = a.looks;
+      pub take_up_kept : (after : ℕ) → room ≤ after → IsKept (set fields (slot job channel) (Some held)) grown after
+      take_up_kept after wide = record {
+        rises = a.rises;
+        told = λ j c name block g. (gain j c name block (wider (Some held) j c g) (cases_eq (slot j c) (slot job channel)), λ e. lose j c name block (wider (Some held) j c g) (cases_eq (slot j c) (slot job channel)) (grown_is j c name block e));
+        within = λ j c name block e. narrower (Some held) j c (inside j c name block (grown_is j c name block e));
+        all = omega (arith, k.all, a.more, count_more fields (slot job channel) held f.0 none);
+        fits = omega (arith, k.fits, wide, length-set fields (slot job channel) (Some held));
       }
 
 -- AS MAPS
 
-pub map_released : (job channel : ℕ) (fields new : List (Option Held)) (index left : List Hold) (room : ℕ) → LetsGo job channel fields index new left room → map_of left ≡ release (map_of index) job channel
-map_released job channel fields new index left room g =
+pub map_released : (job channel : ℕ) (fields : List (Option Held)) (index left : List Hold) → LetsGo job channel index fields left → map_of left ≡ release (map_of index) job channel
+map_released job channel fields index left g =
     same_holds (map_of left) (release (map_of index) job channel) (λ name block.
     holder-map_of left name block ∙ g.looks name block
     ∙ sym (holder-release (map_of index) job channel name block ∙ ap (λ o. cond (is_channel job channel o) None o) (holder-map_of index name block)))
 
-pub map_held : (job channel : ℕ) (held : Held) (fields new last : List (Option Held)) (index left grown : List Hold) (room after : ℕ) → LetsGo job channel fields index new left room → TakesUp (record { held = held; job = job; channel = channel }) new left last grown after → map_of grown ≡ hold (map_of index) job channel held.name held.block
-map_held job channel held fields new last index left grown room after g t =
+pub map_held : (job channel : ℕ) (held : Held) (fields : List (Option Held)) (index left grown : List Hold) → LetsGo job channel index fields left → TakesUp (record { held = held; job = job; channel = channel }) left grown → map_of grown ≡ hold (map_of index) job channel held.name held.block
+map_held job channel held fields index left grown g looks =
     same_holds (map_of grown) (hold (map_of index) job channel held.name held.block) (λ name block.
-    holder-map_of grown name block ∙ t.looks name block
+    holder-map_of grown name block ∙ looks name block
     ∙ ap (λ o. cond (is_block name block held) (Some (job, channel)) o) (g.looks name block)
     ∙ sym (holder-hold (map_of index) job channel held.name held.block name block ∙ ap (λ o. cond (is_block name block held) (Some (job, channel)) (cond (is_channel job channel o) None o)) (holder-map_of index name block)))
 
 -- what no other channel holds is free once the channel has let go
-pub let_go_free : (job channel : ℕ) (fields new : List (Option Held)) (index left : List Hold) (room : ℕ) (name : FileName) (block : ℕ) → LetsGo job channel fields index new left room → is_held (map_of index) job channel name block ≡ false → look left name block ≡ None
-let_go_free job channel fields new index left room name block g free =
+pub let_go_free : (job channel : ℕ) (fields : List (Option Held)) (index left : List Hold) (name : FileName) (block : ℕ) → LetsGo job channel index fields left → is_held (map_of index) job channel name block ≡ false → look left name block ≡ None
+let_go_free job channel fields index left name block g free =
     g.looks name block ∙ freed (look index name block) (ap (λ o. is_some o && not (is_channel job channel o)) (sym (holder-map_of index name block)) ∙ free) where
       cleared : {X : Type 0} (v : Bool) (x : X) → (true && not v) ≡ false → cond v None (Some x) ≡ None
       cleared true x e = refl
@@ -270,12 +265,6 @@ new_holds jobs room fields index few fits is none =
 
 pub has_field : (jobs : ℕ) (fields : List (Option Held)) (index : List Hold) (room : ℕ) → AreHolds jobs fields index room → (job channel : ℕ) → job < jobs → channel < 13 → HasField fields job channel
 has_field jobs fields index room h job channel lt small = (omega (arith, lt, small, h.width), small)
-
-pub holds_kept : (jobs job channel : ℕ) (fields new : List (Option Held)) (index left : List Hold) (was room : ℕ) → AreHolds jobs fields index was → LetsGo job channel fields index new left room → AreHolds jobs new left room
-holds_kept jobs job channel fields new index left was room h g = record { kept = g.kept; width = g.width ∙ h.width; few = h.few }
-
-pub holds_taken : (jobs : ℕ) (x : Hold) (fields new : List (Option Held)) (index grown : List Hold) (was room : ℕ) → length fields ≡ jobs * 13 → jobs ≤ 63 → TakesUp x fields index new grown room → AreHolds jobs new grown room
-holds_taken jobs x fields new index grown was room width few t = record { kept = t.kept; width = t.width ∙ width; few = few }
 
 -- what a field says, it holds
 pub said_is : (o : Option Held) (name : FileName) (block : ℕ) → (said o ≡ Some (name, block)) ↔ (o ≡ Some (record { name = name; block = block }))

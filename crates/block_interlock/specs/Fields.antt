@@ -5,7 +5,7 @@ use Rattle.monitor_calls.specs.declared.files.FileName.{FileName}
 use Rattle.monitor_model.specs.Holds.{is_channel}
 use Rattle.block_interlock.specs.declared.index.Held.{Held}
 use Rattle.block_interlock.specs.declared.index.Hold.{Hold}
-use Rattle.block_interlock.specs.Index.{look, is_block, Rises}
+use Rattle.block_interlock.specs.Index.{look, Rises}
 
 -- the place of a channel's field
 abbrev pub slot : ℕ → ℕ → ℕ
@@ -37,28 +37,19 @@ pub record IsKept (fields : List (Option Held)) (index : List Hold) (room : ℕ)
   pub all : length index ≡ held_count fields
   pub fits : length fields ≤ room
 
--- the channel holds nothing any more
-pub record LetsGo (job channel : ℕ) (fields : List (Option Held)) (index : List Hold)
-    (new : List (Option Held)) (left : List Hold) (room : ℕ)
+-- the channel holds nothing any more, and the others hold what they held
+pub record LetsGo (job channel : ℕ) (old : List Hold) (fields : List (Option Held)) (new : List Hold)
     : Type 0 where
-  pub kept : IsKept new left room
-  pub width : length new ≡ length fields
-  pub empty : field_at new job channel ≡ None
+  pub empty : field_at fields job channel ≡ None
   pub looks :
       (name : FileName) (block : ℕ) →
-      look left name block
-      ≡ (if is_channel job channel (look index name block) then None else look index name block)
+      look new name block
+      ≡ (if is_channel job channel (look old name block) then None else look old name block)
 
--- a channel that held nothing holds a block
-pub record TakesUp (hold : Hold) (fields : List (Option Held)) (index : List Hold)
-    (new : List (Option Held)) (grown : List Hold) (room : ℕ)
-    : Type 0 where
-  pub kept : IsKept new grown room
-  pub width : length new ≡ length fields
-  pub looks :
-      (name : FileName) (block : ℕ) →
-      look grown name block
-      ≡ (if is_block name block hold.held then Some (hold.job, hold.channel) else look index name block)
+-- the block is held, and the others are as they were
+abbrev pub TakesUp : Hold → List Hold → List Hold → Type 0
+TakesUp hold old new =
+    (name : FileName) (block : ℕ) → look new name block ≡ look (hold ∷ old) name block
 
 -- as many fields as the jobs have channels
 pub record AreHolds (jobs : ℕ) (fields : List (Option Held)) (index : List Hold) (room : ℕ)

@@ -1,5 +1,5 @@
 -- The holds in the order of their blocks.
-use Rattle.std.specs.Prelude.{◌≡◌, ℕ, ◌+◌, ◌≤◌, zero, suc, Bool, ◌&&◌, ◌==◌, if◌then◌else◌, List, [], ◌∷◌, length, Option, Some, None, Result, Ok, Err}
+use Rattle.std.specs.Prelude.{◌≡◌, ℕ, ◌+◌, zero, suc, Bool, ◌&&◌, ◌==◌, if◌then◌else◌, List, [], ◌∷◌, length, Option, Some, None, Result, Ok, Err}
 use Rattle.std.specs.FinMap.{empty, insert}
 use Rattle.std.specs.declared.cmp.Ordering.TheVariants.{Less}
 use Rattle.monitor_calls.specs.declared.files.FileName.{FileName}
@@ -53,21 +53,17 @@ IsSought name block holds (Ok place) = IsAt (name, block) holds place
 IsSought name block holds (Err place) = Belongs (name, block) holds place
 
 -- the hold of a block is taken out, where there is one
-pub record Drops (held : Held) (old : List Hold) (was : ℕ) (new : List Hold) (room : ℕ) : Type 0 where
+pub record Drops (held : Held) (old new : List Hold) : Type 0 where
   pub rises : Rises new
   pub looks :
       (name : FileName) (block : ℕ) →
       look new name block ≡ (if is_block name block held then None else look old name block)
   pub less :
-      (job channel : ℕ) → look old held.name held.block ≡ Some (job, channel) → length old ≡ length new + 1
-  pub keeps_room : was ≤ room
+      (job channel : ℕ) →
+      look old held.name held.block ≡ Some (job, channel) → length old ≡ length new + 1
 
 -- a hold is put in
-pub record Adds (hold : Hold) (old : List Hold) (was : ℕ) (new : List Hold) (room : ℕ) : Type 0 where
+pub record Adds (hold : Hold) (old new : List Hold) : Type 0 where
   pub rises : Rises new
-  pub looks :
-      (name : FileName) (block : ℕ) →
-      look new name block
-      ≡ (if is_block name block hold.held then Some (hold.job, hold.channel) else look old name block)
+  pub looks : (name : FileName) (block : ℕ) → look new name block ≡ look (hold ∷ old) name block
   pub more : length new ≡ length old + 1
-  pub keeps_room : was ≤ room

@@ -1,11 +1,11 @@
 //! The holds.
 
-ghost use Rattle.std.specs.Prelude.{◌≡◌, ◌↔◌, ℕ, ◌+◌, ◌*◌, ◌<◌, ◌≤◌, false, Some, None, length, vec_capacity, IfOk};
+ghost use Rattle.std.specs.Prelude.{◌≡◌, ◌<◌, ◌≤◌, false, None, length, vec_capacity, IfOk};
 ghost use Rattle.std.specs.FinMap.{empty};
-ghost use Rattle.monitor_calls.specs.declared.files.FileName.{FileName as Name};
 ghost use Rattle.monitor_model.specs.Holds.{holder, hold, release, is_held};
 ghost use Rattle.block_interlock.specs.Index.{look};
-ghost use Rattle.block_interlock.specs.Fields.{slot, field_at, said, HasField, IsKept, LetsGo, TakesUp};
+ghost use Rattle.block_interlock.specs.Fields.{field_at, said, HasField, IsKept, LetsGo, TakesUp};
+ghost use Rattle.block_interlock.specs.Interlock.{IsHeldBy};
 
 use crate::index::{Held, Hold, add_hold, drop_hold, seek};
 use basic_values::NoMemory;
@@ -16,7 +16,7 @@ use std::marker::Model;
 /// How many channels a job has.
 const CHANNELS: usize = 13;
 
-/// What the channels of so many jobs hold: a field for each channel, and an index by name and block.
+/// What the channels of so many jobs hold: a field for each, and an index by name and block.
 #[derive(Drop)]
 pub struct Holds {
     jobs: u32,
@@ -75,7 +75,7 @@ impl Holds {
     pub fn held_by(&self, job: u32, channel: u8) -> Option<(FileName, u16)>
         requires job { job < self.now.jobs }
         requires channel { channel < 13 }
-        ensures { (name : Name) (block : ℕ) → (result ≡ Some (name, block)) ↔ (holder self.now.held name block ≡ Some (job, channel)) }
+        ensures { IsHeldBy self.now.held job channel result }
     {
         said(&self.fields[job as usize * CHANNELS + channel as usize])
     }
@@ -122,7 +122,9 @@ fn said(field: &Option<Held>) -> Option<(FileName, u16)>
 fn let_go(fields: &mut Vec<Option<Held>>, index: &mut Vec<Hold>, job: u32, channel: u8)
     requires kept { IsKept fields.old.items index.old.items (vec_capacity index.old) }
     requires field { HasField fields.old.items job channel }
-    ensures { LetsGo job channel fields.old.items index.old.items fields.new.items index.new.items (vec_capacity index.new) }
+    ensures kept { IsKept fields.new.items index.new.items (vec_capacity index.new) }
+    ensures width { length fields.new.items ≡ length fields.old.items }
+    ensures gone { LetsGo job channel index.old.items fields.new.items index.new.items }
 {
     let slot = job as usize * CHANNELS + channel as usize;
     if let Some(held) = fields[slot] {
@@ -137,7 +139,9 @@ fn take_up(fields: &mut Vec<Option<Held>>, index: &mut Vec<Hold>, hold: Hold)
     requires field { HasField fields.old.items hold.job hold.channel }
     requires empty { field_at fields.old.items hold.job hold.channel ≡ None }
     requires free { look index.old.items hold.held.name hold.held.block ≡ None }
-    ensures { TakesUp hold fields.old.items index.old.items fields.new.items index.new.items (vec_capacity index.new) }
+    ensures kept { IsKept fields.new.items index.new.items (vec_capacity index.new) }
+    ensures width { length fields.new.items ≡ length fields.old.items }
+    ensures taken { TakesUp hold index.old.items index.new.items }
 {
     fields[hold.job as usize * CHANNELS + hold.channel as usize] = Some(hold.held);
     add_hold(index, hold);

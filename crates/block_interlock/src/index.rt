@@ -1,6 +1,6 @@
 //! The holds in the order of their blocks.
 
-ghost use Rattle.std.specs.Prelude.{ℕ, ◌≡◌, ◌+◌, ◌<◌, Some, None, vec_len, vec_capacity};
+ghost use Rattle.std.specs.Prelude.{◌≡◌, ◌<◌, ◌≤◌, None, vec_len, vec_capacity};
 ghost use Rattle.monitor_model.specs.Holds.{account_order, name_order, block_order};
 ghost use Rattle.block_interlock.specs.Index.{Rises, IsSought, look, Drops, Adds};
 
@@ -25,7 +25,8 @@ pub(crate) struct Hold {
 /// Takes the hold of a block out, which is there.
 pub(crate) fn drop_hold(index: &mut Vec<Hold>, held: &Held)
     requires { Rises index.old.items }
-    ensures { Drops held.now index.old.items (vec_capacity index.old) index.new.items (vec_capacity index.new) }
+    ensures drops { Drops held.now index.old.items index.new.items }
+    ensures room { vec_capacity index.old ≤ vec_capacity index.new }
 {
     if let Ok(place) = seek(index.as_slice(), &held.name, held.block) {
         index.remove(place);
@@ -37,7 +38,8 @@ pub(crate) fn add_hold(index: &mut Vec<Hold>, hold: Hold)
     requires rises { Rises index.old.items }
     requires free { look index.old.items hold.held.name hold.held.block ≡ None }
     requires room { vec_len index.old < vec_capacity index.old }
-    ensures { Adds hold index.old.items (vec_capacity index.old) index.new.items (vec_capacity index.new) }
+    ensures adds { Adds hold index.old.items index.new.items }
+    ensures room { vec_capacity index.old ≤ vec_capacity index.new }
 {
     if let Err(place) = seek(index.as_slice(), &hold.held.name, hold.held.block) {
         let _ = index.insert(place, hold);
