@@ -1,7 +1,6 @@
 -- The table of jobs keeps its shape.
-use Rattle.std.proofs.Common.{◌≡◌, ◌≢◌, ℕ, ◌+◌, ◌<◌, zero, suc, List, [], ◌∷◌, ◌++◌, ◌-◌, take, length, length-set, get_or, set, replicate, Some, None, arith, refl, sym, ap, ◌∙◌, subst}
+use Rattle.std.proofs.Common.{◌≡◌, ◌≢◌, ℕ, ◌+◌, ◌<◌, zero, suc, List, [], ◌∷◌, length, length-set, get_or, set, replicate, Some, None, arith, refl, sym, ap, ◌∙◌, subst}
 use Rattle.std.specs.Prelude.{Option, IfNone}
-use Rattle.std.proofs.lemmas.List.{take_all}
 use Rattle.monitor_calls.specs.declared.names.Account.{Account}
 use Rattle.monitor_model.specs.declared.entries.ChannelEntry.{ChannelEntry}
 use Rattle.monitor_model.specs.declared.entries.JobEntry.{JobEntry}
@@ -23,12 +22,6 @@ seated_set (j ∷ jobs) (suc job) new all is = (all.0, seated_set jobs job new a
 
 pub seated_nobody : IsSeated nobody
 seated_nobody = record { places = refl; visitor = λ none. refl }
-
--- a list that was filled up from nothing
-pub filled : {T : Type 0} (n len : ℕ) (x : T) (old new : List T) → new ≡ take n old ++ replicate (n - len) x → old ≡ [] → len ≡ 0 → new ≡ replicate n x
-filled n len x old new e none zero_len =
-    let whole : n - 0 ≡ n = omega arith in
-    e ∙ (λ i. take n (none i) ++ replicate (n - zero_len i) x) ∙ ap (λ xs. xs ++ replicate (n - 0) x) (take_all n [] (omega arith)) ∙ ap (λ k. replicate k x) whole
 
 pub seated_new : (jobs : ℕ) → AreSeated (replicate jobs nobody)
 seated_new zero = tt

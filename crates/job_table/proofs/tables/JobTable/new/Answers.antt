@@ -1,8 +1,9 @@
 use Rattle.std.proofs.Common.{sym, subst}
 use Rattle.std.specs.Prelude.{vec_len}
 use Rattle.monitor_model.specs.Jobs.{nobody}
+use Rattle.monitor_model.proofs.Tools.{filled}
 use Rattle.job_table.specs.Seats.{AreSeated}
-use Rattle.job_table.proofs.SeatLemmas.{filled, seated_new}
+use Rattle.job_table.proofs.SeatLemmas.{seated_new}
 use Rattle.job_table.proofs.tables.JobTable.new.Goals as goal
 
 pub invariant_of-result : goal.invariant_of-result
