@@ -1,5 +1,6 @@
 -- The words of the code as those of the grammar.
 use Rattle.std.specs.Prelude.{◌≤◌, ℕ, List, length, map}
+use Rattle.basic_values.specs.declared.lists.TheConstants.{LINE_LENGTH}
 use Rattle.basic_tree.specs.SpellingWords as spelling
 use Rattle.basic_expr.specs.declared.words.Word.{Word}
 use Rattle.basic_expr.specs.declared.words.Word.TheVariants.{Key, Punctuation, Named, FnNamed, Number, Quotation, Item}
@@ -19,8 +20,8 @@ as_words words = map as_word words
 
 -- a text in quotes or an item has no more bytes than a line may have
 abbrev pub IsShort : Word → Type 0
-IsShort (Quotation bytes) = length bytes.now ≤ 255
-IsShort (Item bytes) = length bytes.now ≤ 255
+IsShort (Quotation bytes) = length bytes.now ≤ LINE_LENGTH
+IsShort (Item bytes) = length bytes.now ≤ LINE_LENGTH
 IsShort other = Unit {0}
 
 -- how many words a line may have

@@ -20,7 +20,7 @@ use crate::signs::{
 use crate::tables::{arguments_of, function_of, gives_text, side, takes, takes_relations, want_of};
 use crate::words::{Word, Words};
 use basic_tree::{Expr, Function, Name, Operator, Relation, Sign, Want};
-use basic_values::{NoMemory, Text, Trouble};
+use basic_values::{LINE_LENGTH, NoMemory, Text, Trouble};
 use std::alloc::Global;
 
 /// The loosest level, that of a whole expression.
@@ -29,7 +29,7 @@ const LOOSEST: usize = 11;
 // A tree from its parts
 
 fn quoted(alloc: Global, bytes: &[u8]) -> Result<Text, NoMemory>
-    requires { length bytes.now ≤ 255 }
+    requires { length bytes.now ≤ LINE_LENGTH }
     ensures { IfOk result (λ text. text ≡ bytes.now) }
 {
     match Text::of(alloc, bytes) {

@@ -7,7 +7,7 @@ ghost use Rattle.basic_expr.specs.Views.{as_word, IsShort, most_words};
 
 use basic_scanner::{Token, Tokens, keyword_of, literal_value, sign_of};
 use basic_tree::{Keyword, Name, Sign, TokenKind};
-use basic_values::NoMemory;
+use basic_values::{LINE_LENGTH, NoMemory};
 use std::alloc::Global;
 use std::marker::Model;
 
@@ -97,7 +97,7 @@ fn name_of(bytes: &[u8]) -> Name
 
 /// The keyword that the bytes spell, else an item.
 fn key_or_item(bytes: &[u8]) -> Word<'_>
-    requires { length bytes.now ≤ 255 }
+    requires { length bytes.now ≤ LINE_LENGTH }
     ensures word { as_word result ≡ key_or_item bytes.entry.now (keyword_of bytes.entry.now) }
     ensures short { IsShort result }
 {
@@ -109,7 +109,7 @@ fn key_or_item(bytes: &[u8]) -> Word<'_>
 
 /// The sign that the bytes spell, else an item.
 fn sign_or_item(bytes: &[u8]) -> Word<'_>
-    requires { length bytes.now ≤ 255 }
+    requires { length bytes.now ≤ LINE_LENGTH }
     ensures word { as_word result ≡ sign_or_item bytes.entry.now (sign_of bytes.entry.now) }
     ensures short { IsShort result }
 {
@@ -133,7 +133,7 @@ fn inside(bytes: &[u8]) -> &[u8]
 
 /// The word of a token of this sort with these bytes.
 fn word_with(kind: TokenKind, bytes: &[u8]) -> Word<'_>
-    requires { length bytes.now ≤ 255 }
+    requires { length bytes.now ≤ LINE_LENGTH }
     ensures word { as_word result ≡ word_with kind bytes.entry.now }
     ensures short { IsShort result }
 {

@@ -11,7 +11,7 @@ use basic_expr::{Failure, MOST_LEVELS, Words, next_is_sign};
 use basic_scanner::{Tokens, scan};
 use basic_stmt::{Read, plain_at};
 use basic_tree::{Line, Refusal, Sign, Statement};
-use basic_values::Trouble;
+use basic_values::{LINE_LENGTH, Trouble};
 use std::alloc::Global;
 
 /// The statement of a class that begins at a place of the line, and the place behind it.
@@ -148,7 +148,7 @@ pub fn parse_line(alloc: Global, tokens: &Tokens<'_>) -> Result<Line, Trouble<Re
 /// that is refused.
 #[tactic(auto, using(crate::proofs::ReadLines::reads))]
 pub fn read_line(alloc: Global, line: &[u8]) -> Result<Line, Trouble<Refusal>>
-    requires { length line.now ≤ 255 }
+    requires { length line.now ≤ LINE_LENGTH }
     ensures exact { Reads line.now result }
     // Bytes that spell a line are read, and those that are refused are refused so, where memory
     // lasts.

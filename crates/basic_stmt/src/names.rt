@@ -9,7 +9,7 @@ use crate::literals::Literal;
 use crate::read::Read;
 use basic_expr::{Failure, Word, Words, takes};
 use basic_tree::{Name, Want};
-use basic_values::{NoMemory, Text, Trouble};
+use basic_values::{LINE_LENGTH, NoMemory, Text, Trouble};
 use std::alloc::Global;
 
 fn named(word: Word<'_>) -> Option<Name>
@@ -159,7 +159,7 @@ pub(crate) fn if_literal(words: &Words<'_>, from: usize, limit: Literal) -> Opti
 
 /// A text of a line's bytes.
 pub(crate) fn text_of(alloc: Global, bytes: &[u8]) -> Result<Text, NoMemory>
-    requires { length bytes.now ≤ 255 }
+    requires { length bytes.now ≤ LINE_LENGTH }
     ensures { IfOk result (λ text. text ≡ bytes.now) }
 {
     match Text::of(alloc, bytes) {
