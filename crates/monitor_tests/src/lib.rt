@@ -4,6 +4,6 @@
 #[cfg(test)]
 mod calls;
 #[cfg(test)]
-mod core;
+mod monitor;
 #[cfg(test)]
 mod told;
