@@ -1,3 +1,8 @@
+ghost use Rattle.std.specs.Prelude.{◌≡◌, ◌≤◌, ◌⊎◌, length, IfOk};
+ghost use Rattle.deck_model.specs.Deck.{Deck};
+ghost use Rattle.deck_model.specs.Spelling.{Spelled};
+ghost use Rattle.rsts.specs.Headline.{HasRan};
+
 use super::*;
 use crate::streams::INPUT_LIMIT;
 use rsts_io::{IdlePacer, MemorySink, MemorySource, PlainSink, PlainSource, StdSink, StdSource};
@@ -209,13 +214,24 @@ fn lines_are_judged_by_the_grammar(rt: HostRuntime) -> Result<(), Fail> {
     assert_line(&rt, line.as_str(), "?Expression too deep")
 }
 
+/// Runs an input between ends in memory. What must come is no empty promise: here a deck is run,
+/// unless memory or the sink's room runs out.
+fn run_between_plain_ends(alloc: Global, input: &[u8]) -> Result<(Outcome, PlainSink), Fail>
+    ensures { IfOk result (λ ended. (deck : Deck) → Spelled input.now deck
+        → length input.now ≤ INPUT_LIMIT → ended.1.faults ≡ 0
+        → HasRan ended.0 ⊎ (ended.0 ≡ Outcome.NoMemory)) }
+{
+    let mut words = Vec::new(alloc);
+    words.push(String::from_str(alloc, "run")?)?;
+    let mut source = PlainSource::new(alloc, input)?;
+    let mut sink = PlainSink::new(alloc)?;
+    let outcome = rsts_main(alloc, words.as_slice(), &mut source, &mut sink, &IdlePacer);
+    Ok((outcome, sink))
+}
+
 #[test]
 fn a_good_deck_between_ends_that_never_fail_is_run(rt: HostRuntime) -> Result<(), Fail> {
-    let mut words = Vec::new(rt.alloc());
-    words.push(String::from_str(rt.alloc(), "run")?)?;
-    let mut source = PlainSource::new(rt.alloc(), FIRST_SUM)?;
-    let mut sink = PlainSink::new(rt.alloc())?;
-    let outcome = rsts_main(rt.alloc(), &words, &mut source, &mut sink, &IdlePacer);
+    let (outcome, sink) = run_between_plain_ends(rt.alloc(), FIRST_SUM)?;
     assert_eq!(rt; outcome.status(), 0);
     assert_eq!(rt; sink.bytes(), SUM_REPORT);
     Ok(())

@@ -1,0 +1,31 @@
+use Rattle.std.proofs.Common.{◌≡◌, ℕ, List, [], ◌∷◌, ◌++◌, map, Some, ap, subst, ◌∙◌, arith}
+use Rattle.std.specs.Prelude.{string_bytes}
+use Rattle.std.specs.Global.{Global}
+use Rattle.deck_model.specs.Words.{Asked, Run, asked}
+use Rattle.rsts_io.specs.Memory.{plain_feed_state, plain_store_state}
+use Rattle.rsts.specs.Headline.{ends, Does}
+use Rattle.rsts.proofs.top.tests.run_between_plain_ends.Goals as goal
+
+pub returns : goal.returns
+returns c = λ deck spelled most stayed.
+    let before = ends (plain_feed_state c.in_ok-source.source) (plain_store_state c.in_ok-sink.sink) in
+    let after = ends (plain_feed_state c.rsts_main-outcome.new.source) (plain_store_state c.rsts_main-outcome.new.sink) in
+    let asks : asked (map (string_bytes {Z = Global}) c.as_slice.result.now) ≡ Run =
+    (λ i. asked (map (string_bytes {Z = Global}) (c.as_slice.ensures.value i)))
+    ∙ (λ i. asked (map (string_bytes {Z = Global}) (c.in_ok-push.ensures.items i)))
+    ∙ (λ i. asked (map (string_bytes {Z = Global}) (c.new-words.ensures.items i ++ (c.in_ok-from_str.field-0 ∷ []))))
+    ∙ (λ i. asked (c.in_ok-from_str.ensures.ok i ∷ [])) in
+    let runs = subst (λ (word : Asked). Does word before after c.rsts_main-outcome.result) asks c.rsts_main-outcome.ensures in
+    runs.answers.completes (record {
+      source = record {
+        read = c.args.input.now;
+        deck = deck;
+        told = record {
+          told = ap (λ (left : List ℕ). Some left) c.in_ok-source.ensures.left;
+          most = most;
+          no_fault = λ rose. absurd (omega (arith, rose));
+        };
+        spelled = spelled;
+      };
+      sink = λ rose. absurd (omega (arith, rose, stayed, c.in_ok-sink.ensures.faults));
+    })
