@@ -1,5 +1,6 @@
 pub mod CallLemmas
 pub mod EntryLemmas
+pub mod LawLemmas
 mod MemoryExamples
 pub mod NameLemmas
 pub mod PlaceLemmas
