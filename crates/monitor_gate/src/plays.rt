@@ -7,7 +7,7 @@ use monitor_core::Monitor;
 use std::snapshot::Snapshot;
 
 /// There is one history, and at most one seat has the turn.
-pub struct OneTurn;
+pub(crate) struct OneTurn;
 
 impl TableRule<Option<RecordedMonitor>, Knows, Snapshot<Monitor>> for OneTurn {
     ghost use Rattle.monitor_gate.specs.Turns.{Kept, first_view};
@@ -18,7 +18,7 @@ impl TableRule<Option<RecordedMonitor>, Knows, Snapshot<Monitor>> for OneTurn {
 }
 
 /// The turn is tried.
-pub struct TryTurn;
+pub(crate) struct TryTurn;
 
 impl Play<Option<RecordedMonitor>, Knows> for TryTurn {
     ghost use Rattle.monitor_gate.specs.Turns.{tried};
@@ -27,7 +27,7 @@ impl Play<Option<RecordedMonitor>, Knows> for TryTurn {
 }
 
 /// The turn is given back, with one entry more in the history.
-pub struct EndWithEntry;
+pub(crate) struct EndWithEntry;
 
 impl Play<Option<RecordedMonitor>, Knows> for EndWithEntry {
     ghost use Rattle.monitor_gate.specs.Turns.{ended_with_entry};
@@ -36,7 +36,7 @@ impl Play<Option<RecordedMonitor>, Knows> for EndWithEntry {
 }
 
 /// The turn is given back, with the history as it was found.
-pub struct EndAsFound;
+pub(crate) struct EndAsFound;
 
 impl Play<Option<RecordedMonitor>, Knows> for EndAsFound {
     ghost use Rattle.monitor_gate.specs.Turns.{ended_as_found};
@@ -45,7 +45,7 @@ impl Play<Option<RecordedMonitor>, Knows> for EndAsFound {
 }
 
 /// A job's seat is split off the spare seat, and joined to it again.
-pub struct ForJob;
+pub(crate) struct ForJob;
 
 impl Split<Knows> for ForJob {
     ghost use Rattle.monitor_gate.specs.Turns.{left_of_split, right_of_split};

@@ -9,16 +9,21 @@ use std::alloc::Global;
 
 /// A monitor, and its answers since the gate was made over it.
 #[derive(Drop)]
-pub struct RecordedMonitor {
-    pub monitor: Monitor,
-    pub history: Vec<Entry>,
+pub(crate) struct RecordedMonitor {
+    pub(crate) monitor: Monitor,
+    pub(crate) history: Vec<Entry>,
 }
 
 impl RecordedMonitor {
     ghost use Rattle.monitor_gate.specs.Recorded.{Answered, IsSame};
 
     /// Answers a call of a job, and adds its entry.
-    pub fn answer(&mut self, alloc: Global, job: u32, request: Request) -> Result<Reply, NoMemory>
+    pub(crate) fn answer(
+        &mut self,
+        alloc: Global,
+        job: u32,
+        request: Request,
+    ) -> Result<Reply, NoMemory>
         requires { job < length self.old.monitor.jobs }
         ensures ok { IfOk result (λ r. Answered job request r self.old self.new) }
         ensures memory { OnErr result (IsSame self.old self.new) }

@@ -28,17 +28,18 @@ const TURN: usize = 0;
 const MONITOR: usize = 0;
 
 /// A seat at the table. It has no bytes.
-pub type TableSeat = Seat<Option<RecordedMonitor>, Knows>;
+pub(crate) type TableSeat = Seat<Option<RecordedMonitor>, Knows>;
 
+/// The table, of one word and one slot.
 #[derive(Drop)]
-pub struct GateTable {
+pub(crate) struct GateTable {
     table: Table<Option<RecordedMonitor>, Knows, Snapshot<Monitor>, OneTurn, Global>,
     ghost sized: { (table.shared.table_id.words ≡ 1) × (table.shared.table_id.slots ≡ 1) },
 }
 
 impl GateTable {
     /// A table with the monitor at home, and its spare seat.
-    pub fn new(alloc: Global, monitor: Monitor) -> Result<(GateTable, TableSeat), NoMemory>
+    pub(crate) fn new(alloc: Global, monitor: Monitor) -> Result<(GateTable, TableSeat), NoMemory>
         ensures opening { IfOk result (λ made. made.0.table.shared.key.value ≡ monitor) }
         ensures own { IfOk result (λ made. made.1.table_id ≡ made.0.table.shared.table_id) }
         ensures spare { IfOk result (λ made. made.1.me ≡ (Spare (first_pass monitor), [])) }
@@ -73,7 +74,7 @@ impl GateTable {
     }
 
     /// Has the monitor answer a call, in a turn of its own.
-    pub fn ask<R: Wait>(
+    pub(crate) fn ask<R: Wait>(
         &self,
         rt: &R,
         alloc: Global,
@@ -108,7 +109,7 @@ impl GateTable {
     }
 
     /// The seat of the next job.
-    pub fn split(&self, spare: &mut TableSeat) -> TableSeat
+    pub(crate) fn split(&self, spare: &mut TableSeat) -> TableSeat
         requires own { spare.old.table_id ≡ self.now.table.shared.table_id }
         requires spare { IsSpare spare.old.me }
         requires room { (spare_of spare.old.me.0).made
@@ -122,7 +123,7 @@ impl GateTable {
     }
 
     /// Keeps the pass of a seat in the spare one.
-    pub fn join(&self, spare: &mut TableSeat, seat: TableSeat)
+    pub(crate) fn join(&self, spare: &mut TableSeat, seat: TableSeat)
         requires own { spare.old.table_id ≡ self.now.table.shared.table_id }
         requires its_own { seat.table_id ≡ spare.old.table_id }
         requires spare { IsSpare spare.old.me }
@@ -135,7 +136,7 @@ impl GateTable {
     }
 
     /// Ends the table, and hands back what the monitor answered.
-    pub fn close(self, spare: TableSeat) -> RunRecord
+    pub(crate) fn close(self, spare: TableSeat) -> RunRecord
         requires own { spare.table_id ≡ self.table.shared.table_id }
         requires spare { IsSpare spare.me }
         requires all { length (spare_of spare.me.0).ended ≡ (spare_of spare.me.0).made }

@@ -23,7 +23,7 @@ pub struct SparePass {
 }
 
 /// What a seat at the table knows.
-pub enum Knows {
+pub(crate) enum Knows {
     Spare(SparePass),
     Asks(Pass),
     /// It has the turn, and found this history.
