@@ -3,6 +3,7 @@
 //! and replied, and by nothing where memory runs out. `ScriptPort` keeps it for tests.
 #![tactic(auto)]
 
+mod bodies;
 mod calls;
 mod files;
 mod names;
@@ -12,6 +13,7 @@ mod records;
 mod script;
 mod volumes;
 
+pub use bodies::JobBody;
 pub use calls::{Entry, Reply, ReplyRoom, Request};
 pub use files::{FileEntry, FileName, OpenKind};
 pub use names::{Account, Short, TerminalName};
