@@ -1,0 +1,9 @@
+//! Tests of the gate and of runs in threads, by their public calls alone.
+#![tactic(auto)]
+
+#[cfg(test)]
+mod passes;
+#[cfg(test)]
+mod runs;
+#[cfg(test)]
+mod volumes;

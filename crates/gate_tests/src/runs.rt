@@ -1,0 +1,159 @@
+//! Jobs that run beside each other.
+
+ghost use Rattle.std.specs.Prelude.{◌≡◌, ◌≤◌, [], ◌∷◌};
+ghost use Rattle.monitor_calls.specs.Pairs.{requests};
+ghost use Rattle.monitor_calls.specs.declared.calls.Request.TheVariants.{Login, Logout};
+
+use crate::volumes::{DEMO, password, volume};
+use basic_values::NoMemory;
+use monitor_calls::{Account, JobBody, Port, Request, Screen2, Short};
+use monitor_core::Monitor;
+use rsts_io::Pacer;
+use std::alloc::Global;
+use std::process::Abort;
+use std::sync::Wait;
+use std::sync::atomic::{AtomicU64, Ordering};
+use std::test::Fail;
+use std::thread;
+use std::thread::Threads;
+use std::time::{Clock, Duration};
+use terminal_runner::run_jobs;
+
+/// How many milliseconds a call waits for the first calls of the other jobs.
+const MOST_NAPS: u32 = 20_000;
+
+/// A job that logs in and out.
+#[derive(Drop)]
+struct InAndOut {
+    account: Account,
+    password: Short,
+}
+
+impl JobBody for InAndOut {
+    ghost does = { λ body job pairs screen.
+        requests pairs ≡ Login body.account body.password ∷ Logout ∷ [] };
+
+    fn run<P: Port>(&self, alloc: Global, job: u32, port: &mut P) -> Result<Screen2, NoMemory> {
+        let _ = job;
+        port.ask(
+            alloc,
+            Request::Login {
+                account: self.account,
+                password: self.password,
+            },
+        )?;
+        port.ask(alloc, Request::Logout)?;
+        Ok(Screen2::from_vec(Vec::new(alloc)))
+    }
+}
+
+/// How often the pacer was called for a job.
+#[derive(Drop)]
+struct Calls {
+    before: AtomicU64,
+    after: AtomicU64,
+}
+
+/// It holds each job's second call until every job's first call was answered.
+#[derive(Drop)]
+struct Together<'a, R: Clock> {
+    rt: &'a R,
+    calls: Vec<Calls>,
+    answered: AtomicU64,
+    late: AtomicU64,
+}
+
+impl<'a, R: Clock> Together<'a, R> {
+    fn new(rt: &'a R, alloc: Global, jobs: u32) -> Result<Together<'a, R>, Fail> {
+        let mut calls = Vec::new(alloc);
+        for _ in 0..jobs {
+            calls.push(Calls {
+                before: AtomicU64::new(0),
+                after: AtomicU64::new(0),
+            })?;
+        }
+        Ok(Together {
+            rt,
+            calls,
+            answered: AtomicU64::new(0),
+            late: AtomicU64::new(0),
+        })
+    }
+
+    fn wait_for_all(&self) {
+        for _ in 0..MOST_NAPS {
+            let all = self.answered.load(Ordering::SeqCst) >= self.calls.len() as u64;
+            if all || self.late.load(Ordering::SeqCst) > 0 {
+                return;
+            }
+            thread::sleep(self.rt, Duration::from_millis(1));
+        }
+        self.late.store(1, Ordering::SeqCst);
+    }
+}
+
+impl<'a, R: Clock> Pacer for Together<'a, R> {
+    fn before(&self, job: u32, call: u32) {
+        if let Some(calls) = self.calls.get(job as usize) {
+            calls.before.fetch_add(1, Ordering::SeqCst);
+        }
+        if call == 2 {
+            self.wait_for_all();
+        }
+    }
+
+    fn after(&self, job: u32, call: u32) {
+        if let Some(calls) = self.calls.get(job as usize) {
+            calls.after.fetch_add(1, Ordering::SeqCst);
+        }
+        if call == 1 {
+            self.answered.fetch_add(1, Ordering::SeqCst);
+        }
+    }
+}
+
+/// Runs so many jobs, of which none makes its second call before each has made its first.
+fn run_together<R: Threads + Wait + Clock + Abort + Sync>(
+    rt: &R,
+    alloc: Global,
+    jobs: u32,
+) -> Result<(), Fail>
+    requires { jobs ≤ 63 }
+{
+    let volume = volume(alloc)?;
+    assert!(rt; volume.is_good());
+    let monitor = Monitor::open(alloc, &volume, jobs)?;
+    let body = InAndOut {
+        account: DEMO,
+        password: password()?,
+    };
+    let pacer = Together::new(rt, alloc, jobs)?;
+    let end = run_jobs(rt, alloc, monitor, &body, jobs, &pacer)?;
+    assert!(rt;
+        pacer.late.load(Ordering::SeqCst) == 0,
+        "a job waited for the others in vain"
+    );
+    assert_eq!(rt; end.screens.len(), jobs as usize);
+    assert_eq!(rt; end.run.as_slice().len(), 2 * jobs as usize);
+    for (job, calls) in (0..jobs).zip(pacer.calls.iter()) {
+        let entries = end
+            .run
+            .as_slice()
+            .iter()
+            .filter(|entry| entry.job == job)
+            .count() as u64;
+        assert_eq!(rt; calls.before.load(Ordering::SeqCst), entries);
+        assert_eq!(rt; calls.after.load(Ordering::SeqCst), entries);
+    }
+    Ok(())
+}
+
+#[test]
+fn two_jobs_run_beside_each_other(rt: HostRuntime) -> Result<(), Fail> {
+    run_together(&rt, rt.alloc(), 2)
+}
+
+#[test]
+fn four_jobs_run_beside_each_other(rt: HostRuntime) -> Result<(), Fail> {
+    run_together(&rt, rt.alloc(), 4)
+}

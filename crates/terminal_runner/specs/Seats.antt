@@ -1,0 +1,69 @@
+-- Seats that go into threads and come back with screens. No public promise needs it.
+use Rattle.std.specs.Prelude.{◌≡◌, ℕ, ◌<◌, List, [], ◌++◌, map, length, slice_index_or, Result, Ok, IfOk}
+use Rattle.atomic_table.specs.Seated.{TableId}
+use Rattle.basic_values.specs.declared.failures.NoMemory.{NoMemory}
+use Rattle.monitor_calls.specs.Pairs.{Pair}
+use Rattle.monitor_model.specs.State.{State}
+use Rattle.monitor_gate.specs.declared.views.Pass.{Pass}
+use Rattle.monitor_gate.specs.declared.views.SparePass.{SparePass}
+use Rattle.monitor_gate.specs.Passes.{GateValue, SeatValue, SpareValue, seat_value, split_off}
+
+-- a seat, and what its job's terminal was given
+abbrev pub Back : Type 0
+Back = SeatValue × List ℕ
+
+-- what a thread answers
+abbrev pub Answer : Type 0
+Answer = Result Back NoMemory
+
+-- which seat it is, without what it has seen and asked
+abbrev pub unasked : SeatValue → SeatValue
+unasked seat =
+    seat_value seat.gate (record { opening = seat.pass.opening; job = seat.pass.job; seen = []; mine = [] })
+
+-- the pass of a spare seat off which so many seats were split, and nothing else was done
+abbrev pub pass_at : State → ℕ → SparePass
+pass_at opening made = record { opening = opening; made = made; seen = []; ended = [] }
+
+abbrev pub seat_at : GateValue → ℕ → SeatValue
+seat_at gate job = seat_value gate.gate (split_off (pass_at gate.opening job))
+
+-- these are the seats of the first jobs, none of which has asked
+abbrev pub AllFresh : GateValue → List SeatValue → Type 0
+AllFresh gate seats = (job : ℕ) (other : SeatValue) → job < length seats → slice_index_or seats job other ≡ seat_at gate job
+
+module _ (does : ℕ → List Pair → List ℕ → Type 0) where
+  -- it is the same seat, and its job did what the body does
+  pub record CameBack (seat : SeatValue) (back : Back) : Type 0 where
+    pub gate : back.0.gate ≡ seat.gate
+    pub job : back.0.pass.job ≡ seat.pass.job
+    pub did : does seat.pass.job back.0.pass.mine back.1
+
+  -- where there was memory, each seat came back
+  abbrev pub AllCameBack : GateValue → List Answer → Type 0
+  AllCameBack gate answers = (job : ℕ) (other : Answer) → job < length answers → IfOk (slice_index_or answers job other) (CameBack (seat_at gate job))
+
+abbrev pub IsAtGate : TableId → Back → Type 0
+IsAtGate gate back = back.0.gate ≡ gate
+
+abbrev pub AllAtGate : TableId → List Answer → Type 0
+AllAtGate gate answers = (job : ℕ) (other : Answer) → job < length answers → IfOk (slice_index_or answers job other) (IsAtGate gate)
+
+abbrev pub all_back : List Back → List Answer
+all_back backs = map (λ (back : Back). Ok back) backs
+
+abbrev pub passes_of : List Back → List Pass
+passes_of backs = map (λ (back : Back). back.0.pass) backs
+
+abbrev pub screens_of : List Back → List (List ℕ)
+screens_of backs = map (λ (back : Back). back.1) backs
+
+-- all came back, the spare seat has their passes behind those that it had, and these are the screens
+pub record Joined (answers : List Answer) (old new : SpareValue) (screens : List (List ℕ)) : Type 0 where
+  pub joined : List Back
+  pub answers_are : answers ≡ all_back joined
+  pub gate : new.gate ≡ old.gate
+  pub opening : new.pass.opening ≡ old.pass.opening
+  pub made : new.pass.made ≡ old.pass.made
+  pub ended : new.pass.ended ≡ old.pass.ended ++ passes_of joined
+  pub screens_are : screens ≡ screens_of joined
