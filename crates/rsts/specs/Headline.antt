@@ -34,7 +34,7 @@ ends source sink = record { source = source; sink = sink }
 -- A RUN OF A DECK
 
 -- a job's part of the history is what the terminal's talk makes, and the screen is what it shows
-abbrev pub HasTalked : List Entry → ℕ → Terminal → List ℕ → Type 0
+unfoldable pub HasTalked : List Entry → ℕ → Terminal → List ℕ → Type 0
 HasTalked history job terminal screen =
     IsTalk terminal.keys (replies (part_of job history)) (requests (part_of job history)) screen
 

@@ -1,13 +1,11 @@
 //! A run of a deck: the terminal's job over a monitor of its own, with no thread.
 
 ghost use Rattle.std.specs.Prelude.{◌≡◌, [], length, IfOk};
-ghost use Rattle.monitor_calls.specs.Pairs.{requests, replies};
 ghost use Rattle.monitor_calls.specs.Proper.{Proper};
-ghost use Rattle.monitor_model.specs.History.{Legal, part_of};
-ghost use Rattle.job_model.specs.Talk.{IsTalk};
+ghost use Rattle.monitor_model.specs.History.{Legal};
 ghost use Rattle.deck_model.specs.Deck.{IsDeck};
-ghost use Rattle.rsts.specs.Decks.{deck_of};
-ghost use Rattle.rsts.specs.Headline.{IsRun};
+ghost use Rattle.rsts.specs.Decks.{deck_of, terminal_of};
+ghost use Rattle.rsts.specs.Headline.{HasTalked, IsRun};
 
 use crate::decks::{Deck, Terminal};
 use basic_values::NoMemory;
@@ -66,6 +64,7 @@ pub(crate) fn run_deck<P: Pacer>(alloc: Global, deck: &Deck, pacer: &P) -> Resul
 }
 
 /// The session of a terminal over its port, and the port's calls.
+#[tactic(auto, unfolding(crate::specs::Headline::HasTalked))]
 fn run_terminal<P: Pacer>(
     alloc: Global,
     terminal: &Terminal,
@@ -75,8 +74,8 @@ fn run_terminal<P: Pacer>(
     requires { port.history ≡ [] }
     ensures legal { IfOk result (λ ran. Legal port.opening ran.1) }
     ensures proper { IfOk result (λ ran. Proper ran.1) }
-    ensures talk { IfOk result (λ ran. IsTalk terminal.now.keys.items
-        (replies (part_of port.job ran.1)) (requests (part_of port.job ran.1)) ran.0) }
+    ensures talk { IfOk result (λ ran.
+        HasTalked ran.1 port.job (terminal_of terminal.now) ran.0) }
 {
     let mut port = PacedPort {
         port,
