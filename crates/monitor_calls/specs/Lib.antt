@@ -1,4 +1,5 @@
 pub mod FileNames
+pub mod NameTexts
 pub mod Names
 pub mod Pages
 pub mod Pairs
