@@ -1,0 +1,4 @@
+mod FrontLemmas
+mod ReadingLaws
+mod SpecLaws
+mod WritingLaws

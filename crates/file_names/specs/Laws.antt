@@ -1,0 +1,27 @@
+-- What holds of all specifications.
+use Rattle.std.specs.Prelude.{◌≡◌, ℕ, true, ◌≤◌, List, [], None}
+use Rattle.monitor_calls.specs.declared.names.Account.{Account}
+use Rattle.monitor_calls.specs.declared.files.FileName.{FileName}
+use Rattle.monitor_calls.specs.Names.{is_password}
+use Rattle.monitor_calls.specs.NameTexts.{name_text}
+use Rattle.file_names.specs.declared.spec.Spec.{Spec}
+use Rattle.file_names.specs.Names.{Spells, is_extension}
+
+-- a text says one specification at the most
+abbrev pub SpecIsOne : Type 0
+SpecIsOne = (own : Account) (default text : List ℕ) (a b : Spec)
+    → Spells own default text a → Spells own default text b → a ≡ b
+
+-- a name that a specification can have
+pub record IsSpecName (name : FileName) : Type 0 where
+  pub least : 1 ≤ name.owner.project
+  pub project : name.owner.project ≤ 254
+  pub programmer : name.owner.programmer ≤ 254
+  pub stem : is_password name.stem ≡ true
+  pub extension : is_extension name.extension ≡ true
+
+-- what is printed of it says that name, to whom no default can add an extension
+abbrev pub PrintedIsRead : Type 0
+PrintedIsRead = (own : Account) (default : List ℕ) (name : FileName) → IsSpecName name
+    → (name.extension ≡ [] → default ≡ [])
+    → Spells own default (name_text name) (record { name = name; code = None })

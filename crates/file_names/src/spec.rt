@@ -1,0 +1,199 @@
+//! Specifications of files.
+
+ghost use Rattle.std.specs.Prelude.{◌≡◌, if◌then◌else◌, Some, None, take, IfOk, IfErr};
+ghost use Rattle.text_cuts.specs.Cuts.{Finds};
+ghost use Rattle.file_names.specs.Names.{Spells, squeezed, is_extension, has_device, names_device, refusal_of};
+ghost use Rattle.file_names.specs.Reading.{without_device, bracketed_in, owner_in, closed_code, code_in, stem_in, extension_in, spec_in};
+ghost use Rattle.file_names.specs.declared.spec.Spec.{Spec as TheSpec};
+
+use arrayvec::ArrayVec;
+use basic_values::{Fault, is_blank, number_between};
+use monitor_calls::{Account, FileName, Short};
+use text_cuts::{behind, cut};
+
+/// What names a file: its name, and the protection code that is told with it.
+#[derive(Clone, Copy)]
+pub struct Spec {
+    pub name: FileName,
+    pub code: Option<u8>,
+}
+
+/// The account that a dollar sign means.
+const LIBRARY: Account = Account {
+    project: 1,
+    programmer: 2,
+};
+
+/// More bytes than a specification can have.
+const FRONT: usize = 32;
+
+/// The specification that the text is, the manual's file specification: `SY:`, an owner in brackets
+/// or `$`, a stem of 1 to 6 letters and digits, an extension of 0 to 3 behind a point, and a
+/// protection code from 0 to 63 in angle brackets, of which all but the stem may be left out. Blanks
+/// are dropped, and letters raised. A text that names another device is error 8, any other that is no
+/// specification error 2.
+pub fn parse_spec(text: &[u8], own: Account, extension: &Short) -> Result<Spec, Fault>
+    ensures read { IfOk result (λ spec. Spells own extension.now text.now spec) }
+    ensures refused { IfErr result (λ fault. (fault ≡ refusal_of text.now)
+        × ((spec : TheSpec) → Spells own extension.now text.now spec → ⊥)) }
+{
+    let front = front_of(text);
+    match spec_in(own, extension, front.as_slice()) {
+        Some(spec) => Ok(spec),
+        None => Err(refusal_of(text, front.as_slice())),
+    }
+}
+
+/// The first bytes of the text, without its blanks and with its letters raised.
+fn front_of(text: &[u8]) -> ArrayVec<u8, FRONT>
+    ensures { result.items ≡ take FRONT (squeezed text.now) }
+{
+    let mut bytes = ArrayVec::new();
+    for byte in text {
+        if !is_blank(*byte) && bytes.len() < FRONT {
+            bytes.push(byte.to_ascii_uppercase());
+        }
+    }
+    bytes
+}
+
+/// What refuses a text that is no specification.
+fn refusal_of(text: &[u8], front: &[u8]) -> Fault
+    requires { front.now ≡ take FRONT (squeezed text.now) }
+    ensures { result ≡ refusal_of text.now }
+{
+    if names_device(text, front) {
+        Fault::new(8)
+    } else {
+        Fault::new(2)
+    }
+}
+
+/// Whether it begins with the name of a device that is not the system's own.
+fn names_device(text: &[u8], front: &[u8]) -> bool
+    requires { front.now ≡ take FRONT (squeezed text.now) }
+    ensures { result ≡ names_device text.now }
+{
+    has_device(text) && behind(b"SY:", front).is_none()
+}
+
+/// Whether letters or digits with a colon behind them stand in front.
+fn has_device(text: &[u8]) -> bool
+    ensures { result ≡ has_device text.now }
+{
+    let mut has_letters = false;
+    for byte in text {
+        if byte.is_ascii_alphanumeric() {
+            has_letters = true;
+        } else if !is_blank(*byte) {
+            return has_letters && *byte == b':';
+        }
+    }
+    false
+}
+
+/// The specification that such a front is.
+#[tactic(auto, unfolding(crate::specs::Reading::spec_in))]
+fn spec_in(own: Account, extension: &Short, text: &[u8]) -> Option<Spec>
+    ensures { result ≡ spec_in own extension.now text.now }
+{
+    let rest = without_device(text);
+    let (owner, rest) = owner_in(own, rest)?;
+    let (front, code) = code_in(rest)?;
+    let extension = extension_in(extension, front)?;
+    let stem = Short::password(stem_in(front))?;
+    let name = FileName {
+        owner,
+        stem,
+        extension,
+    };
+    Some(Spec { name, code })
+}
+
+/// What stands behind the system's own device, where that is named.
+fn without_device(text: &[u8]) -> &[u8]
+    ensures { result.now ≡ without_device text.now }
+{
+    behind(b"SY:", text).unwrap_or(text)
+}
+
+/// The owner, and what stands behind it.
+fn owner_in(own: Account, text: &[u8]) -> Option<(Account, &[u8])>
+    ensures { Finds (λ x. (x.0, x.1.now)) result (owner_in own text.now) }
+{
+    if let Some(rest) = behind(b"$", text) {
+        return Some((LIBRARY, rest));
+    }
+    match behind(b"[", text) {
+        Some(inside) => bracketed_in(inside),
+        None => Some((own, text)),
+    }
+}
+
+/// The account in brackets of which the first is read, and what stands behind them.
+#[tactic(auto, unfolding(crate::specs::Reading::bracketed_in))]
+fn bracketed_in(text: &[u8]) -> Option<(Account, &[u8])>
+    ensures { Finds (λ x. (x.0, x.1.now)) result (bracketed_in text.now) }
+{
+    let (numbers, rest) = cut(b']', text)?;
+    let (project, programmer) = cut(b',', numbers)?;
+    let account = Account {
+        project: number_between(1, 254, project)? as u8,
+        programmer: number_between(0, 254, programmer)? as u8,
+    };
+    Some((account, rest))
+}
+
+/// What stands before the code, and the code.
+fn code_in(text: &[u8]) -> Option<(&[u8], Option<u8>)>
+    ensures { Finds (λ x. (x.0.now, x.1)) result (code_in text.now) }
+{
+    match cut(b'<', text) {
+        Some((front, code)) => Some((front, Some(closed_code(code)?))),
+        None => Some((text, None)),
+    }
+}
+
+/// The code in brackets of which the first is read; nothing stands behind them.
+#[tactic(auto, unfolding(crate::specs::Reading::closed_code))]
+fn closed_code(text: &[u8]) -> Option<u8>
+    ensures { result ≡ closed_code text.now }
+{
+    let (digits, rest) = cut(b'>', text)?;
+    let code = number_between(0, 63, digits)? as u8;
+    if rest.is_empty() { Some(code) } else { None }
+}
+
+/// The stem, which stands before the point.
+fn stem_in(text: &[u8]) -> &[u8]
+    ensures { result.now ≡ stem_in text.now }
+{
+    match cut(b'.', text) {
+        Some((stem, _)) => stem,
+        None => text,
+    }
+}
+
+/// The extension behind the point, or the default where there is no point.
+fn extension_in(default: &Short, text: &[u8]) -> Option<Short>
+    ensures { Finds (λ x. x) result (extension_in default.now text.now) }
+{
+    match cut(b'.', text) {
+        Some((_, extension)) => short_extension(extension),
+        None => Some(*default),
+    }
+}
+
+/// 0 to 3 capital letters and digits.
+fn short_extension(text: &[u8]) -> Option<Short>
+    ensures { Finds (λ x. x) result (if is_extension text.now then Some text.now else None) }
+{
+    if text.is_empty() {
+        return Short::of(text);
+    }
+    if text.len() > 3 {
+        None
+    } else {
+        Short::password(text)
+    }
+}
