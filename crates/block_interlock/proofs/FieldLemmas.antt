@@ -1,15 +1,16 @@
 -- What the fields and the index hold after each change.
 use Rattle.std.proofs.Common.{◌≡◌, ◌≢◌, ℕ, ◌+◌, ◌*◌, ◌<◌, ◌≤◌, zero, suc, Bool, true, false, cond, List, [], ◌∷◌, length, length-set, get_or, set, replicate, Some, None, refl, sym, ap, ◌∙◌, subst, arith, inl, inr, ◌⊎◌}
-use Rattle.std.specs.Prelude.{Option, not, is_some, ◌&&◌, ◌==◌, ◌↔◌}
+use Rattle.std.specs.Prelude.{Option, not, is_some, ◌&&◌, ◌==◌, ◌↔◌, nat_lt}
 use Rattle.std.proofs.lemmas.Bool.{true≢false, cases_eq, and_parts, eqb-true, eq-eqb}
+use Rattle.std.proofs.lemmas.Bool.Decides.{nat_tests}
 use Rattle.std.proofs.lemmas.List.{get_or-set_same, get_or-set_other, length-replicate}
 use Rattle.monitor_calls.specs.declared.files.FileName.{FileName}
-use Rattle.monitor_model.specs.Holds.{is_channel, is_held, release, hold}
-use Rattle.monitor_model.proofs.HoldLemmas.{same_holds, holder-release, holder-hold}
+use Rattle.monitor_model.specs.Holds.{is_channel, is_job, is_held, release, release_job, hold}
+use Rattle.monitor_model.proofs.HoldLemmas.{same_holds, holder-release, holder-release_job, holder-hold}
 use Rattle.block_interlock.specs.declared.index.Held.{Held}
 use Rattle.block_interlock.specs.declared.index.Hold.{Hold}
 use Rattle.block_interlock.specs.Index.{look, map_of, is_block, Drops, Adds}
-use Rattle.block_interlock.specs.Fields.{slot, field_at, held_count, said, HasField, IsKept, LetsGo, TakesUp, AreHolds}
+use Rattle.block_interlock.specs.Fields.{slot, field_at, held_count, said, HasField, IsKept, LetsGo, LetGoBelow, is_below, TakesUp, AreHolds}
 use Rattle.block_interlock.proofs.IndexLemmas.{holder-map_of, is_same, is_self}
 
 -- SMALL FACTS
@@ -273,3 +274,18 @@ said_is (Some held) name block =
     let name_in : Option (FileName × ℕ) → FileName = λ o. elim o [ Some p ↦ p.0 | None ↦ name ] in
     let block_in : Option (FileName × ℕ) → ℕ = λ o. elim o [ Some p ↦ p.1 | None ↦ block ] in
     (λ e. (λ i. Some (record { name = ap name_in e i; block = ap block_in e i })), λ e. let one : held ≡ record { name = name; block = block } = cc in λ i. Some ((one i).name, (one i).block))
+
+-- ALL CHANNELS OF A JOB
+
+-- a job's channels are those below 13
+pub all_released : (job : ℕ) (fields : List (Option Held)) (index left : List Hold) (room : ℕ) → IsKept fields index room → LetGoBelow job 13 index left → map_of left ≡ release_job (map_of index) job
+all_released job fields index left room k gone =
+    same_holds (map_of left) (release_job (map_of index) job) (λ name block.
+    holder-map_of left name block ∙ gone name block ∙ by name block (look index name block) refl
+    ∙ sym (holder-release_job (map_of index) job name block ∙ ap (λ o. cond (is_job job o) None o) (holder-map_of index name block))) where
+      small : (p : ℕ × ℕ) → p.1 < 13 → (p.0 == job && nat_lt p.1 13) ≡ (p.0 == job)
+      small p lt = grind (arith, nat_tests)
+
+      by : (name : FileName) (block : ℕ) (o : Option (ℕ × ℕ)) → look index name block ≡ o → cond (is_below job 13 o) None o ≡ cond (is_job job o) None o
+      by name block None is = refl
+      by name block (Some p) is = ap (λ b. cond b None (Some p)) (small p (k.within p.0 p.1 name block is).1)

@@ -1,5 +1,5 @@
 -- A field for each channel of each job, with the block that it holds, and an index by blocks.
-use Rattle.std.specs.Prelude.{◌≡◌, ◌↔◌, ℕ, ◌+◌, ◌*◌, ◌<◌, ◌≤◌, if◌then◌else◌, List, [], ◌∷◌, length, Option, Some, None}
+use Rattle.std.specs.Prelude.{◌≡◌, ◌↔◌, ℕ, ◌+◌, ◌*◌, ◌<◌, ◌≤◌, Bool, false, ◌&&◌, ◌==◌, nat_lt, if◌then◌else◌, List, [], ◌∷◌, length, Option, Some, None}
 use Rattle.std.proofs.Common.{get_or}
 use Rattle.monitor_calls.specs.declared.files.FileName.{FileName}
 use Rattle.monitor_model.specs.Holds.{is_channel}
@@ -24,6 +24,10 @@ held_count (Some held ∷ fields) = held_count fields + 1
 abbrev pub HasField : List (Option Held) → ℕ → ℕ → Type 0
 HasField fields job channel = (slot job channel < length fields) × (channel < 13)
 
+-- there is a field for each channel of the job
+abbrev pub HasFields : List (Option Held) → ℕ → Type 0
+HasFields fields job = slot job 13 ≤ length fields
+
 -- the index tells of each block what the fields tell, and has room for all of them
 pub record IsKept (fields : List (Option Held)) (index : List Hold) (room : ℕ) : Type 0 where
   pub rises : Rises index
@@ -45,6 +49,18 @@ pub record LetsGo (job channel : ℕ) (old : List Hold) (fields : List (Option H
       (name : FileName) (block : ℕ) →
       look new name block
       ≡ (if is_channel job channel (look old name block) then None else look old name block)
+
+-- whether it is one of the job's channels below this number
+abbrev pub is_below : ℕ → ℕ → Option (ℕ × ℕ) → Bool
+is_below job channel None = false
+is_below job channel (Some holding) = holding.0 == job && nat_lt holding.1 channel
+
+-- the job's channels below this number hold nothing any more, and the others hold what they held
+abbrev pub LetGoBelow : ℕ → ℕ → List Hold → List Hold → Type 0
+LetGoBelow job channel old new =
+    (name : FileName) (block : ℕ) →
+    look new name block
+    ≡ (if is_below job channel (look old name block) then None else look old name block)
 
 -- the block is held, and the others are as they were
 abbrev pub TakesUp : Hold → List Hold → List Hold → Type 0

@@ -2,9 +2,9 @@
 
 ghost use Rattle.std.specs.Prelude.{◌≡◌, ◌<◌, ◌≤◌, false, None, length, vec_capacity, IfOk};
 ghost use Rattle.std.specs.FinMap.{empty};
-ghost use Rattle.monitor_model.specs.Holds.{holder, hold, release, is_held};
+ghost use Rattle.monitor_model.specs.Holds.{holder, hold, release, release_job, is_held};
 ghost use Rattle.block_interlock.specs.Index.{look};
-ghost use Rattle.block_interlock.specs.Fields.{field_at, said, HasField, IsKept, LetsGo, TakesUp};
+ghost use Rattle.block_interlock.specs.Fields.{field_at, said, HasField, HasFields, IsKept, LetsGo, LetGoBelow, TakesUp};
 ghost use Rattle.block_interlock.specs.Interlock.{IsHeldBy};
 
 use crate::index::{Held, Hold, add_hold, drop_hold, seek};
@@ -90,6 +90,15 @@ impl Holds {
         let_go(&mut self.fields, &mut self.index, job, channel);
     }
 
+    /// What all channels of a job hold is free. It takes no memory.
+    pub fn release_job(&mut self, job: u32)
+        requires { job < self.old.jobs }
+        ensures jobs { self.new.jobs ≡ self.old.jobs }
+        ensures held { self.new.held ≡ release_job self.old.held job }
+    {
+        let_all_go(&mut self.fields, &mut self.index, job);
+    }
+
     /// A channel holds this block alone. No other may hold it. It takes no memory.
     pub fn hold(&mut self, job: u32, channel: u8, name: FileName, block: u16)
         requires job { job < self.old.jobs }
@@ -130,6 +139,19 @@ fn let_go(fields: &mut Vec<Option<Held>>, index: &mut Vec<Hold>, job: u32, chann
     if let Some(held) = fields[slot] {
         fields[slot] = None;
         drop_hold(index, &held);
+    }
+}
+
+/// All channels of a job let go of what they hold.
+fn let_all_go(fields: &mut Vec<Option<Held>>, index: &mut Vec<Hold>, job: u32)
+    requires kept { IsKept fields.old.items index.old.items (vec_capacity index.old) }
+    requires fields { HasFields fields.old.items job }
+    ensures kept { IsKept fields.new.items index.new.items (vec_capacity index.new) }
+    ensures width { length fields.new.items ≡ length fields.old.items }
+    ensures gone { LetGoBelow job 13 index.old.items index.new.items }
+{
+    for channel in 0..CHANNELS as u8 {
+        let_go(fields, index, job, channel);
     }
 }
 

@@ -31,6 +31,7 @@ fn seats_ask_one_monitor(rt: HostRuntime) -> Result<(), Fail> {
             Request::Login { .. } => "Login",
             Request::Logout => "Logout",
             Request::Tick => "Tick",
+            _ => "another",
         };
         assert_eq!(rt; entry.job, job);
         assert_eq!(rt; asked, name);

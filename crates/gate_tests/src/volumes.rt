@@ -24,6 +24,7 @@ pub(crate) fn volume(alloc: Global) -> Result<Volume, Fail> {
     Ok(Volume {
         blocks: 8,
         accounts,
+        files: Vec::new(alloc),
     })
 }
 

@@ -3,7 +3,7 @@ use Rattle.std.proofs.Common.{◌≡◌, ℕ, zero, suc, ◌≤◌, List, [], �
 use Rattle.monitor_calls.specs.declared.names.Account.{Account}
 use Rattle.monitor_calls.specs.declared.calls.Request.TheVariants as request
 use Rattle.monitor_calls.specs.declared.calls.Reply.{Reply}
-use Rattle.monitor_calls.specs.declared.calls.Reply.TheVariants.{Done, Failed, Expired}
+use Rattle.monitor_calls.specs.declared.calls.Reply.TheVariants.{Done, Failed}
 use Rattle.basic_tree.specs.LineVerdicts.{Judge}
 use Rattle.job_model.specs.Act.{Gives, Breaks, Asks, Takes, ◌then◌}
 use Rattle.job_model.specs.Asking.{counts_as}
@@ -22,7 +22,7 @@ Keeps keys (Takes s rest) = Keeps keys rest
 entered_keeps : (account : Account) (reply : Reply) (s : Session) → Keeps s.keys (entered account reply s)
 entered_keeps account Done s = refl
 entered_keeps account (Failed number) s = refl
-entered_keeps account Expired s = tt
+entered_keeps account reply s = tt
 
 hello_keeps : (login : Option Login) (s : Session) → Keeps s.keys (hello login s)
 hello_keeps None s = refl

@@ -6,7 +6,7 @@ use Rattle.monitor_calls.specs.declared.names.Account.{Account}
 use Rattle.monitor_calls.specs.declared.calls.Request.{Request}
 use Rattle.monitor_calls.specs.declared.calls.Request.TheVariants as request
 use Rattle.monitor_calls.specs.declared.calls.Reply.{Reply}
-use Rattle.monitor_calls.specs.declared.calls.Reply.TheVariants.{Done, Failed, Expired}
+use Rattle.monitor_calls.specs.declared.calls.Reply.TheVariants.{Done, Failed}
 use Rattle.basic_values.specs.Numbers.{printed}
 use Rattle.basic_tree.specs.LineVerdicts.{Verdict, HasTree, RefusedFor, Judge, Judges}
 use Rattle.job_model.specs.Act.{Act, Gives, Breaks, Gone, Left, ◌then◌}
@@ -49,7 +49,7 @@ answered text s = Gives tt (says ready (says text s))
 abbrev pub entered : Account → Reply → Session → Step
 entered account Done s = Gives tt (says ready (acts_for account s))
 entered account (Failed number) s = Gives tt (says invalid_entry s)
-entered account Expired s = Breaks Gone s
+entered account reply s = Breaks Gone s
 
 abbrev pub hello : Option Login → Session → Step
 hello None s = Gives tt (says invalid_entry s)

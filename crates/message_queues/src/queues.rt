@@ -1,6 +1,6 @@
 //! The receivers.
 
-ghost use Rattle.std.specs.Prelude.{◌≡◌, ◌≤◌, ◌<◌, ◌||◌, ◌==◌, ◌++◌, [], ◌∷◌, length, slice_get, Some, position, bytes_eq, not, false, true, filter, IfOk, OnOk, OnErr};
+ghost use Rattle.std.specs.Prelude.{◌≡◌, ◌≤◌, ◌<◌, ◌||◌, ◌==◌, ◌++◌, [], ◌∷◌, length, slice_get, option_copied, Some, position, bytes_eq, not, false, true, filter, IfOk, OnOk, OnErr};
 ghost use Rattle.circular_buffer.specs.Buffer.{buffer};
 ghost use Rattle.monitor_model.specs.Refusals.{RefusedBy, RefusedByOrNoMemory};
 ghost use Rattle.monitor_model.specs.Queues.{is_receiver, has_receiver, is_full, letters_of, declare, drop_receiver, send, receive};
@@ -89,6 +89,19 @@ impl Queues {
         }
         self.post(name, message);
         Ok(())
+    }
+
+    /// The oldest letter that waits for a job.
+    pub fn oldest(&self, job: u32) -> Option<&Letter>
+        ensures { option_copied result ≡ slice_get (letters_of self.now job) 0 }
+    {
+        match place_of(self.queues.as_slice(), job) {
+            Some(place) => {
+                let queue = &self.queues[place];
+                queue.letters.front()
+            }
+            None => None,
+        }
     }
 
     /// Takes out the oldest letter that waits for a job. It takes no memory.

@@ -1,8 +1,10 @@
 //! Blocks of a file.
 
-ghost use Rattle.std.specs.Prelude.{◌≡◌, length, IfOk};
+ghost use Rattle.std.specs.Prelude.{◌≡◌, length, is_some, IfOk};
+ghost use Rattle.monitor_calls.specs.Requests.{is_get};
 ghost use Rattle.monitor_calls.specs.Pages.{zeros};
 
+use crate::calls::Request;
 use basic_values::NoMemory;
 use std::alloc::Global;
 use std::marker::Model;
@@ -62,5 +64,16 @@ impl Page {
         ensures whole { length self.now ≡ 512 }
     {
         self.bytes.as_slice()
+    }
+}
+
+/// A blank page for the block that a Get reads; no other request is asked with one.
+pub fn blank_page(alloc: Global, request: &Request) -> Result<Option<Page>, NoMemory>
+    ensures { IfOk result (λ page. is_some page ≡ is_get request.now) }
+{
+    if request.is_get() {
+        Ok(Some(Page::new(alloc)?))
+    } else {
+        Ok(None)
     }
 }

@@ -1,2 +1,6 @@
+mod Calls
+mod CopyLemmas
+pub mod Lookups
+mod MountLemmas
 mod PortLemmas
 mod Walks

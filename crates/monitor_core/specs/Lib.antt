@@ -1,4 +1,9 @@
+pub mod Coding
+pub mod Copies
+pub mod Mounting
+pub mod Openings
 pub mod Plain
+pub mod Rows
 pub use Rattle.monitor_model.specs.Answer
 pub use Rattle.monitor_model.specs.Good
 pub use Rattle.monitor_model.specs.History

@@ -3,6 +3,7 @@
 ghost use Rattle.std.specs.Prelude.{◌≡◌};
 ghost use Rattle.std.specs.Borrow.{ftrue};
 ghost use Rattle.monitor_model.specs.State.{State};
+ghost use Rattle.monitor_core.specs.Coding.{coded_state};
 
 use crate::monitor::Monitor;
 use std::marker::Model;
@@ -10,7 +11,7 @@ use std::marker::Model;
 /// A state that only proofs read. It takes no memory, and nothing is done to make it.
 #[derive(Debug, Drop)]
 pub(crate) struct Opening {
-    pub(crate) ghost state: { State },
+    pub(crate) ghost state: { State } by { coded_state },
 }
 
 impl Model for Opening {

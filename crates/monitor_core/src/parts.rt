@@ -1,178 +1,232 @@
-//! The monitor's state and its answers, with nothing said yet of what stays true of it.
+//! The parts that the monitor is made of, and what is looked up in them. Nothing is said yet of
+//! what stays true of them together.
 
-ghost use Rattle.std.specs.Prelude.{◌≡◌, ◌+◌, ◌^◌, ◌<◌, ◌≤◌, length, IfOk};
-ghost use Rattle.std.specs.Bool.{OnFalse};
-ghost use Rattle.monitor_model.specs.State.{entry_of, account_of, calls_of, limit_of, log_in, opening};
-ghost use Rattle.monitor_model.specs.Answer.{counted, ended, is_last, is_password_of, answer_by, answer_counted, next, reply};
-ghost use Rattle.monitor_model.specs.Good.{Good};
+ghost use Rattle.std.specs.Prelude.{◌≡◌, ◌≢◌, ◌<◌, ◌≤◌, true, Some, None, is_some, length, IfOk, IfSome, OnOk};
+ghost use Rattle.monitor_calls.specs.Volumes.{has_account, is_good_volume};
+ghost use Rattle.monitor_model.specs.Files.{is_file};
+ghost use Rattle.monitor_model.specs.Jobs.{account_of, calls_of, channel_of};
+ghost use Rattle.monitor_model.specs.Holds.{is_held};
+ghost use Rattle.monitor_model.specs.Refusals.{RefusedBy};
+ghost use Rattle.monitor_model.specs.State.{entry_of, limit_of, opening};
+ghost use Rattle.monitor_model.specs.Answer.{is_password_of, is_last, to_open, on_open, counted, ended};
+ghost use Rattle.monitor_core.specs.Rows.{access_to, refused};
 
-use crate::accounts;
-use basic_values::{Fault, NoMemory};
-use monitor_calls::{Account, AccountEntry, Reply, Request, Short, Volume};
-use monitor_model::Job;
+use crate::mounting::mounted;
+use accounts::AccountTable;
+use basic_values::{Fault, NoMemory, Trouble};
+use block_files::Disk;
+use block_interlock::Holds;
+use job_table::JobTable;
+use message_queues::Queues;
+use monitor_calls::{Account, FileName, Reply, Short, Volume};
+use monitor_model::{ChannelEntry, Right};
+use protection::allows;
 use std::alloc::Global;
 use std::marker::Model;
 
-/// The number of "account or device in use", which a second login is told.
-const IN_USE: u8 = 3;
+/// The greatest number of a channel.
+const LAST_CHANNEL: u8 = 12;
 
-/// The number of "can't find file or account", which a job is told that has no account.
-const NOT_FOUND: u8 = 5;
+/// The number of "I/O channel already open".
+const ALREADY_OPEN: u8 = 7;
 
-/// A job without an account.
-const NOBODY: Job = Job {
-    account: None,
-    calls: 0,
-};
+/// The number of "I/O channel not open".
+const NOT_OPEN: u8 = 9;
 
+/// The number of "illegal I/O channel".
+const NO_CHANNEL: u8 = 46;
+
+/// The job that asks, and the account that it acts for.
+#[derive(Clone, Copy)]
+pub(crate) struct Caller {
+    pub(crate) job: u32,
+    pub(crate) account: Account,
+}
+
+/// The code of a file, and the rights that it leaves a caller.
+#[derive(Clone, Copy)]
+pub(crate) struct Access {
+    pub(crate) code: u8,
+    pub(crate) read: bool,
+    pub(crate) write: bool,
+}
+
+/// The accounts, the disk, the jobs, which channel holds which block, and the receivers.
 #[derive(Drop)]
 pub(crate) struct Parts {
-    accounts: Vec<AccountEntry>,
-    blocks: u16,
-    jobs: Vec<Job>,
+    pub(crate) alloc: Global,
+    pub(crate) accounts: AccountTable,
+    pub(crate) disk: Disk,
+    pub(crate) jobs: JobTable,
+    pub(crate) holds: Holds,
+    pub(crate) queues: Queues,
 }
 
 impl Model for Parts {
+    ghost use Rattle.std.specs.Prelude.{◌≡◌, length};
     ghost use Rattle.monitor_model.specs.State.{State};
+    ghost use Rattle.monitor_core.specs.Coding.{coded_state};
 
     ghost Value = { State };
 
+    ghost coded = { coded_state };
+
     ghost view = { λ p. record {
-      accounts = p.accounts.items;
-      blocks = p.blocks;
-      jobs = p.jobs.items;
+      accounts = p.accounts;
+      blocks = p.disk.blocks;
+      files = p.disk.files;
+      jobs = p.jobs;
+      holds = p.holds.held;
+      receivers = p.queues;
     } };
+
+    ghost invariant = { λ p. p.holds.jobs ≡ length p.jobs };
 }
 
 impl Parts {
-    /// The volume's accounts and blocks, and so many jobs, none with an account.
+    /// The accounts and the disk of a volume, and so many jobs, none with an account.
     pub(crate) fn open(alloc: Global, volume: &Volume, jobs: u32) -> Result<Parts, NoMemory>
-        requires { jobs ≤ 63 }
-        ensures { IfOk result (λ p. p ≡ opening volume.now.accounts.items volume.now.blocks jobs) }
+        requires volume { is_good_volume volume.now.blocks volume.now.accounts.items volume.now.files.items
+            ≡ true }
+        requires jobs { jobs ≤ 63 }
+        ensures { IfOk result (λ p.
+            p ≡ opening volume.now.accounts.items volume.now.blocks volume.now.files.items jobs) }
     {
-        let accounts = Vec::from_slice(alloc, volume.accounts.as_slice())?;
-        let jobs = vec![in alloc; NOBODY; jobs as usize]?;
         Ok(Parts {
-            accounts,
-            blocks: volume.blocks,
-            jobs,
+            alloc,
+            accounts: AccountTable::new(alloc, volume.accounts.as_slice())?,
+            disk: mounted(alloc, volume)?,
+            jobs: JobTable::new(alloc, jobs)?,
+            holds: Holds::new(alloc, jobs)?,
+            queues: Queues::new(alloc),
         })
     }
 
-    /// The reply to a call of a job, and the state that it leaves.
-    pub(crate) fn answer(&mut self, job: u32, request: &Request) -> Reply
-        requires job_in { job < length self.old.jobs }
-        requires good { Good self.old }
-        ensures reply { result ≡ reply self.old job request.now }
-        ensures state { self.new ≡ next self.old job request.now }
-    {
-        match self.account(job) {
-            None => self.answer_visitor(job, request),
-            Some(caller) => self.answer_counted(job, caller, request),
-        }
-    }
-
-    /// The answer to a job without an account, whose calls are not counted.
-    fn answer_visitor(&mut self, job: u32, request: &Request) -> Reply
-        requires job_in { job < length self.old.jobs }
-        ensures reply { result ≡ (answer_by None self.old job request.now).1 }
-        ensures state { self.new ≡ (answer_by None self.old job request.now).0 }
-    {
-        match request {
-            Request::Login { account, password } => {
-                if !self.is_password(*account, password) {
-                    return failed(NOT_FOUND);
-                }
-                self.log_in(job, *account);
-                Reply::Done
-            }
-            Request::Logout => Reply::Done,
-            Request::Tick => failed(NOT_FOUND),
-        }
-    }
-
-    /// The answer to a job that acts for this account.
-    fn answer_counted(&mut self, job: u32, caller: Account, request: &Request) -> Reply
-        requires job_in { job < length self.old.jobs }
-        requires below { calls_of self.old.jobs job < limit_of self.old.accounts caller }
-        ensures reply { result ≡ (answer_counted self.old job caller request.now).1 }
-        ensures state { self.new ≡ (answer_counted self.old job caller request.now).0 }
-    {
-        if let Request::Logout = request {
-            self.end_job(job);
-            return Reply::Done;
-        }
-        if self.is_last(job, caller) {
-            self.end_job(job);
-            return Reply::Expired;
-        }
-        self.count(job);
-        match request {
-            Request::Login { .. } => failed(IN_USE),
-            Request::Logout | Request::Tick => Reply::Done,
-        }
-    }
-
-    fn is_password(&self, account: Account, password: &Short) -> bool
+    /// Whether the account is there and has this password.
+    #[tactic(auto, using(crate::proofs::Lookups::passwords))]
+    pub(crate) fn is_password(&self, account: Account, password: &Short) -> bool
         ensures { result ≡ is_password_of password.now (entry_of self.now.accounts account) }
     {
-        let entry = accounts::entry_of(self.accounts.as_slice(), account);
-        accounts::is_password_of(password, entry)
+        self.accounts.check(account, password).is_some()
     }
 
-    /// The account that a job acts for.
-    #[tactic(auto, unfolding(monitor_model::specs::State::account_of))]
-    fn account(&self, job: u32) -> Option<Account>
-        requires { job < length self.now.jobs }
-        ensures { result ≡ account_of self.now.jobs job }
+    /// Whether the account is there.
+    #[tactic(auto, using(crate::proofs::Lookups::accounts_there))]
+    pub(crate) fn is_account(&self, account: Account) -> bool
+        ensures { result ≡ has_account self.now.accounts account }
     {
-        self.jobs[job as usize].account
+        self.accounts.find(account).is_some()
+    }
+
+    /// How many calls the account allows.
+    #[tactic(auto, using(crate::proofs::Lookups::limits))]
+    fn limit(&self, account: Account) -> u16
+        ensures { result ≡ limit_of self.now.accounts account }
+    {
+        self.accounts.find(account).unwrap_or(0)
     }
 
     /// Whether a job's next call is the last that its account allows.
-    #[tactic(auto, using(monitor_model::proofs::JobLemmas::one_more_call), unfolding(monitor_model::specs::State::calls_of))]
-    fn is_last(&self, job: u32, caller: Account) -> bool
-        requires job_in { job < length self.now.jobs }
-        requires below { calls_of self.now.jobs job < limit_of self.now.accounts caller }
-        ensures last { result ≡ is_last self.now job caller }
-        ensures room { OnFalse result (calls_of self.now.jobs job + 1 < 2 ^ 16) }
+    #[tactic(auto, using(monitor_model::proofs::JobLemmas::one_more_call))]
+    pub(crate) fn is_last(&self, caller: Caller) -> bool
+        requires job_in { caller.job < length self.now.jobs }
+        requires room { calls_of self.now.jobs caller.job < 16384 }
+        ensures { result ≡ is_last self.now caller.job caller.account }
     {
-        let limit = accounts::limit_of(self.accounts.as_slice(), caller);
-        self.jobs[job as usize].calls + 1 == limit
-    }
-
-    #[tactic(auto, unfolding(monitor_model::specs::State::log_in))]
-    fn log_in(&mut self, job: u32, account: Account)
-        requires { job < length self.old.jobs }
-        ensures { self.new ≡ record self.old { jobs = log_in self.old.jobs job account } }
-    {
-        self.jobs[job as usize] = Job {
-            account: Some(account),
-            calls: 0,
-        };
+        self.jobs.calls(caller.job) + 1 == self.limit(caller.account)
     }
 
     /// One more call.
-    #[tactic(auto, unfolding(monitor_model::specs::State::count, monitor_model::specs::State::calls_of))]
-    fn count(&mut self, job: u32)
+    #[tactic(auto, using(monitor_model::proofs::Counting::as_many_jobs))]
+    pub(crate) fn count(&mut self, job: u32)
         requires job_in { job < length self.old.jobs }
-        requires room { calls_of self.old.jobs job + 1 < 2 ^ 16 }
+        requires known { account_of self.old.jobs job ≢ None }
+        requires room { calls_of self.old.jobs job < 16384 }
         ensures { self.new ≡ counted self.old job }
     {
-        self.jobs[job as usize].calls += 1;
+        self.jobs.count(job);
     }
 
-    #[tactic(auto, unfolding(monitor_model::specs::State::end_job))]
-    fn end_job(&mut self, job: u32)
+    /// Ends a job: its channels are closed, it holds nothing and has no receiver and no account.
+    #[tactic(auto, using(monitor_model::proofs::Counting::as_many_jobs))]
+    pub(crate) fn end(&mut self, job: u32)
         requires { job < length self.old.jobs }
         ensures { self.new ≡ ended self.old job }
     {
-        self.jobs[job as usize] = NOBODY;
+        self.jobs.end(job);
+        self.holds.release_job(job);
+        self.queues.remove(job);
+    }
+
+    /// Whether a channel can be opened, or the number of the refusal.
+    pub(crate) fn to_open(&self, job: u32, channel: u8) -> Result<(), Fault>
+        requires { job < length self.now.jobs }
+        ensures refused { RefusedBy (to_open self.now job channel) result }
+        ensures channel { OnOk result (channel < 13) }
+    {
+        if channel > LAST_CHANNEL {
+            return Err(Fault::new(NO_CHANNEL));
+        }
+        if self.jobs.channel(job, channel).is_some() {
+            return Err(Fault::new(ALREADY_OPEN));
+        }
+        Ok(())
+    }
+
+    /// A channel that is open, or the number of the refusal.
+    pub(crate) fn on_open(&self, job: u32, channel: u8) -> Result<ChannelEntry, Fault>
+        requires { job < length self.now.jobs }
+        ensures refused { RefusedBy (on_open self.now job channel) result }
+        ensures channel { OnOk result (channel < 13) }
+        ensures entry { IfOk result (λ at. channel_of self.now.jobs job channel ≡ Some at) }
+    {
+        if channel > LAST_CHANNEL {
+            return Err(Fault::new(NO_CHANNEL));
+        }
+        match self.jobs.channel(job, channel) {
+            Some(at) => Ok(at),
+            None => Err(Fault::new(NOT_OPEN)),
+        }
+    }
+
+    /// Whether another channel holds the block.
+    pub(crate) fn is_held(&self, job: u32, channel: u8, name: &FileName, block: u16) -> bool
+        ensures { result ≡ is_held self.now.holds job channel name.now block }
+    {
+        match self.holds.holder(name, block) {
+            Some((holding_job, holding)) => !(holding_job == job && holding == channel),
+            None => false,
+        }
+    }
+
+    /// The code of a file, and the rights that it leaves the caller. None where it is not there.
+    #[tactic(auto, using(crate::proofs::Lookups::codes), unfolding(monitor_model::specs::Answer::may))]
+    pub(crate) fn access(&self, caller: Account, name: &FileName) -> Option<Access>
+        ensures there { is_some result ≡ is_file self.now.files name.now }
+        ensures rights { IfSome result (λ access. access ≡ access_to self.now caller name.now) }
+    {
+        let code = self.disk.code(name)?;
+        Some(Access {
+            code,
+            read: allows(caller, name.owner, code, Right::Read),
+            write: allows(caller, name.owner, code, Right::Write),
+        })
     }
 }
 
-fn failed(number: u8) -> Reply
+/// A refusal with its number.
+pub(crate) fn failed(number: u8) -> Reply
     ensures { result ≡ Reply.Failed number }
 {
     Reply::Failed(Fault::new(number))
+}
+
+/// A part's refusal as a reply.
+pub(crate) fn refused(trouble: Trouble<Fault>) -> Result<Reply, NoMemory>
+    ensures { result ≡ refused trouble }
+{
+    match trouble {
+        Trouble::Refused(fault) => Ok(Reply::Failed(fault)),
+        Trouble::NoMemory => Err(NoMemory),
+    }
 }

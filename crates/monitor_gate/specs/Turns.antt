@@ -124,7 +124,7 @@ abbrev pub first_view : State → Knows
 first_view opening = Spare (first_pass opening)
 
 abbrev nothing : State
-nothing = opened [] 0 0
+nothing = opened [] 0 [] 0
 
 -- the pass that a seat has; one that has none counts as one that knows nothing
 abbrev pub pass_of : Knows → Pass

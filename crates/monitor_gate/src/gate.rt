@@ -19,9 +19,13 @@ pub struct Gate {
 }
 
 impl Model for Gate {
+    ghost use Rattle.std.specs.Coded.{codes};
+    ghost use Rattle.monitor_core.specs.Coding.{coded_state};
     ghost use Rattle.monitor_gate.specs.Passes.{GateValue, gate_value};
 
     ghost Value = { GateValue };
+
+    ghost coded = { Prim.hlevel (codes, coded_state) };
 
     ghost view = { λ g. gate_value g.table.table.shared.table_id g.table.table.shared.key.value };
 }
@@ -34,11 +38,15 @@ pub struct JobSeat {
 }
 
 impl Model for JobSeat {
+    ghost use Rattle.std.specs.Coded.{codes};
+    ghost use Rattle.monitor_core.specs.Coding.{coded_state};
     ghost use Rattle.std.specs.Prelude.{◌≡◌};
     ghost use Rattle.monitor_gate.specs.Passes.{SeatValue, seat_value};
     ghost use Rattle.monitor_gate.specs.Turns.{pass_of, IsAsking};
 
     ghost Value = { SeatValue };
+
+    ghost coded = { Prim.hlevel (codes, coded_state) };
 
     ghost view = { λ s. seat_value s.seat.table_id (pass_of s.seat.me.0) };
 
@@ -54,11 +62,15 @@ pub struct Spare {
 }
 
 impl Model for Spare {
+    ghost use Rattle.std.specs.Coded.{codes};
+    ghost use Rattle.monitor_core.specs.Coding.{coded_state};
     ghost use Rattle.std.specs.Prelude.{◌≡◌, length};
     ghost use Rattle.monitor_gate.specs.Passes.{SpareValue, spare_value};
     ghost use Rattle.monitor_gate.specs.Turns.{spare_of, IsSpare};
 
     ghost Value = { SpareValue };
+
+    ghost coded = { Prim.hlevel (codes, coded_state) };
 
     ghost view = { λ s. spare_value s.seat.table_id (spare_of s.seat.me.0) };
 

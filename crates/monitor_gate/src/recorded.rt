@@ -3,7 +3,7 @@
 ghost use Rattle.std.specs.Prelude.{◌<◌, length, IfOk, OnErr};
 
 use basic_values::NoMemory;
-use monitor_calls::{Entry, Reply, ReplyRoom, Request};
+use monitor_calls::{Entry, Reply, Request, blank_page};
 use monitor_core::Monitor;
 use std::alloc::Global;
 
@@ -29,9 +29,10 @@ impl RecordedMonitor {
         ensures memory { OnErr result (IsSame self.old self.new) }
     {
         // All room is taken before the monitor is asked: where it is not there, nothing was asked.
-        let room = ReplyRoom::new(alloc, &request)?;
+        let room = self.monitor.room_for_copy(alloc, job, &request)?;
+        let page = blank_page(alloc, &request)?;
         self.history.reserve(1)?;
-        let reply = self.monitor.answer(job, &request)?;
+        let reply = self.monitor.answer(job, &request, page)?;
         self.history
             .push_reserved(Entry::new(job, request, reply.again(room)));
         Ok(reply)

@@ -1,10 +1,19 @@
 //! Laws over the definitions, each a function whose contract is the law.
 
-ghost use Rattle.monitor_model.specs.Laws.{AnswerKeepsGood, OpeningIsGood, AnswerKeepsJobs};
+ghost use Rattle.monitor_model.specs.Laws.{OpeningIsGood, OpeningIsUnopened};
+ghost use Rattle.monitor_model.specs.Laws.{AnswerKeepsGood, AnswerKeepsJobs};
+ghost use Rattle.monitor_model.specs.Laws.{HeldInSpans, RefusedInSpans, RefusedInSpansOnly};
+ghost use Rattle.monitor_model.specs.Laws.{RightsOfOpened, RefusedByRights};
+ghost use Rattle.monitor_model.specs.Laws.{MaskedTellsTheSame, MaskedIsProper, MaskedCase};
 
 /// The state that a good volume opens with is good.
 pub fn opening_is_good()
     ensures { OpeningIsGood }
+{}
+
+/// In the state that a volume opens with no channel is open and no block is held.
+pub fn opening_is_unopened()
+    ensures { OpeningIsUnopened }
 {}
 
 /// A good state stays good, whatever a job asks.
@@ -15,4 +24,32 @@ pub fn answer_keeps_good()
 /// No call changes which jobs there are.
 pub fn answer_keeps_jobs()
     ensures { AnswerKeepsJobs }
+{}
+
+/// What a block that is held means. From the Get that was replied a page through a channel for
+/// update, up to the call that frees the block, the channel holds it and its bytes stay; each
+/// admissible call of another channel on it is refused by 19; and 19 comes to no other call.
+pub fn exclusion()
+    ensures held { HeldInSpans }
+    ensures refused { RefusedInSpans }
+    ensures only { RefusedInSpansOnly }
+{}
+
+/// Where the rights of an open channel come from: from the call that opened it, by what the file's
+/// code left the caller then, or with both for who made the file, or made it anew. And 10 comes
+/// exactly where it is the number of the first test of the call's row that holds.
+pub fn rights()
+    ensures opened { RightsOfOpened }
+    ensures ten { RefusedByRights }
+{}
+
+/// What of a history is hidden from an account, in a run where no call is refused for want of room:
+/// all that is done to the blocks of names that the account is denied throughout. The history
+/// without it, with each Get, Put and Unlock there a Tick, is legal, and tells the account the
+/// same; and its numbers and texts are those of their types where the history's are. There are such
+/// histories.
+pub fn masking()
+    ensures same { MaskedTellsTheSame }
+    ensures proper { MaskedIsProper }
+    ensures met { MaskedCase }
 {}

@@ -73,7 +73,11 @@ fn volumes_are_good_in_their_ranges(rt: HostRuntime) -> Result<(), Fail> {
         let mut accounts = Vec::new(rt.alloc());
         accounts.push(entry(100, 5, b"DEMO", 100)?)?;
         accounts.push(entry(project, programmer, password, limit)?)?;
-        let volume = Volume { blocks, accounts };
+        let volume = Volume {
+            blocks,
+            accounts,
+            files: Vec::new(rt.alloc()),
+        };
         let row = format!(in rt.alloc(); "{blocks} {project},{programmer} {limit}")?;
         assert_eq!(rt; volume.is_good(), is_good, "{row}");
     }
@@ -112,7 +116,7 @@ fn a_script_replies_in_order(rt: HostRuntime) -> Result<(), Fail> {
 #[test]
 fn a_reply_is_copied_into_its_room(rt: HostRuntime) -> Result<(), Fail> {
     for reply in [Reply::Done, Reply::Failed(Fault::new(5)), Reply::Expired] {
-        let room = ReplyRoom::new(rt.alloc(), &Request::Tick)?;
+        let room = ReplyRoom::of(rt.alloc(), &reply)?;
         let shown = told::reply(rt.alloc(), &reply.again(room))?;
         let wanted = told::reply(rt.alloc(), &reply)?;
         assert_eq!(rt; shown, wanted);

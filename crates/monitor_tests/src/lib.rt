@@ -2,7 +2,13 @@
 #![tactic(auto)]
 
 #[cfg(test)]
+mod asked;
+#[cfg(test)]
 mod calls;
+#[cfg(test)]
+mod files;
+#[cfg(test)]
+mod messages;
 #[cfg(test)]
 mod monitor;
 #[cfg(test)]

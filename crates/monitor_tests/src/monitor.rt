@@ -25,6 +25,7 @@ fn demo_with(limit: u16, rt: &HostRuntime) -> Result<Volume, Fail> {
     Ok(Volume {
         blocks: 8,
         accounts,
+        files: Vec::new(rt.alloc()),
     })
 }
 
@@ -43,9 +44,9 @@ fn a_job_acts_for_its_own_account(rt: HostRuntime) -> Result<(), Fail> {
     let volume = demo_with(100, &rt)?;
     assert!(rt; volume.is_good());
     let mut monitor = Monitor::open(rt.alloc(), &volume, 2)?;
-    let first = monitor.answer(1, &login(5, b"DEMO")?)?;
-    let second = monitor.answer(0, &Request::Tick)?;
-    let third = monitor.answer(1, &Request::Tick)?;
+    let first = monitor.answer(1, &login(5, b"DEMO")?, None)?;
+    let second = monitor.answer(0, &Request::Tick, None)?;
+    let third = monitor.answer(1, &Request::Tick, None)?;
     let replies = [first, second, third];
     for (reply, wanted) in replies.iter().zip(["Done", "Failed 5", "Done"]) {
         let shown = told::reply(rt.alloc(), reply)?;

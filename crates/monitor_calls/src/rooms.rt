@@ -1,0 +1,74 @@
+//! The room that a copy of a reply takes.
+
+ghost use Rattle.std.specs.Prelude.{◌≡◌, true, Some, IsSome, IfOk};
+ghost use Rattle.monitor_calls.specs.Rooms.{HasRoom, has_page, text_in};
+
+use crate::calls::Reply;
+use crate::pages::Page;
+use basic_values::{NoMemory, Text, Trouble};
+use std::alloc::Global;
+
+/// What a copy of a reply is made of. It is taken before the monitor is asked, so that a call that
+/// has its reply needs no more memory.
+#[derive(Drop)]
+pub enum ReplyRoom {
+    /// Enough for a reply without a page or a text.
+    Small,
+    /// A page for a block, whatever its bytes.
+    Page(Page),
+    /// The text of the message.
+    Text(Text),
+}
+
+impl ReplyRoom {
+    /// The room for a copy of this very reply.
+    pub fn of(alloc: Global, reply: &Reply) -> Result<ReplyRoom, NoMemory>
+        ensures { IfOk result (λ room. HasRoom reply.now room) }
+    {
+        match reply {
+            Reply::Block(_) => Ok(ReplyRoom::Page(Page::new(alloc)?)),
+            Reply::Message { text, .. } => Ok(ReplyRoom::Text(copy_of(alloc, text)?)),
+            Reply::Done
+            | Reply::Opened { .. }
+            | Reply::Name { .. }
+            | Reply::State { .. }
+            | Reply::Failed(_)
+            | Reply::Expired => Ok(ReplyRoom::Small),
+        }
+    }
+
+    /// Its page, with the bytes of this one.
+    pub(crate) fn page_like(self, page: &Page) -> Page
+        requires { has_page self ≡ true }
+        ensures { result ≡ page.now }
+    {
+        match self {
+            ReplyRoom::Page(mut copy) => {
+                copy.copy_from(page);
+                copy
+            }
+            ReplyRoom::Small | ReplyRoom::Text(_) => unreachable!(),
+        }
+    }
+
+    /// Its text.
+    pub(crate) fn text(self) -> Text
+        requires { IsSome (text_in self) }
+        ensures { text_in self ≡ Some result }
+    {
+        match self {
+            ReplyRoom::Text(text) => text,
+            ReplyRoom::Small | ReplyRoom::Page(_) => unreachable!(),
+        }
+    }
+}
+
+/// A copy of a text.
+pub fn copy_of(alloc: Global, text: &Text) -> Result<Text, NoMemory>
+    ensures { IfOk result (λ copy. copy ≡ text.now) }
+{
+    match Text::of(alloc, text.as_bytes()) {
+        Ok(copy) => Ok(copy),
+        Err(_) => Err(NoMemory),
+    }
+}
