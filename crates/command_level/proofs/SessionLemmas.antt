@@ -1,6 +1,5 @@
 -- How the key lines of a session follow one another.
-use Rattle.std.proofs.Common.{◌≡◌, ℕ, zero, suc, ◌≤◌, List, ◌++◌, length, Option, Some, None, sym, ap, subst, arith}
-use Rattle.std.specs.Borrow.{Bor}
+use Rattle.std.proofs.Common.{◌≡◌, ℕ, zero, suc, ◌≤◌, List, [], ◌++◌, length, Option, Some, None, sym, ap, subst, arith}
 use Rattle.std.specs.Option.{option_map}
 use Rattle.monitor_calls.specs.Pairs.{Pair}
 use Rattle.basic_tree.specs.MachineJudge.{judge_of}
@@ -42,6 +41,11 @@ module _ {P W : Type 0} {who : P → W} {log : P → List Pair} where
   pub comes_first : {p : P} (keys : List (List ℕ)) → Comes who log p p keys (opening keys)
   comes_first keys = record { most = length keys; enough = (let h : length keys ≤ length keys = omega arith in h); follows = follows_stay }
 
+  pub opens : (p : P) (keys : List (List ℕ)) (screen : List ℕ) (typed : List (List ℕ)) → screen ≡ [] → typed ≡ keys → Comes who log p p keys (record { account = None; screen = screen; keys = typed })
+  opens p keys screen typed blank same =
+      subst (λ (typed : List (List ℕ)). Comes who log p p keys (record { account = None; screen = screen; keys = typed })) (sym same)
+      (subst (λ (screen : List ℕ). Comes who log p p keys (record { account = None; screen = screen; keys = keys })) (sym blank) (comes_first keys))
+
   line_done : {p q r : P} {after : Option Step} (keys : List (List ℕ)) (line : List ℕ) (s t : Session) → TakesKey s t (Some line) → Comes who log p q keys s → Follows who log q r at_start at_start (line_acts judge_of line t) after → LineDone who log p r keys t.keys after
   line_done {p} {q} {r} {after} keys line s t takes so_far this = counted so_far.most so_far.enough so_far.follows
     where
@@ -54,8 +58,8 @@ module _ {P W : Type 0} {who : P → W} {log : P → List Pair} where
       }
 
   -- the same of the line that the code has
-  pub line_taken : {p q r : P} {after : Option Step} (keys : List (List ℕ)) (s t : Session) (o : Option (Bor (List ℕ))) (line : Bor (List ℕ)) → o ≡ Some line → TakesKey s t (option_map (λ line. line.now) o) → Comes who log p q keys s → Follows who log q r at_start at_start (line_acts judge_of line.now t) after → LineDone who log p r keys t.keys after
-  line_taken keys s t o line is takes so_far this = line_done keys line.now s t (subst (λ (o : Option (Bor (List ℕ))). TakesKey s t (option_map (λ line. line.now) o)) is takes) so_far this
+  pub line_taken : {p q r : P} {after : Option Step} (keys : List (List ℕ)) (s t : Session) (o : Option (List ℕ)) (line : List ℕ) → o ≡ Some line → TakesKey s t o → Comes who log p q keys s → Follows who log q r at_start at_start (line_acts judge_of line t) after → LineDone who log p r keys t.keys after
+  line_taken keys s t o line is takes so_far this = line_done keys line s t (subst (λ (o : Option (List ℕ)). TakesKey s t o) is takes) so_far this
 
   pub line_onward : {p r : P} (keys left : List (List ℕ)) (u : Session) (on on' : Onward) → on ≡ on' → LineDone who log p r keys left (Some (goes on u)) → LineDone who log p r keys left (Some (goes on' u))
   line_onward {p} {r} keys left u on on' is done = subst (λ (on : Onward). LineDone who log p r keys left (Some (goes on u))) is done
@@ -65,11 +69,11 @@ module _ {P W : Type 0} {who : P → W} {log : P → List Pair} where
   comes_next keys left u is d = record { most = d.most; enough = (let h : length u.keys ≤ d.most = omega (arith, ap length is, d.enough) in h); follows = d.follows }
 
   -- the end of the keys
-  pub keys_end : {p q r : P} {after : Option Step} (keys : List (List ℕ)) (s t : Session) (o : Option (Bor (List ℕ))) → o ≡ None → TakesKey s t (option_map (λ line. line.now) o) → Comes who log p q keys s → Follows who log q r at_start at_start (leave t.account t) after → Follows who log p r at_start at_start (whole_session judge_of keys) after
+  pub keys_end : {p q r : P} {after : Option Step} (keys : List (List ℕ)) (s t : Session) (o : Option (List ℕ)) → o ≡ None → TakesKey s t o → Comes who log p q keys s → Follows who log q r at_start at_start (leave t.account t) after → Follows who log p r at_start at_start (whole_session judge_of keys) after
   keys_end {p} {q} {r} {after} keys s t o is taking so_far this = counted so_far.most so_far.follows
     where
       takes : TakesKey s t None
-      takes = subst (λ (o : Option (Bor (List ℕ))). TakesKey s t (option_map (λ line. line.now) o)) is taking
+      takes = subst (λ (o : Option (List ℕ)). TakesKey s t o) is taking
 
       left : Follows who log q r at_start at_start (leave s.account s) after
       left = follows_from (ap (λ (s : Session). leave s.account s) (sym takes.1)) this

@@ -43,4 +43,4 @@ words_seen words = map (λ word. word.now) words
 
 abbrev pub seen : Session → talk.Session
 seen session =
-    record { account = session.account; screen = session.screen; keys = session.keys.now }
+    record { account = session.account; screen = session.screen; keys = session.keys }

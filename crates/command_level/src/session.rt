@@ -22,10 +22,10 @@ ghost use Rattle.monitor_calls.specs.Volumes.{is_between};
 use crate::commands::{Command, command_of, print_of};
 use crate::judging::{Verdict, judge, refusal_text};
 use crate::logins::LoginForm;
-use crate::screen::Screen;
 use basic_values::{Fault, Int, KeyLine, LINE_LENGTH, NoMemory};
 use monitor_calls::{Account, Port, Reply, Request};
 use std::alloc::Global;
+use terminal_line::{Keys, Screen};
 
 /// The answer to what a later stage does.
 const NOT_IN_STAGE: &[u8] = b"?Not in this stage\r\n";
@@ -43,10 +43,10 @@ pub(crate) enum Onward {
 /// What is kept from line to line: the account that the session acts for, if it is logged in, the
 /// screen, and the key lines that are left.
 #[derive(Drop)]
-pub(crate) struct Session<'a> {
+pub(crate) struct Session {
     pub(crate) account: Option<Account>,
     pub(crate) screen: Screen,
-    pub(crate) keys: &'a [KeyLine],
+    pub(crate) keys: Keys,
 }
 
 /// The session of a terminal with these keys: what it shows when it has ended. It asks the port for
@@ -60,13 +60,14 @@ pub fn serve<P: Port>(alloc: Global, keys: &[KeyLine], port: &mut P) -> Result<S
     ensures memory { OnErr result ((pairs : List Pair) × Grew P.who P.log port.old port.new pairs
         × BeginsTalk keys.now (replies pairs) (requests pairs)) }
 {
+    let typed = Keys::new(alloc, keys)?;
     let mut session = Session {
         account: None,
         screen: Screen::new(alloc),
-        keys,
+        keys: typed,
     };
     while let Some(line) = session.next_key() {
-        match session.take_line(alloc, line, port)? {
+        match session.take_line(alloc, &line, port)? {
             Onward::Next => {}
             Onward::Ended => return Ok(session.screen),
             Onward::Expired => {
@@ -79,18 +80,12 @@ pub fn serve<P: Port>(alloc: Global, keys: &[KeyLine], port: &mut P) -> Result<S
     Ok(session.screen)
 }
 
-impl<'a> Session<'a> {
+impl Session {
     /// The next key line, which is no longer among those that are left.
-    fn next_key(&mut self) -> Option<&'a KeyLine>
-        ensures { TakesKey (seen self.old) (seen self.new) (option_map (λ line. line.now) result) }
+    fn next_key(&mut self) -> Option<KeyLine>
+        ensures { TakesKey (seen self.old) (seen self.new) result }
     {
-        match self.keys {
-            [line, left @ ..] => {
-                self.keys = left;
-                Some(line)
-            }
-            [] => None,
-        }
+        self.keys.next_line()
     }
 
     /// One key line: its echo, and what it asks for.
@@ -274,7 +269,7 @@ impl<'a> Session<'a> {
                 self.screen.write(b"Invalid entry - try again\r\n")?;
                 Ok(Onward::Next)
             }
-            Reply::Failed(_) | Reply::Expired => Ok(Onward::Expired),
+            _ => Ok(Onward::Expired),
         }
     }
 

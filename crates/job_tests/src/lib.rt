@@ -5,8 +5,6 @@
 #[cfg(test)]
 mod lines;
 #[cfg(test)]
-mod screens;
-#[cfg(test)]
 mod sessions;
 #[cfg(test)]
 mod talks;

@@ -2,7 +2,7 @@
 
 use basic_values::{Fault, KeyLine};
 use command_level::serve;
-use monitor_calls::{Reply, Request, ScriptPort};
+use monitor_calls::{Reply, ReplyRoom, Request, ScriptPort};
 use std::alloc::{AllocGlobal, Global};
 use std::process::Abort;
 use std::str;
@@ -54,12 +54,9 @@ fn with_returns(alloc: Global, text: &str) -> Result<Vec<u8>, Fail> {
     Ok(bytes)
 }
 
-fn same_reply(reply: &Reply) -> Reply {
-    match reply {
-        Reply::Done => Reply::Done,
-        Reply::Failed(fault) => Reply::Failed(*fault),
-        Reply::Expired => Reply::Expired,
-    }
+fn same_reply(alloc: Global, reply: &Reply) -> Result<Reply, Fail> {
+    let room = ReplyRoom::of(alloc, reply)?;
+    Ok(reply.again(room))
 }
 
 /// A reply as text.
@@ -68,6 +65,7 @@ fn reply_told(alloc: Global, reply: &Reply) -> Result<String, Fail> {
         Reply::Done => Ok(String::from_str(alloc, "Done")?),
         Reply::Failed(fault) => Ok(format!(in alloc; "Failed {}", fault.number())?),
         Reply::Expired => Ok(String::from_str(alloc, "Expired")?),
+        _ => Ok(String::from_str(alloc, "another")?),
     }
 }
 
@@ -81,6 +79,7 @@ fn request_told(alloc: Global, request: &Request) -> Result<String, Fail> {
         }
         Request::Logout => Ok(String::from_str(alloc, "Logout")?),
         Request::Tick => Ok(String::from_str(alloc, "Tick")?),
+        _ => Ok(String::from_str(alloc, "another")?),
     }
 }
 
@@ -108,7 +107,7 @@ pub(crate) fn assert_talk(
     let lines = key_lines(rt, keys)?;
     let mut script = Vec::new(alloc);
     for reply in replies {
-        script.push(same_reply(reply))?;
+        script.push(same_reply(rt.alloc(), reply)?)?;
     }
     let mut port = ScriptPort::new(alloc, script);
     let shown = serve(alloc, lines.as_slice(), &mut port)?;

@@ -14,7 +14,7 @@ use Rattle.command_level.proofs.session.Session.hello.Goals as goal
 pub returns-in_ok-write-in-None-clause-means : goal.returns-in_ok-write-in-None-clause-means
 returns-in_ok-write-in-None-clause-means g c =
     let s = seen c.args.self.now in
-    follows_is (ap (λ form. hello (option_map login_seen form) s) c.in-None.is ∙ ap (Gives tt) (said s invalid_entry c.write.new.self c.in_ok-write-in-None.ensures.ok))
+    follows_is (ap (λ form. hello (option_map login_seen form) s) c.in-None.is ∙ ap (Gives tt) (said s invalid_entry c.write.new.self c.in_ok-write-in-None.ensures))
 
 pub returns-in_ok-reply-in-Some-clause-means : goal.returns-in_ok-reply-in-Some-clause-means
 returns-in_ok-reply-in-Some-clause-means g c =

@@ -17,4 +17,4 @@ pub returns-clause-means : goal.returns-clause-means
 returns-clause-means g c =
     let s = seen c.args.self.now in
     follows_on (follows_asked request.Logout _ (λ reply. Breaks (Left Ended) (says bye s)) c.in_ok-ask.ensures.ok)
-    (follows_is (ap (Breaks (Left Ended)) (said s bye c.write.new.self c.in_ok-write.ensures.ok)))
+    (follows_is (ap (Breaks (Left Ended)) (said s bye c.write.new.self c.in_ok-write.ensures)))

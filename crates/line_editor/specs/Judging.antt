@@ -1,0 +1,17 @@
+-- What a line is judged to be before it is known whether there is room for it.
+use Rattle.std.specs.Prelude.{ℕ, List, Result, Ok, Err}
+use Rattle.basic_values.specs.declared.failures.Trouble.{Trouble}
+use Rattle.basic_values.specs.declared.failures.Trouble.TheVariants.{Refused, NoMemory}
+use Rattle.basic_tree.specs.declared.programs.Line.{Line as Tree}
+use Rattle.basic_tree.specs.LineVerdicts.{Refuses}
+use Rattle.line_editor.specs.declared.text.EditRefusal.{EditRefusal}
+use Rattle.line_editor.specs.declared.text.EditRefusal.TheVariants.{Number, TooLong, Line, TooMany}
+use Rattle.line_editor.specs.Lines.{IsNumber, Fits, IsTreeOf}
+
+abbrev pub Judges : ℕ → List ℕ → Result Tree (Trouble EditRefusal) → Type 0
+Judges number rest (Ok tree) = IsNumber number × Fits number rest × IsTreeOf rest tree
+Judges number rest (Err (Refused Number)) = ¬ (IsNumber number)
+Judges number rest (Err (Refused TooLong)) = IsNumber number × ¬ (Fits number rest)
+Judges number rest (Err (Refused (Line refusal))) = IsNumber number × Fits number rest × Refuses rest refusal
+Judges number rest (Err (Refused TooMany)) = ⊥
+Judges number rest (Err NoMemory) = Unit {0}

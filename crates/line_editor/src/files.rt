@@ -1,0 +1,155 @@
+//! Program files: their pages, and the lines that are read from them.
+
+ghost use Rattle.std.specs.Prelude.{◌≡◌, ◌<◌, ◌≤◌, ◌-◌, ◌++◌, [], length, filter, replicate, IfOk, OnOk, IsTrue, ◌↔◌};
+ghost use Rattle.line_editor.specs.Lines.{listing};
+ghost use Rattle.line_editor.specs.Files.{is_written, without_return, file_text, file_lines, IsPaged, IsFileOf, ArePlain, KeepsOne, KeepsAll, ReadsFile, CutsLine};
+
+use crate::numbers::line_number;
+use crate::text::{MOST_NUMBER, ProgramText};
+use basic_values::{Fault, NoMemory, Trouble};
+use monitor_calls::Page;
+use std::alloc::Global;
+
+/// The bytes of a page.
+pub const PAGE_BYTES: usize = 512;
+
+/// The error of a file that is no program's.
+pub const DATA_FORMAT: u8 = 50;
+
+/// The first line of some text, and what is left behind it.
+#[derive(Clone, Copy)]
+struct Cut<'a> {
+    line: &'a [u8],
+    left: &'a [u8],
+}
+
+impl ProgramText {
+    /// The file of the text: the lines as they are listed, and zeros behind them to a whole page.
+    pub fn to_file(&self) -> Result<Vec<Page>, NoMemory>
+        ensures pages { IfOk result (λ pages. IsPaged (listing self.now) pages.items) }
+        // It is read again as the same lines, where none of them has a zero byte or an LF.
+        ensures again { IfOk result (λ pages. ArePlain self.now → IsFileOf pages.items self.now) }
+    {
+        let bytes = self.list(1, MOST_NUMBER)?;
+        pages_of(self.alloc, bytes.as_slice())
+    }
+
+    /// Reads a file. Zero bytes are dropped, a line ends at LF or at the end, one CR before the LF
+    /// is dropped, and a number that comes again replaces. Error 50 where a line has no number or
+    /// is refused.
+    pub fn from_file(alloc: Global, pages: &[Page]) -> Result<ProgramText, Trouble<Fault>>
+        ensures { ReadsFile pages.now result }
+    {
+        let bytes = bytes_of(alloc, pages)?;
+        let mut text = ProgramText::new(alloc);
+        match text.keep_all(bytes.as_slice()) {
+            Ok(()) => Ok(text),
+            Err(trouble) => Err(trouble),
+        }
+    }
+
+    /// Stores all lines of a file.
+    fn keep_all(&mut self, bytes: &[u8]) -> Result<(), Trouble<Fault>>
+        ensures { KeepsAll (file_lines bytes.now) self.old self.new result }
+    {
+        let mut left = bytes;
+        while !left.is_empty() {
+            let cut = first_line(left);
+            self.keep_text(cut.line)?;
+            left = cut.left;
+        }
+        Ok(())
+    }
+
+    /// Stores one line of a file.
+    fn keep_text(&mut self, text: &[u8]) -> Result<(), Trouble<Fault>>
+        ensures { KeepsOne text.now self.old self.new result }
+    {
+        let Some(numbered) = line_number(text) else {
+            return Err(Trouble::Refused(Fault::new(DATA_FORMAT)));
+        };
+        match self.keep(numbered.number, numbered.rest) {
+            Ok(()) => Ok(()),
+            Err(Trouble::Refused(_)) => Err(Trouble::Refused(Fault::new(DATA_FORMAT))),
+            Err(Trouble::NoMemory) => Err(Trouble::NoMemory),
+        }
+    }
+}
+
+/// Cuts the bytes into pages, the last of them with zeros behind its bytes.
+fn pages_of(alloc: Global, bytes: &[u8]) -> Result<Vec<Page>, NoMemory>
+    ensures { IfOk result (λ pages. IsPaged bytes.now pages.items) }
+{
+    let mut pages = Vec::new(alloc);
+    let mut left = bytes;
+    while !left.is_empty() {
+        let (front, behind) = left.split_at(left.len().min(PAGE_BYTES));
+        pages.push(page_of(alloc, front)?)?;
+        left = behind;
+    }
+    Ok(pages)
+}
+
+/// A page that begins with these bytes, with zeros behind them.
+fn page_of(alloc: Global, bytes: &[u8]) -> Result<Page, NoMemory>
+    requires { length bytes.now ≤ PAGE_BYTES }
+    ensures { IfOk result (λ page. page ≡ bytes.now ++ replicate (PAGE_BYTES - length bytes.now) 0) }
+{
+    let mut whole = Vec::from_slice(alloc, bytes)?;
+    whole.resize(PAGE_BYTES, 0)?;
+    let mut page = Page::new(alloc)?;
+    page.fill(whole.as_slice());
+    Ok(page)
+}
+
+/// What stands on the pages, without zero bytes.
+fn bytes_of(alloc: Global, pages: &[Page]) -> Result<Vec<u8>, NoMemory>
+    ensures { IfOk result (λ bytes. bytes.items ≡ file_text pages.now) }
+{
+    let mut bytes = Vec::new(alloc);
+    for page in pages {
+        append_written(&mut bytes, page.as_bytes())?;
+    }
+    Ok(bytes)
+}
+
+/// Adds the bytes that are no zeros.
+fn append_written(bytes: &mut Vec<u8>, page: &[u8]) -> Result<(), NoMemory>
+    ensures { OnOk result (bytes.new.items ≡ bytes.old.items ++ filter is_written page.now) }
+{
+    for byte in page {
+        if *byte != 0 {
+            bytes.push(*byte)?;
+        }
+    }
+    Ok(())
+}
+
+/// Cuts off the first line, up to its LF or to the end.
+fn first_line(text: &[u8]) -> Cut<'_>
+    requires { 0 < length text.now }
+    ensures { CutsLine text.entry.now result }
+{
+    for place in 0..text.len() {
+        if text[place] == b'\n' {
+            return Cut {
+                line: without_return(&text[..place]),
+                left: &text[place + 1..],
+            };
+        }
+    }
+    Cut {
+        line: text,
+        left: &[],
+    }
+}
+
+/// The text without one CR at its end.
+fn without_return(text: &[u8]) -> &[u8]
+    ensures { result.now ≡ without_return text.entry.now }
+{
+    match text {
+        [line @ .., b'\r'] => line,
+        _ => text,
+    }
+}

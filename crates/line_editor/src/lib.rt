@@ -1,0 +1,16 @@
+//! The text of a program: a map of its lines by their numbers.
+//!
+//! `ProgramText` is seen as the list of its lines in order, each with the bytes behind its number.
+//! `put_line` and `delete` carry what is changed and what is refused, `list` which bytes are
+//! listed, `program` that the trees are those that the bytes spell, `to_file` and `from_file` that
+//! a file is read as it was written. It stands on `basic_line`, which reads the lines, and on
+//! `monitor_calls` for pages.
+#![tactic(auto)]
+
+mod files;
+mod numbers;
+mod text;
+
+pub use files::{DATA_FORMAT, PAGE_BYTES};
+pub use numbers::{Numbered, line_number};
+pub use text::{EditRefusal, MOST_LINES, ProgramText};

@@ -1,0 +1,48 @@
+//! The number that a line begins with.
+
+ghost use Rattle.std.specs.Prelude.{◌≡◌, min, true};
+ghost use Rattle.std.specs.Char.{is_ascii_digit};
+ghost use Rattle.std.specs.List.{list_all};
+ghost use Rattle.std.specs.Str.Parse.{digits_value};
+ghost use Rattle.line_editor.specs.Numbers.{HasNumber};
+
+use basic_values::digits_in_front;
+
+/// What stands for every number that is too great for a line.
+const TOO_GREAT: u32 = 32768;
+
+/// A line that begins with a number.
+#[derive(Clone, Copy)]
+pub struct Numbered<'a> {
+    /// The number, or 32768 where it is more.
+    pub number: u16,
+    /// What stands behind it.
+    pub rest: &'a [u8],
+}
+
+/// The number that a line begins with, which is the longest run of digits, and what stands behind
+/// it. None where the line begins with no digit.
+pub fn line_number(line: &[u8]) -> Option<Numbered<'_>>
+    ensures { HasNumber line.entry.now result }
+{
+    let count = digits_in_front(line);
+    if count == 0 {
+        return None;
+    }
+    Some(Numbered {
+        number: value_of(&line[..count]),
+        rest: &line[count..],
+    })
+}
+
+/// The value of the digits, or 32768 where it is more.
+fn value_of(digits: &[u8]) -> u16
+    requires { list_all is_ascii_digit digits.now ≡ true }
+    ensures { result ≡ min (digits_value 10 digits.now) TOO_GREAT }
+{
+    let mut value: u32 = 0;
+    for digit in digits {
+        value = (value * 10 + u32::from(*digit - b'0')).min(TOO_GREAT);
+    }
+    value as u16
+}

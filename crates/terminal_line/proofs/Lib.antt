@@ -1,0 +1,3 @@
+mod ColumnExamples
+pub mod ColumnLemmas
+pub mod CountLemmas
