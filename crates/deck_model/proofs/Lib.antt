@@ -1,2 +1,4 @@
-pub mod FieldLaws
+pub mod FormLaws
+pub mod FrontLaws
 pub mod ReadingLaws
+pub mod VolumeLaws

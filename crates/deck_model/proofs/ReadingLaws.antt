@@ -1,257 +1,269 @@
--- The two laws: what is read is spelled so, and what is spelled so is read.
-use Rattle.std.proofs.Common.{◌≡◌, ℕ, ◌≤◌, Bool, true, false, cond, eqb, List, [], ◌∷◌, ◌++◌, length, Option, Some, None, refl, sym, ap, subst, ◌∙◌, append_assoc, arith, ◌⊎◌, inl, inr, ⊎_elim, ◌-◌, get_or, eq-eqb}
-use Rattle.std.specs.Prelude.{◌&&◌, nat_le, bytes_eq, codes, map}
-use Rattle.std.specs.List.{list_all, AllByRecursion}
+-- The two laws: what is told of bytes is so, and what is so is told.
+use Rattle.std.proofs.Common.{◌≡◌, ℕ, ◌+◌, List, [], ◌∷◌, ◌++◌, length, map, Ok, Err, refl, sym, ap, subst, ◌∙◌, append_assoc, arith}
+use Rattle.std.specs.Prelude.{Result, ◌&&◌, nat_le, true}
+use Rattle.std.specs.List.{flat_map, AllByRecursion}
 use Rattle.std.specs.Fmt.{decimal}
-use Rattle.std.specs.Str.Lines.{lines}
-use Rattle.std.specs.Cmp.Lexicographic.{bytes_decides}
-use Rattle.std.proofs.lemmas.Bool.{eqb-true, leb-true, le-leb}
-use Rattle.std.proofs.lemmas.List.{append-nil, nil_from_length}
-use Rattle.basic_values.specs.Decimals.{number_between}
+use Rattle.std.proofs.lemmas.Bool.{le-ltb}
+use Rattle.std.proofs.lemmas.List.{append-nil, length-append}
 use Rattle.monitor_calls.specs.declared.volumes.AccountEntry.{AccountEntry}
-use Rattle.monitor_calls.specs.Names.{is_short_text, is_password, is_terminal_name, is_capital_or_digit}
-use Rattle.monitor_calls.specs.Volumes.{is_good_entry, is_good_volume, is_between, are_apart}
-use Rattle.deck_model.specs.Deck.{Deck, Terminal, IsDeck, IsTerminal, IsKeyLine}
-use Rattle.deck_model.specs.Spelling.{account_line, disk_line, key_line, deck_lines, Spelled}
-use Rattle.deck_model.specs.Reading.{◌>>=◌, behind, cut, Fields, fields_in, entry_in, blocks_in, name_in, keys_in, all_keys_in, Head, head_in, volume_in, deck_in, deck_at}
-use Rattle.deck_model.proofs.FieldLaws.{bind_some, guard_some, and_left, and_right, behind_takes, behind_again, Lacks, cut_takes, cut_again, number_takes, number_again, decimal_lacks, capitals_lack, password_is_short}
+use Rattle.deck_model.specs.declared.faults.DeckCause.{DeckCause}
+use Rattle.deck_model.specs.Deck as model
+use Rattle.deck_model.specs.Deck.{Deck, IsDeck, IsKeyLine, AreTerminals}
+use Rattle.deck_model.specs.Lines.{whole_lines, cut_line}
+use Rattle.deck_model.specs.Forms.{Form, Version, Disk, Account, Terminal, Keys, End, line_of, is_name}
+use Rattle.deck_model.specs.Spelling.{texts_of, account_line, key_line, terminal_lines, group_lines, deck_lines, Spelled}
+use Rattle.deck_model.specs.Fronts.{Front, Nothing, Versioned, InAccounts, InTerminal, Whole, front_lines, IsFront, new_terminal, adds}
+use Rattle.deck_model.specs.Refusals.{StopsAt, Refused}
+use Rattle.deck_model.specs.Reading.{behind_line, Verdict, Spells, Refuses, at_end, onwards, reading, verdict}
+use Rattle.text_cuts.proofs.CutLaws.{and_right}
+use Rattle.deck_model.proofs.VolumeLaws.{GoodVolume, volume_parts, volume_front, volume_last, FitsAmong, terminals_front, terminals_last}
+use Rattle.deck_model.proofs.FrontLaws.{Follows, adds_front, Takes, line_behind, line_takes, line_refuses, refused_behind, account_none, terminal_none, written, disk_behind}
 
-some : {A : Type 0} → A → Option A
-some x = Some x
+-- ---- what is so is told
 
-some_is : {A : Type 0} (x y : A) → Some x ≡ Some y → x ≡ y
-some_is x y e = cc
+-- these lines lead from one front to another
+record Leads (from : Front) (lines : List (List ℕ)) (to : Front) : Type 0 where
+  reads : (number : ℕ) (more : List (List ℕ)) (cut : List ℕ) → reading from number (lines ++ more) cut ≡ reading to (number + length lines) more cut
 
-test_some : {A : Type 0} (b : Bool) (o : Option A) (y : A) → cond b o None ≡ Some y → (b ≡ true) × (o ≡ Some y)
-test_some true o y e = (refl, e)
-test_some false o y e = absurd cc
+leads_none : (from to : Front) → from ≡ to → Leads from [] to
+leads_none from to same = record { reads = λ number more cut. (let place : number ≡ number + 0 = omega arith in λ i. reading (same i) (place i) more cut) }
 
--- ---- accounts
+leads_line : (from : Front) (line : List ℕ) (to : Front) → behind_line from line ≡ Ok to → Leads from (line ∷ []) to
+unfolding reading
+leads_line from line to e = record { reads = λ number more cut. ap (λ (r : Result Front DeckCause). onwards r number (λ next. reading next (number + 1) more cut)) e }
 
-abbrev spelled_fields : Fields → List ℕ
-spelled_fields f = codes "ACCOUNT " ++ (f.project ++ 44 ∷ (f.programmer ++ 32 ∷ (f.password ++ 32 ∷ f.limit)))
-
-fields_take : (line : List ℕ) (f : Fields) → fields_in line ≡ Some f → line ≡ spelled_fields f
-unfolding fields_in
-fields_take line f e =
-    let a = bind_some (behind (codes "ACCOUNT ") line) (λ fields. cut 44 fields >>= λ project. cut 32 project.1 >>= λ programmer. cut 32 programmer.1 >>= λ password. Some (record { project = project.0; programmer = programmer.0; password = password.0; limit = password.1 })) f e in
-    let b = bind_some (cut 44 a.0) (λ project. cut 32 project.1 >>= λ programmer. cut 32 programmer.1 >>= λ password. Some (record { project = project.0; programmer = programmer.0; password = password.0; limit = password.1 })) f a.2 in
-    let c = bind_some (cut 32 b.0.1) (λ programmer. cut 32 programmer.1 >>= λ password. Some (record { project = b.0.0; programmer = programmer.0; password = password.0; limit = password.1 })) f b.2 in
-    let d = bind_some (cut 32 c.0.1) (λ password. Some (record { project = b.0.0; programmer = c.0.0; password = password.0; limit = password.1 })) f c.2 in
-    let made : Fields = record { project = b.0.0; programmer = c.0.0; password = d.0.0; limit = d.0.1 } in
-    let rest : c.0.1 ≡ d.0.0 ++ 32 ∷ d.0.1 = cut_takes 32 c.0.1 d.0 d.1 in
-    let second : b.0.1 ≡ c.0.0 ++ 32 ∷ (d.0.0 ++ 32 ∷ d.0.1) = cut_takes 32 b.0.1 c.0 c.1 ∙ ap (λ t. c.0.0 ++ 32 ∷ t) rest in
-    let first : a.0 ≡ b.0.0 ++ 44 ∷ (c.0.0 ++ 32 ∷ (d.0.0 ++ 32 ∷ d.0.1)) = cut_takes 44 a.0 b.0 b.1 ∙ ap (λ t. b.0.0 ++ 44 ∷ t) second in
-    subst (λ (x : Fields). line ≡ spelled_fields x) (some_is made f d.2) (behind_takes (codes "ACCOUNT ") line a.0 a.1 ∙ ap (λ t. codes "ACCOUNT " ++ t) first)
-
-fields_again : (f : Fields) → Lacks 44 f.project → Lacks 32 f.programmer → Lacks 32 f.password → fields_in (spelled_fields f) ≡ Some f
-unfolding fields_in
-fields_again f p n w =
-    rw (cut_again 44 f.project (f.programmer ++ 32 ∷ (f.password ++ 32 ∷ f.limit)) p, cut_again 32 f.programmer (f.password ++ 32 ∷ f.limit) n, cut_again 32 f.password f.limit w) refl
-
--- the texts of an account's fields
-abbrev fields_of : AccountEntry → Fields
-fields_of e = record { project = decimal e.account.project; programmer = decimal e.account.programmer; password = e.password; limit = decimal e.limit }
-
-entry_takes : (f : Fields) (e : AccountEntry) → entry_in f ≡ Some e → f ≡ fields_of e
-unfolding entry_in
-entry_takes f e h =
-    let a = bind_some (number_between 0 255 f.project) (λ project. number_between 0 255 f.programmer >>= λ programmer. number_between 0 65535 f.limit >>= λ limit. cond (is_short_text f.password) (Some (record { account = record { project = project; programmer = programmer }; password = f.password; limit = limit })) None) e h in
-    let b = bind_some (number_between 0 255 f.programmer) (λ programmer. number_between 0 65535 f.limit >>= λ limit. cond (is_short_text f.password) (Some (record { account = record { project = a.0; programmer = programmer }; password = f.password; limit = limit })) None) e a.2 in
-    let c = bind_some (number_between 0 65535 f.limit) (λ limit. cond (is_short_text f.password) (Some (record { account = record { project = a.0; programmer = b.0 }; password = f.password; limit = limit })) None) e b.2 in
-    let made : AccountEntry = record { account = record { project = a.0; programmer = b.0 }; password = f.password; limit = c.0 } in
-    let g = guard_some (is_short_text f.password) made e c.2 in
-    let p = number_takes 0 255 f.project a.0 a.1 in
-    let n = number_takes 0 255 f.programmer b.0 b.1 in
-    let l = number_takes 0 65535 f.limit c.0 c.1 in
-    subst (λ (x : AccountEntry). f ≡ fields_of x) g.1 (λ i. record { project = p i; programmer = n i; password = f.password; limit = l i })
-
--- the ranges of a good entry
-record Ranges (e : AccountEntry) : Type 0 where
-  project : e.account.project ≤ 254
-  programmer : e.account.programmer ≤ 254
-  password : is_password e.password ≡ true
-  limit : e.limit ≤ 16384
-
-ranges_of : (e : AccountEntry) → is_good_entry e ≡ true → Ranges e
-ranges_of e good =
-    let a = and_left (is_between 1 254 e.account.project && nat_le e.account.programmer 254 && is_password e.password) (is_between 1 16384 e.limit) good in
-    let b = and_left (is_between 1 254 e.account.project && nat_le e.account.programmer 254) (is_password e.password) a in
-    let p = and_right (nat_le 1 e.account.project) (nat_le e.account.project 254) (and_left (is_between 1 254 e.account.project) (nat_le e.account.programmer 254) b) in
-    let l = and_right (nat_le 1 e.limit) (nat_le e.limit 16384) (and_right (is_between 1 254 e.account.project && nat_le e.account.programmer 254 && is_password e.password) (is_between 1 16384 e.limit) good) in
+leads_both : (a : Front) (xs : List (List ℕ)) (b : Front) (ys : List (List ℕ)) (c : Front) → Leads a xs b → Leads b ys c → Leads a (xs ++ ys) c
+leads_both a xs b ys c first second =
     record {
-      project = leb-true _ _ p;
-      programmer = leb-true _ _ (and_right (is_between 1 254 e.account.project) (nat_le e.account.programmer 254) b);
-      password = and_right (is_between 1 254 e.account.project && nat_le e.account.programmer 254) (is_password e.password) a;
-      limit = leb-true _ _ l;
+      reads = λ number more cut.
+          let place : number + length xs + length ys ≡ number + length (xs ++ ys) = omega (arith, length-append xs ys) in
+          ap (λ (ls : List (List ℕ)). reading a number ls cut) (append_assoc xs ys more)
+          ∙ first.reads number (ys ++ more) cut
+          ∙ second.reads (number + length xs) more cut
+          ∙ ap (λ (n : ℕ). reading c n more cut) place;
     }
 
-entry_again : (e : AccountEntry) → is_good_entry e ≡ true → entry_in (fields_of e) ≡ Some e
-unfolding entry_in
-entry_again e good =
-    let r = ranges_of e good in
-    rw (number_again 0 255 e.account.project (omega arith) (omega (arith, r.project)) (omega (arith, r.project)), number_again 0 255 e.account.programmer (omega arith) (omega (arith, r.programmer)) (omega (arith, r.programmer)), number_again 0 65535 e.limit (omega arith) (omega (arith, r.limit)) (omega (arith, r.limit)), password_is_short e.password r.password) refl
+leads_form : (from : Front) (form : Form) (to : Front) → behind_line from (line_of form) ≡ Ok (adds from form) → adds from form ≡ to → Leads from (line_of form ∷ []) to
+leads_form from form to e same = leads_line from (line_of form) to (e ∙ ap (λ (f : Front). Ok f) same)
 
-account_is : (e : AccountEntry) → spelled_fields (fields_of e) ≡ account_line e
-account_is e = simp append_assoc
+abbrev bare : ℕ → List AccountEntry → Deck
+bare blocks accounts = record { blocks = blocks; accounts = accounts; terminals = [] }
 
-account_again : (e : AccountEntry) → is_good_entry e ≡ true → fields_in (account_line e) ≡ Some (fields_of e)
-account_again e good =
-    let r = ranges_of e good in
-    let capitals = and_right (nat_le 1 (length e.password) && nat_le (length e.password) 6) (list_all is_capital_or_digit e.password) r.password in
-    ap fields_in (sym (account_is e)) ∙ fields_again (fields_of e) (decimal_lacks 44 e.account.project (omega arith) (omega (arith, r.project))) (decimal_lacks 32 e.account.programmer (omega arith) (omega (arith, r.programmer))) (capitals_lack e.password capitals)
+accounts_lead : (blocks : ℕ) (done entries : List AccountEntry) → GoodVolume blocks (done ++ entries) → Leads (InAccounts (bare blocks done)) (map account_line entries) (InAccounts (bare blocks (done ++ entries)))
+accounts_lead blocks done [] good = leads_none _ _ (ap (λ (es : List AccountEntry). InAccounts (bare blocks es)) (sym (append-nil done)))
+accounts_lead blocks done (e ∷ entries) good =
+    let regroup : (done ++ e ∷ []) ++ entries ≡ done ++ e ∷ entries = append_assoc done (e ∷ []) entries in
+    let front : GoodVolume blocks ((done ++ e ∷ []) ++ entries) = subst (GoodVolume blocks) (sym regroup) good in
+    let fits = volume_last blocks done e (volume_front blocks (done ++ e ∷ []) entries front) in
+    let w = written e fits.good in
+    let from : Front = InAccounts (bare blocks done) in
+    let to : Front = InAccounts (bare blocks (done ++ e ∷ [])) in
+    let one : Leads from (line_of (Account (texts_of e)) ∷ []) to =
+    leads_form from (Account (texts_of e)) to (line_behind from (Account (texts_of e)) tt w.formed (account_none (bare blocks done) e fits))
+    (ap (λ (x : AccountEntry). InAccounts (bare blocks (done ++ x ∷ []))) w.entry_is) in
+    leads_both from (account_line e ∷ []) to (map account_line entries) (InAccounts (bare blocks (done ++ e ∷ entries))) one
+    (subst (λ (es : List AccountEntry). Leads to (map account_line entries) (InAccounts (bare blocks es))) regroup (accounts_lead blocks (done ++ e ∷ []) entries front))
 
--- ---- the other lines
+abbrev named : List ℕ → List (List ℕ) → model.Terminal
+named name keys = record { name = name; keys = keys }
 
-blocks_take : (line : List ℕ) (n : ℕ) → blocks_in line ≡ Some n → line ≡ disk_line n
-unfolding blocks_in
-blocks_take line n e =
-    let a = bind_some (behind (codes "DISK ") line) (λ text. number_between 0 65535 text) n e in
-    behind_takes (codes "DISK ") line a.0 a.1 ∙ ap (λ t. codes "DISK " ++ t) (number_takes 0 65535 a.0 n a.2)
+keys_lead : (deck : Deck) (name : List ℕ) (done keys : List (List ℕ)) → AllByRecursion IsKeyLine keys → Leads (InTerminal deck (named name done)) (map key_line keys) (InTerminal deck (named name (done ++ keys)))
+keys_lead deck name done [] short = leads_none _ _ (ap (λ (ks : List (List ℕ)). InTerminal deck (named name ks)) (sym (append-nil done)))
+keys_lead deck name done (k ∷ keys) short =
+    let from : Front = InTerminal deck (named name done) in
+    let to : Front = InTerminal deck (named name (done ++ k ∷ [])) in
+    let one : Leads from (line_of (Keys k) ∷ []) to = leads_form from (Keys k) to (line_behind from (Keys k) tt refl (rw (le-ltb 255 (length k) short.0) refl)) refl in
+    leads_both from (key_line k ∷ []) to (map key_line keys) (InTerminal deck (named name (done ++ k ∷ keys))) one
+    (subst (λ (ks : List (List ℕ)). Leads to (map key_line keys) (InTerminal deck (named name ks))) (append_assoc done (k ∷ []) keys) (keys_lead deck name (done ++ k ∷ []) keys short.1))
 
-blocks_again : (n : ℕ) → n ≤ 65535 → blocks_in (disk_line n) ≡ Some n
-unfolding blocks_in
-blocks_again n le = number_again 0 65535 n (omega arith) le (omega arith)
+abbrev with_all : ℕ → List AccountEntry → List model.Terminal → Deck
+with_all blocks accounts terminals = record { blocks = blocks; accounts = accounts; terminals = terminals }
 
-name_takes : (line name : List ℕ) → name_in line ≡ Some name → (line ≡ codes "TERMINAL " ++ name) × (is_terminal_name name ≡ true)
-unfolding name_in
-name_takes line name e =
-    let a = bind_some (behind (codes "TERMINAL ") line) (λ text. cond (is_terminal_name text) (Some text) None) name e in
-    let g = guard_some (is_terminal_name a.0) a.0 name a.2 in
-    (behind_takes (codes "TERMINAL ") line a.0 a.1 ∙ ap (λ t. codes "TERMINAL " ++ t) g.1, subst (λ (t : List ℕ). is_terminal_name t ≡ true) g.1 g.0)
+-- the front behind the groups: its last terminal may still get keys
+open_behind : ℕ → List AccountEntry → List model.Terminal → model.Terminal → List model.Terminal → Front
+open_behind blocks accounts done t [] = InTerminal (with_all blocks accounts done) t
+open_behind blocks accounts done t (u ∷ us) = open_behind blocks accounts (done ++ t ∷ []) u us
 
-name_again : (name : List ℕ) → is_terminal_name name ≡ true → name_in (codes "TERMINAL " ++ name) ≡ Some name
-unfolding name_in
-name_again name good = rw (behind_again (codes "TERMINAL ") name, good) refl
+open_front : ℕ → List AccountEntry → List model.Terminal → Front
+open_front blocks accounts [] = InAccounts (bare blocks accounts)
+open_front blocks accounts (t ∷ ts) = open_behind blocks accounts [] t ts
 
-keys_take : (line keys : List ℕ) → keys_in line ≡ Some keys → (line ≡ key_line keys) × IsKeyLine keys
-keys_take line keys e =
-    let a = bind_some (behind (62 ∷ []) line) (λ text. cond (nat_le (length text) 255) (Some text) None) keys e in
-    let g = guard_some (nat_le (length a.0) 255) a.0 keys a.2 in
-    (behind_takes (62 ∷ []) line a.0 a.1 ∙ ap (λ t. 62 ∷ t) g.1, subst (λ (t : List ℕ). IsKeyLine t) g.1 (leb-true _ _ g.0))
+-- behind an open front come END, or another terminal
+open_takes : (blocks : ℕ) (accounts : List AccountEntry) (done : List model.Terminal) (t : model.Terminal) (ts : List model.Terminal) → behind_line (open_behind blocks accounts done t ts) (line_of End) ≡ Ok (Whole (with_all blocks accounts (done ++ t ∷ ts)))
+unfolding open_behind
+open_takes blocks accounts done t [] = line_behind (InTerminal (with_all blocks accounts done) t) End tt refl refl
+open_takes blocks accounts done t (u ∷ us) =
+    open_takes blocks accounts (done ++ t ∷ []) u us ∙ ap (λ (all : List model.Terminal). Ok (Whole (with_all blocks accounts all))) (append_assoc done (t ∷ []) (u ∷ us))
 
-keys_again : (keys : List ℕ) → IsKeyLine keys → keys_in (key_line keys) ≡ Some keys
-keys_again keys short = rw (behind_again (62 ∷ []) keys, le-leb (length keys) 255 short) refl
+end_takes : (blocks : ℕ) (accounts : List AccountEntry) (ts : List model.Terminal) → behind_line (open_front blocks accounts ts) (line_of End) ≡ Ok (Whole (with_all blocks accounts ts))
+unfolding open_front
+end_takes blocks accounts [] = line_behind (InAccounts (bare blocks accounts)) End tt refl refl
+end_takes blocks accounts (t ∷ ts) = open_takes blocks accounts [] t ts
 
-abbrev end_line : List ℕ
-end_line = codes "END"
+capitals_formed : (t : model.Terminal) → model.IsTerminal t → is_name t.name ≡ true
+capitals_formed t good = and_right (nat_le 1 (length t.name) && nat_le (length t.name) 8) (is_name t.name) good.name
 
-end_or_key : (b n : Bool) (o : Option (List (List ℕ))) (ks : List (List ℕ)) → cond b (cond n (Some []) None) o ≡ Some ks → ((b ≡ true) × (n ≡ true) × (ks ≡ [])) ⊎ (o ≡ Some ks)
-end_or_key true true o ks e = inl (refl, refl, cc)
-end_or_key true false o ks e = absurd cc
-end_or_key false n o ks e = inr e
+open_opens : (blocks : ℕ) (accounts : List AccountEntry) (done : List model.Terminal) (t : model.Terminal) (ts : List model.Terminal) (next : model.Terminal) → FitsAmong (done ++ t ∷ ts) next
+    → behind_line (open_behind blocks accounts done t ts) (line_of (Terminal next.name)) ≡ Ok (InTerminal (with_all blocks accounts (done ++ t ∷ ts)) (new_terminal next.name))
+unfolding open_behind
+open_opens blocks accounts done t [] next fits =
+    line_behind (InTerminal (with_all blocks accounts done) t) (Terminal next.name) tt (capitals_formed next fits.good) (terminal_none (done ++ t ∷ []) next fits)
+open_opens blocks accounts done t (u ∷ us) next fits =
+    let same = append_assoc done (t ∷ []) (u ∷ us) in
+    open_opens blocks accounts (done ++ t ∷ []) u us next (subst (λ (all : List model.Terminal). FitsAmong all next) (sym same) fits)
+    ∙ ap (λ (all : List model.Terminal). Ok (InTerminal (with_all blocks accounts all) (new_terminal next.name))) same
 
-abbrev IsTail : List (List ℕ) → List (List ℕ) → Type 0
-IsTail lines ks = (lines ≡ map key_line ks ++ end_line ∷ []) × AllByRecursion IsKeyLine ks
+front_opens : (blocks : ℕ) (accounts : List AccountEntry) (ts : List model.Terminal) (next : model.Terminal) → FitsAmong ts next → behind_line (open_front blocks accounts ts) (line_of (Terminal next.name)) ≡ Ok (InTerminal (with_all blocks accounts ts) (new_terminal next.name))
+unfolding open_front
+front_opens blocks accounts [] next fits =
+    line_behind (InAccounts (bare blocks accounts)) (Terminal next.name) tt (capitals_formed next fits.good) (terminal_none [] next fits)
+front_opens blocks accounts (t ∷ ts) next fits = open_opens blocks accounts [] t ts next fits
 
-all_keys_take : (lines ks : List (List ℕ)) → all_keys_in lines ≡ Some ks → IsTail lines ks
-unfolding all_keys_in
-all_keys_take [] ks e = absurd cc
-all_keys_take (line ∷ lines) ks e =
-    ⊎_elim
-    (λ h.
-    let same : line ≡ end_line = (bytes_decides line end_line).0 h.0 in
-    let last : lines ≡ [] = nil_from_length lines (eqb-true _ _ h.1) in
-    subst (λ (x : List (List ℕ)). IsTail (line ∷ lines) x) (sym h.2) ((λ i. same i ∷ last i), tt))
-    (λ h.
-    let a = bind_some (keys_in line) (λ keys. all_keys_in lines >>= λ others. Some (keys ∷ others)) ks h in
-    let b = bind_some (all_keys_in lines) (λ others. Some (a.0 ∷ others)) ks a.2 in
-    let first = keys_take line a.0 a.1 in
-    let others = all_keys_take lines b.0 b.1 in
-    subst (λ (x : List (List ℕ)). IsTail (line ∷ lines) x) (some_is (a.0 ∷ b.0) ks b.2) ((λ i. first.0 i ∷ others.0 i), (first.1, others.1)))
-    (end_or_key (bytes_eq line end_line) (eqb (length lines) 0) (keys_in line >>= λ keys. all_keys_in lines >>= λ others. Some (keys ∷ others)) ks e)
+-- the lines of one terminal, behind an open front
+terminal_leads : (from : Front) (deck : Deck) (t : model.Terminal) → behind_line from (line_of (Terminal t.name)) ≡ Ok (InTerminal deck (new_terminal t.name)) → AllByRecursion IsKeyLine t.keys → Leads from (terminal_lines t) (InTerminal deck t)
+terminal_leads from deck t e short =
+    leads_both from (line_of (Terminal t.name) ∷ []) (InTerminal deck (new_terminal t.name)) (map key_line t.keys) (InTerminal deck t) (leads_line from (line_of (Terminal t.name)) (InTerminal deck (new_terminal t.name)) e) (keys_lead deck t.name [] t.keys short)
 
-all_keys_again : (ks : List (List ℕ)) → AllByRecursion IsKeyLine ks → all_keys_in (map key_line ks ++ end_line ∷ []) ≡ Some ks
-unfolding all_keys_in
-all_keys_again [] short = refl
-all_keys_again (keys ∷ ks) short = rw (keys_again keys short.0, all_keys_again ks short.1) refl
+terminals_lead : (blocks : ℕ) (accounts : List AccountEntry) (done : List model.Terminal) (t : model.Terminal) (ts : List model.Terminal) → AreTerminals (done ++ t ∷ ts)
+    → Leads (InTerminal (with_all blocks accounts done) t) (flat_map terminal_lines ts) (open_behind blocks accounts done t ts)
+unfolding open_behind
+terminals_lead blocks accounts done t [] good = leads_none _ _ refl
+terminals_lead blocks accounts done t (u ∷ us) good =
+    let regroup : (done ++ t ∷ []) ++ u ∷ us ≡ done ++ t ∷ u ∷ us = append_assoc done (t ∷ []) (u ∷ us) in
+    let all : AreTerminals ((done ++ t ∷ []) ++ u ∷ us) = subst AreTerminals (sym regroup) good in
+    let again : ((done ++ t ∷ []) ++ u ∷ []) ++ us ≡ (done ++ t ∷ []) ++ u ∷ us = append_assoc (done ++ t ∷ []) (u ∷ []) us in
+    let fits = terminals_last (done ++ t ∷ []) u (terminals_front ((done ++ t ∷ []) ++ u ∷ []) us (subst AreTerminals (sym again) all)) in
+    let from : Front = InTerminal (with_all blocks accounts done) t in
+    let mid : Front = InTerminal (with_all blocks accounts (done ++ t ∷ [])) u in
+    leads_both from (terminal_lines u) mid (flat_map terminal_lines us) (open_behind blocks accounts (done ++ t ∷ []) u us)
+    (terminal_leads from (with_all blocks accounts (done ++ t ∷ [])) u (open_opens blocks accounts done t [] u fits) fits.good.keys)
+    (terminals_lead blocks accounts (done ++ t ∷ []) u us all)
 
--- ---- the deck
+all_lead : (blocks : ℕ) (accounts : List AccountEntry) (ts : List model.Terminal) → AreTerminals ts → Leads (InAccounts (bare blocks accounts)) (flat_map terminal_lines ts) (open_front blocks accounts ts)
+unfolding open_front
+all_lead blocks accounts [] good = leads_none _ _ refl
+all_lead blocks accounts (t ∷ ts) good =
+    let fits = terminals_last [] t (terminals_front (t ∷ []) ts good) in
+    leads_both (InAccounts (bare blocks accounts)) (terminal_lines t) (InTerminal (bare blocks accounts) t) (flat_map terminal_lines ts) (open_behind blocks accounts [] t ts)
+    (terminal_leads (InAccounts (bare blocks accounts)) (bare blocks accounts) t (front_opens blocks accounts [] t fits) fits.good.keys)
+    (terminals_lead blocks accounts [] t ts good)
 
-head_takes : (lines : List (List ℕ)) (h : Head) → head_in lines ≡ Some h → lines ≡ h.version ∷ h.disk ∷ h.account ∷ h.terminal ∷ h.rest
-unfolding head_in
-head_takes [] h e = absurd cc
-head_takes (a ∷ []) h e = absurd cc
-head_takes (a ∷ b ∷ []) h e = absurd cc
-head_takes (a ∷ b ∷ c ∷ []) h e = absurd cc
-head_takes (a ∷ b ∷ c ∷ d ∷ rest) h e =
-    let made : Head = record { version = a; disk = b; account = c; terminal = d; rest = rest } in
-    ap (λ (x : Head). x.version ∷ x.disk ∷ x.account ∷ x.terminal ∷ x.rest) (some_is made h e)
+head_leads : (blocks : ℕ) → GoodVolume blocks [] → Leads Nothing (line_of Version ∷ line_of (Disk (decimal blocks)) ∷ []) (InAccounts (bare blocks []))
+head_leads blocks good =
+    leads_both Nothing (line_of Version ∷ []) Versioned (line_of (Disk (decimal blocks)) ∷ []) (InAccounts (bare blocks []))
+    (leads_line Nothing (line_of Version) Versioned (line_behind Nothing Version tt refl refl))
+    (leads_line Versioned (line_of (Disk (decimal blocks))) (InAccounts (bare blocks [])) (disk_behind blocks good.size))
 
-abbrev one_volume : ℕ × List AccountEntry → Head → Type 0
-one_volume v h =
-    (entry : AccountEntry) × (v.1 ≡ entry ∷ []) × (h.version ≡ codes "RSTS-DECK 1") × (h.disk ≡ disk_line v.0) × (h.account ≡ account_line entry) × (is_good_volume v.0 v.1 ≡ true)
+groups_lead : (deck : Deck) → IsDeck deck → Leads Nothing (group_lines deck) (open_front deck.blocks deck.accounts deck.terminals)
+groups_lead deck good =
+    let volume = volume_parts deck.blocks deck.accounts good.volume in
+    let head : List (List ℕ) = line_of Version ∷ line_of (Disk (decimal deck.blocks)) ∷ [] in
+    let lines : List (List ℕ) = map account_line deck.accounts ++ flat_map terminal_lines deck.terminals in
+    leads_both Nothing head (InAccounts (bare deck.blocks [])) lines (open_front deck.blocks deck.accounts deck.terminals)
+    (head_leads deck.blocks (volume_front deck.blocks [] deck.accounts volume))
+    (leads_both (InAccounts (bare deck.blocks [])) (map account_line deck.accounts) (InAccounts (bare deck.blocks deck.accounts)) (flat_map terminal_lines deck.terminals) (open_front deck.blocks deck.accounts deck.terminals)
+    (accounts_lead deck.blocks [] deck.accounts volume) (all_lead deck.blocks deck.accounts deck.terminals good.terminals))
 
-volume_takes : (h : Head) (v : ℕ × List AccountEntry) → volume_in h ≡ Some v → one_volume v h
-unfolding volume_in
-volume_takes h v e =
-    let a = bind_some (blocks_in h.disk) (λ blocks. fields_in h.account >>= λ fields. entry_in fields >>= λ entry. cond (bytes_eq h.version (codes "RSTS-DECK 1") && is_good_volume blocks (entry ∷ [])) (Some (blocks, entry ∷ [])) None) v e in
-    let b = bind_some (fields_in h.account) (λ fields. entry_in fields >>= λ entry. cond (bytes_eq h.version (codes "RSTS-DECK 1") && is_good_volume a.0 (entry ∷ [])) (Some (a.0, entry ∷ [])) None) v a.2 in
-    let c = bind_some (entry_in b.0) (λ entry. cond (bytes_eq h.version (codes "RSTS-DECK 1") && is_good_volume a.0 (entry ∷ [])) (Some (a.0, entry ∷ [])) None) v b.2 in
-    let g = guard_some (bytes_eq h.version (codes "RSTS-DECK 1") && is_good_volume a.0 (c.0 ∷ [])) (a.0, c.0 ∷ []) v c.2 in
-    let version : h.version ≡ codes "RSTS-DECK 1" = (bytes_decides h.version (codes "RSTS-DECK 1")).0 (and_left _ (is_good_volume a.0 (c.0 ∷ [])) g.0) in
-    let account : h.account ≡ account_line c.0 = fields_take h.account b.0 b.1 ∙ ap spelled_fields (entry_takes b.0 c.0 c.1) ∙ account_is c.0 in
-    subst (λ (x : ℕ × List AccountEntry). one_volume x h) g.1 (c.0, refl, version, blocks_take h.disk a.0 a.1, account, and_right (bytes_eq h.version (codes "RSTS-DECK 1")) _ g.0)
+-- the lines of a front lead to it
+front_leads : (front : Front) → IsFront front → Leads Nothing (front_lines front) front
+unfolding open_front
+front_leads Nothing is = leads_none _ _ refl
+front_leads Versioned is = leads_line Nothing (line_of Version) Versioned (line_behind Nothing Version tt refl refl)
+front_leads (InAccounts deck) is =
+    let behind : Front = open_front deck.blocks deck.accounts deck.terminals in
+    let same : behind ≡ InAccounts deck = (λ i. open_front deck.blocks deck.accounts (is.1 i)) ∙ (λ i. InAccounts (with_all deck.blocks deck.accounts (sym is.1 i))) in
+    subst (λ (f : Front). Leads Nothing (group_lines deck) f) same (groups_lead deck is.0)
+front_leads (InTerminal deck terminal) is =
+    let fits = terminals_last deck.terminals terminal is.terminals in
+    let good : IsDeck deck = record { volume = is.volume; terminals = terminals_front deck.terminals (terminal ∷ []) is.terminals } in
+    let behind : Front = open_front deck.blocks deck.accounts deck.terminals in
+    leads_both Nothing (group_lines deck) behind (terminal_lines terminal) (InTerminal deck terminal) (groups_lead deck good)
+    (terminal_leads behind deck terminal (front_opens deck.blocks deck.accounts deck.terminals terminal fits) fits.good.keys)
+front_leads (Whole deck) is =
+    let behind : Front = open_front deck.blocks deck.accounts deck.terminals in
+    leads_both Nothing (group_lines deck) behind (line_of End ∷ []) (Whole deck) (groups_lead deck is)
+    (leads_line behind (line_of End) (Whole deck) (end_takes deck.blocks deck.accounts deck.terminals))
 
--- the lines of a deck with one account and one terminal
-parts : ℕ → AccountEntry → List ℕ → List (List ℕ) → List (List ℕ)
-parts blocks entry name ks =
-    codes "RSTS-DECK 1" ∷ disk_line blocks ∷ account_line entry ∷ (codes "TERMINAL " ++ name) ∷ (map key_line ks ++ end_line ∷ [])
+-- what is told of bytes whose lines begin by those of a front
+verdict_behind : (bytes : List ℕ) (front : Front) (rest : List (List ℕ)) → IsFront front → whole_lines bytes ≡ front_lines front ++ rest → verdict bytes ≡ reading front (length (front_lines front) + 1) rest (cut_line bytes)
+unfolding verdict
+verdict_behind bytes front rest is e =
+    let place : 1 + length (front_lines front) ≡ length (front_lines front) + 1 = omega arith in
+    ap (λ (ls : List (List ℕ)). reading Nothing 1 ls (cut_line bytes)) e
+    ∙ (front_leads front is).reads 1 rest (cut_line bytes)
+    ∙ ap (λ (n : ℕ). reading front n rest (cut_line bytes)) place
 
-abbrev deck_with : ℕ → List AccountEntry → List ℕ → List (List ℕ) → Deck
-deck_with blocks accounts name ks = record { blocks = blocks; accounts = accounts; terminals = record { name = name; keys = ks } ∷ [] }
+pub spelled_told : (bytes : List ℕ) (deck : Deck) → Spelled bytes deck → verdict bytes ≡ Spells deck
+unfolding reading
+spelled_told bytes deck s =
+    verdict_behind bytes (Whole deck) [] s.is_deck (s.lines_are ∙ sym (append-nil (deck_lines deck)))
+    ∙ ap (λ (cut : List ℕ). at_end (Whole deck) (length (deck_lines deck) + 1) cut) s.ends
 
-parts_are_lines : (blocks : ℕ) (entry : AccountEntry) (accounts : List AccountEntry) (name : List ℕ) (ks : List (List ℕ)) → accounts ≡ entry ∷ [] → parts blocks entry name ks ≡ deck_lines (deck_with blocks accounts name ks)
-unfolding parts
-parts_are_lines blocks entry accounts name ks e =
-    ap (λ (t : List (List ℕ)). codes "RSTS-DECK 1" ∷ disk_line blocks ∷ account_line entry ∷ (codes "TERMINAL " ++ name) ∷ (t ++ end_line ∷ [])) (sym (append-nil (map key_line ks)))
-    ∙ ap (λ (x : List AccountEntry). deck_lines (deck_with blocks x name ks)) (sym e)
+stops_told : (front : Front) (number : ℕ) (rest : List (List ℕ)) (cut : List ℕ) (why : DeckCause) → StopsAt front rest cut why → reading front number rest cut ≡ Refuses number why
+unfolding reading
+stops_told (Whole deck) number [] [] why stops = absurd (omega (arith, stops.0))
+stops_told (Whole deck) number [] (b ∷ cut) why stops = ap (Refuses number) (sym stops.1)
+stops_told Nothing number [] cut why stops = ap (Refuses number) (sym stops)
+stops_told Versioned number [] cut why stops = ap (Refuses number) (sym stops)
+stops_told (InAccounts deck) number [] cut why stops = ap (Refuses number) (sym stops)
+stops_told (InTerminal deck terminal) number [] cut why stops = ap (Refuses number) (sym stops)
+stops_told front number (line ∷ lines) cut why stops =
+    ap (λ (r : Result Front DeckCause). onwards r number (λ next. reading next (number + 1) lines cut)) (refused_behind front line why stops)
 
-pub deck_takes : (lines : List (List ℕ)) (d : Deck) → deck_in lines ≡ Some d → IsDeck d × (lines ≡ deck_lines d)
-unfolding deck_in parts
-deck_takes lines d e =
-    let a = bind_some (head_in lines) (λ head. volume_in head >>= λ volume. name_in head.terminal >>= λ name. all_keys_in head.rest >>= λ keys. Some (deck_with volume.0 volume.1 name keys)) d e in
-    let b = bind_some (volume_in a.0) (λ volume. name_in a.0.terminal >>= λ name. all_keys_in a.0.rest >>= λ keys. Some (deck_with volume.0 volume.1 name keys)) d a.2 in
-    let c = bind_some (name_in a.0.terminal) (λ name. all_keys_in a.0.rest >>= λ keys. Some (deck_with b.0.0 b.0.1 name keys)) d b.2 in
-    let k = bind_some (all_keys_in a.0.rest) (λ keys. Some (deck_with b.0.0 b.0.1 c.0 keys)) d c.2 in
-    let made : Deck = deck_with b.0.0 b.0.1 c.0 k.0 in
-    let v = volume_takes a.0 b.0 b.1 in
-    let n = name_takes a.0.terminal c.0 c.1 in
-    let t = all_keys_take a.0.rest k.0 k.1 in
-    let good : IsDeck made = record { volume = v.5; terminals = (record { name = n.1; keys = t.1 }, tt); one_account = ap length v.1; one_terminal = refl } in
-    let read : lines ≡ parts b.0.0 v.0 c.0 k.0 = head_takes lines a.0 a.1 ∙ (λ i. v.2 i ∷ v.3 i ∷ v.4 i ∷ n.0 i ∷ t.0 i) in
-    subst (λ (x : Deck). IsDeck x × (lines ≡ deck_lines x)) (some_is made d k.2) (good, read ∙ parts_are_lines b.0.0 v.0 b.0.1 c.0 k.0 v.1)
+pub refused_told : (bytes : List ℕ) (line : ℕ) (why : DeckCause) → Refused bytes line why → verdict bytes ≡ Refuses line why
+refused_told bytes line why r =
+    verdict_behind bytes r.front r.rest r.is_front r.lines_are
+    ∙ stops_told r.front (length (front_lines r.front) + 1) r.rest (cut_line bytes) why r.stops
+    ∙ ap (λ (n : ℕ). Refuses n why) (sym r.line_is)
 
-parts_again : (blocks : ℕ) (entry : AccountEntry) (t : Terminal) → is_good_volume blocks (entry ∷ []) ≡ true → IsTerminal t → deck_in (parts blocks entry t.name t.keys) ≡ Some (deck_with blocks (entry ∷ []) t.name t.keys)
-unfolding deck_in volume_in head_in parts
-parts_again blocks entry t good terminal =
-    let sizes = and_left (is_between 1 16384 blocks && nat_le (length (entry ∷ [])) 512 && list_all is_good_entry (entry ∷ [])) (are_apart (entry ∷ [])) good in
-    let fits : blocks ≤ 16384 = leb-true _ _ (and_right (nat_le 1 blocks) (nat_le blocks 16384) (and_left (is_between 1 16384 blocks) (nat_le (length (entry ∷ [])) 512) (and_left (is_between 1 16384 blocks && nat_le (length (entry ∷ [])) 512) (list_all is_good_entry (entry ∷ [])) sizes))) in
-    let each : is_good_entry entry ≡ true = and_left (is_good_entry entry) true (and_right (is_between 1 16384 blocks && nat_le (length (entry ∷ [])) 512) (list_all is_good_entry (entry ∷ [])) sizes) in
-    rw (blocks_again blocks (omega arith), account_again entry each, entry_again entry each, good, name_again t.name terminal.name, all_keys_again t.keys terminal.keys) refl
+-- ---- what is told is so
 
-again_of : (blocks : ℕ) (accounts : List AccountEntry) (terminals : List Terminal) → length accounts ≡ 1 → length terminals ≡ 1 → is_good_volume blocks accounts ≡ true → AllByRecursion IsTerminal terminals
-    → deck_in (deck_lines (record { blocks = blocks; accounts = accounts; terminals = terminals })) ≡ Some (record { blocks = blocks; accounts = accounts; terminals = terminals })
-again_of blocks [] terminals a b good each = absurd (omega arith)
-again_of blocks (entry ∷ []) [] a b good each = absurd (omega arith)
-again_of blocks (entry ∷ []) (t ∷ []) a b good each =
-    ap deck_in (sym (parts_are_lines blocks entry (entry ∷ []) t.name t.keys refl)) ∙ parts_again blocks entry t good each.0
-again_of blocks (entry ∷ []) (t ∷ u ∷ terminals) a b good each = absurd (omega arith)
-again_of blocks (entry ∷ other ∷ accounts) terminals a b good each = absurd (omega arith)
+record Stopped (all : List (List ℕ)) (cut : List ℕ) (line : ℕ) (why : DeckCause) : Type 0 where
+  front : Front
+  rest : List (List ℕ)
+  is_front : IsFront front
+  lines_are : all ≡ front_lines front ++ rest
+  line_is : line ≡ length (front_lines front) + 1
+  stops : StopsAt front rest cut why
 
-pub deck_again : (d : Deck) → IsDeck d → deck_in (deck_lines d) ≡ Some d
-deck_again d good = again_of d.blocks d.accounts d.terminals good.one_account good.one_terminal good.volume good.terminals
+abbrev IsSo : List (List ℕ) → List ℕ → Verdict → Type 0
+IsSo all cut (Spells deck) = IsDeck deck × (all ≡ deck_lines deck) × (cut ≡ [])
+IsSo all cut (Refuses line why) = Stopped all cut line why
 
--- ---- from the bytes
+module _ (all : List (List ℕ)) where
+  end_so : (front : Front) (number : ℕ) (cut : List ℕ) → IsFront front → number ≡ length (front_lines front) + 1 → all ≡ front_lines front ++ [] → IsSo all cut (at_end front number cut)
+  end_so (Whole deck) number [] is place lines = (is, lines ∙ append-nil (deck_lines deck), refl)
+  end_so (Whole deck) number (b ∷ cut) is place lines = record { front = Whole deck; rest = []; is_front = is; lines_are = lines; line_is = place; stops = (omega arith, refl) }
+  end_so Nothing number cut is place lines = record { front = Nothing; rest = []; is_front = is; lines_are = lines; line_is = place; stops = refl }
+  end_so Versioned number cut is place lines = record { front = Versioned; rest = []; is_front = is; lines_are = lines; line_is = place; stops = refl }
+  end_so (InAccounts deck) number cut is place lines = record { front = InAccounts deck; rest = []; is_front = is; lines_are = lines; line_is = place; stops = refl }
+  end_so (InTerminal deck terminal) number cut is place lines = record { front = InTerminal deck terminal; rest = []; is_front = is; lines_are = lines; line_is = place; stops = refl }
 
-pub bytes_take : (bytes : List ℕ) (d : Deck) → deck_at bytes ≡ Some d → Spelled bytes d
-unfolding deck_at
-bytes_take bytes d e =
-    let g = test_some (eqb (get_or bytes (length bytes - 1) 0) 10) (deck_in (lines bytes)) d e in
-    let read = deck_takes (lines bytes) d g.1 in
-    record { is_deck = read.0; lines_are = read.1; ends = eqb-true _ _ g.0 }
+  -- the front behind a line that is taken, and what the lines are then
+  next_follows : (front next : Front) (line : List ℕ) → IsFront front → Takes front line next → Follows next front line
+  next_follows front next line is takes =
+      let f = adds_front front takes.form is takes.has.may takes.none in
+      subst (λ (n : Front). Follows n front line) takes.next_is (record { is_front = f.is_front; lines_are = f.lines_are ∙ ap (λ (l : List ℕ). front_lines front ++ l ∷ []) (sym takes.has.line_is) })
 
-pub bytes_again : (bytes : List ℕ) (d : Deck) → Spelled bytes d → deck_at bytes ≡ Some d
-unfolding deck_at
-bytes_again bytes d s =
-    ap (λ (b : Bool). cond b (deck_in (lines bytes)) None) (eq-eqb _ _ s.ends) ∙ ap deck_in s.lines_are ∙ deck_again d s.is_deck
+  reading_so : (front : Front) (number : ℕ) (lines : List (List ℕ)) (cut : List ℕ) → IsFront front → number ≡ length (front_lines front) + 1 → all ≡ front_lines front ++ lines → IsSo all cut (reading front number lines cut)
+  unfolding reading
+  reading_so front number [] cut is place so = end_so front number cut is place so
+  reading_so front number (line ∷ lines) cut is place so = go (behind_line front line) refl (λ next e. let f = next_follows front next line is (line_takes front line next e) in reading_so next (number + 1) lines cut f.is_front (omega (arith, place, ap length f.lines_are, length-append (front_lines front) (line ∷ []))) (so ∙ sym (append_assoc (front_lines front) (line ∷ []) lines) ∙ ap (λ (ls : List (List ℕ)). ls ++ lines) (sym f.lines_are)))
+    where
+      go : (r : Result Front DeckCause) → behind_line front line ≡ r → ((next : Front) → behind_line front line ≡ Ok next → IsSo all cut (reading next (number + 1) lines cut)) → IsSo all cut (onwards r number (λ next. reading next (number + 1) lines cut))
+      go (Ok next) e onward = onward next e
+      go (Err why) e onward = record { front = front; rest = line ∷ lines; is_front = is; lines_are = so; line_is = place; stops = line_refuses front line why e }
+
+verdict_so : (bytes : List ℕ) (v : Verdict) → verdict bytes ≡ v → IsSo (whole_lines bytes) (cut_line bytes) v
+unfolding verdict
+verdict_so bytes v e = subst (IsSo (whole_lines bytes) (cut_line bytes)) e (reading_so (whole_lines bytes) Nothing 1 (whole_lines bytes) (cut_line bytes) tt (omega arith) refl)
+
+pub told_spelled : (bytes : List ℕ) (deck : Deck) → verdict bytes ≡ Spells deck → Spelled bytes deck
+told_spelled bytes deck e =
+    let so = verdict_so bytes (Spells deck) e in
+    record { is_deck = so.0; lines_are = so.1; ends = so.2 }
+
+pub told_refused : (bytes : List ℕ) (line : ℕ) (why : DeckCause) → verdict bytes ≡ Refuses line why → Refused bytes line why
+told_refused bytes line why e =
+    let so = verdict_so bytes (Refuses line why) e in
+    record { front = so.front; rest = so.rest; is_front = so.is_front; lines_are = so.lines_are; line_is = so.line_is; stops = so.stops }

@@ -1,6 +1,6 @@
 -- A deck: the disk's blocks, the accounts, and the terminals with their keys.
-use Rattle.std.specs.Prelude.{◌≡◌, ℕ, ◌≤◌, true, List, length}
-use Rattle.std.specs.List.{AllByRecursion}
+use Rattle.std.specs.Prelude.{◌≡◌, ℕ, ◌≤◌, ◌&&◌, Bool, true, not, List, [], ◌∷◌, length, bytes_eq}
+use Rattle.std.specs.List.{AllByRecursion, list_any}
 use Rattle.basic_values.specs.declared.lists.TheConstants.{LINE_LENGTH}
 use Rattle.monitor_calls.specs.declared.volumes.AccountEntry.{AccountEntry}
 use Rattle.monitor_calls.specs.Names.{is_terminal_name}
@@ -24,10 +24,23 @@ pub record IsTerminal (terminal : Terminal) : Type 0 where
   pub name : is_terminal_name terminal.name ≡ true
   pub keys : AllByRecursion IsKeyLine terminal.keys
 
--- a deck that can be run: its volume is good and its terminals are in their ranges; there is one
--- account and one terminal
+-- whether a terminal has this name
+abbrev pub has_terminal : List Terminal → List ℕ → Bool
+has_terminal terminals name = list_any (λ terminal. bytes_eq terminal.name name) terminals
+
+-- their names differ
+abbrev pub are_named_apart : List Terminal → Bool
+are_named_apart [] = true
+are_named_apart (terminal ∷ terminals) =
+    not (has_terminal terminals terminal.name) && are_named_apart terminals
+
+-- terminals in their ranges, at most 63, whose names differ
+pub record AreTerminals (terminals : List Terminal) : Type 0 where
+  pub each : AllByRecursion IsTerminal terminals
+  pub apart : are_named_apart terminals ≡ true
+  pub few : length terminals ≤ 63
+
+-- a deck that can be run: its volume is good, and so are its terminals
 pub record IsDeck (deck : Deck) : Type 0 where
-  pub volume : is_good_volume deck.blocks deck.accounts ≡ true
-  pub terminals : AllByRecursion IsTerminal deck.terminals
-  pub one_account : length deck.accounts ≡ 1
-  pub one_terminal : length deck.terminals ≡ 1
+  pub volume : is_good_volume deck.blocks deck.accounts [] ≡ true
+  pub terminals : AreTerminals deck.terminals

@@ -1,9 +1,23 @@
 -- Laws over the definitions.
 use Rattle.std.specs.Prelude.{◌≡◌, ℕ, List}
+use Rattle.deck_model.specs.declared.faults.DeckCause.{DeckCause}
 use Rattle.deck_model.specs.Deck.{Deck}
 use Rattle.deck_model.specs.Spelling.{Spelled}
+use Rattle.deck_model.specs.Refusals.{Refused}
 
 -- bytes spell one deck at the most
 abbrev pub OneDeck : Type 0
 OneDeck =
     (bytes : List ℕ) (deck other : Deck) → Spelled bytes deck → Spelled bytes other → deck ≡ other
+
+-- bytes are refused at one line at the most, and for one cause
+abbrev pub OneRefusal : Type 0
+OneRefusal =
+    (bytes : List ℕ) (line other : ℕ) (why otherwise : DeckCause) → Refused bytes line why
+    → Refused bytes other otherwise → (line ≡ other) × (why ≡ otherwise)
+
+-- bytes that spell a deck are not refused
+abbrev pub NeverBoth : Type 0
+NeverBoth =
+    (bytes : List ℕ) (deck : Deck) (line : ℕ) (why : DeckCause) → Spelled bytes deck
+    → Refused bytes line why → ⊥

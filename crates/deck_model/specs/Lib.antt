@@ -1,6 +1,11 @@
 pub mod Deck
+pub mod Forms
+pub mod Fronts
+pub mod Histories
 pub mod Laws
+pub mod Lines
 pub mod Reading
+pub mod Refusals
 pub mod Report
 pub mod Spelling
 pub mod Words

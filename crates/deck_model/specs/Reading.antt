@@ -1,39 +1,32 @@
--- Reading the lines of a deck in their order.
-use Rattle.std.specs.Prelude.{ℕ, ◌&&◌, nat_le, nat_lt, ◌-◌, ◌==◌, if◌then◌else◌, List, [], ◌∷◌, length, take, drop, Option, Some, None, option_and_then, bytes_eq, codes, slice_index}
-use Rattle.std.specs.List.{position_or_len, before_first, after_first}
-use Rattle.std.specs.Str.Lines.{lines}
-use Rattle.basic_values.specs.Decimals.{number_between}
-use Rattle.basic_values.specs.declared.lists.TheConstants.{LINE_LENGTH}
-use Rattle.monitor_calls.specs.declared.volumes.AccountEntry.{AccountEntry}
-use Rattle.monitor_calls.specs.Names.{is_short_text, is_terminal_name}
-use Rattle.monitor_calls.specs.Volumes.{is_good_volume}
+-- Reading the lines of a deck in their order. No promise of the program speaks of it.
+use Rattle.std.specs.Prelude.{ℕ, ◌+◌, ◌&&◌, if◌then◌else◌, List, [], ◌∷◌, Option, Some, None, Result, Ok, Err, bytes_eq, codes}
+use Rattle.text_cuts.specs.Cuts.{◌>>=◌, behind, cut}
+use Rattle.deck_model.specs.declared.faults.DeckCause.{DeckCause}
+use Rattle.deck_model.specs.declared.faults.DeckCause.TheVariants as cause
 use Rattle.deck_model.specs.Deck.{Deck}
+use Rattle.deck_model.specs.Lines.{whole_lines, cut_line}
+use Rattle.deck_model.specs.Forms.{Form, Version, Disk, Account, File, Terminal, Keys, End, AccountTexts, is_numeral, is_name}
+use Rattle.deck_model.specs.Fronts.{Front, Nothing, Versioned, InAccounts, InTerminal, Whole, adds}
+use Rattle.deck_model.specs.Refusals.{causes, first_cause, shape_cause}
 
-infixl 10 ◌>>=◌
-abbrev pub ◌>>=◌ : {A B : Type 0} → Option A → (A → Option B) → Option B
-o >>= f = option_and_then f o
+-- the first of two that is there
+abbrev pub or_else : {A : Type 0} → Option A → Option A → Option A
+or_else None other = other
+or_else (Some a) other = Some a
 
--- what stands behind a text that is looked for in front
-abbrev pub behind : List ℕ → List ℕ → Option (List ℕ)
-behind prefix text =
-    if bytes_eq (take (length prefix) text) prefix then Some (drop (length prefix) text) else None
+-- FORMS
 
--- what stands before the first such byte, and what stands behind it
-abbrev pub cut : ℕ → List ℕ → Option (List ℕ × List ℕ)
-cut byte text =
-    if nat_lt (position_or_len (λ b. b == byte) text) (length text)
-    then Some (before_first (λ b. b == byte) text, after_first (λ b. b == byte) text)
-    else None
+unfoldable pub version_in : List ℕ → Option Form
+version_in line = if bytes_eq line (codes "RSTS-DECK 1") then Some Version else None
 
--- the texts of an account's fields
-pub record Fields : Type 0 where
-  pub project : List ℕ
-  pub programmer : List ℕ
-  pub password : List ℕ
-  pub limit : List ℕ
+unfoldable pub disk_in : List ℕ → Option Form
+disk_in line = do
+  blocks ← behind (codes "DISK ") line
+  if is_numeral blocks then Some (Disk blocks) else None
 
-unfoldable pub fields_in : List ℕ → Option Fields
-fields_in line = do
+-- the texts of the fields of an account
+unfoldable pub texts_in : List ℕ → Option AccountTexts
+texts_in line = do
   fields ← behind (codes "ACCOUNT ") line
   project ← cut 44 fields
   programmer ← cut 32 project.1
@@ -45,95 +38,86 @@ fields_in line = do
     limit = password.1;
   })
 
--- the account that such texts spell
-unfoldable pub entry_in : Fields → Option AccountEntry
-entry_in fields = do
-  project ← number_between 0 255 fields.project
-  programmer ← number_between 0 255 fields.programmer
-  limit ← number_between 0 65535 fields.limit
-  if is_short_text fields.password
-      then Some (record {
-        account = record { project = project; programmer = programmer };
-        password = fields.password;
-        limit = limit;
-      })
-      else None
+unfoldable pub account_in : List ℕ → Option Form
+account_in line = do
+  texts ← texts_in line
+  if is_numeral texts.project && is_numeral texts.programmer && is_name texts.password
+      && is_numeral texts.limit
+      then Some (Account texts) else None
 
--- the blocks of a disk
-unfoldable pub blocks_in : List ℕ → Option ℕ
-blocks_in line = do
-  blocks ← behind (codes "DISK ") line
-  number_between 0 65535 blocks
+unfoldable pub file_in : List ℕ → Option Form
+file_in line = do
+  rest ← behind (codes "FILE ") line
+  Some (File rest)
 
--- the name of a terminal
-unfoldable pub name_in : List ℕ → Option (List ℕ)
-name_in line = do
+unfoldable pub terminal_in : List ℕ → Option Form
+terminal_in line = do
   name ← behind (codes "TERMINAL ") line
-  if is_terminal_name name then Some name else None
+  if is_name name then Some (Terminal name) else None
 
--- the keys of a key line
-abbrev pub keys_in : List ℕ → Option (List ℕ)
+unfoldable pub keys_in : List ℕ → Option Form
 keys_in line = do
-  keys ← behind (62 ∷ []) line
-  if nat_le (length keys) LINE_LENGTH then Some keys else None
+  keys ← behind (codes ">") line
+  Some (Keys keys)
 
--- the keys of the lines up to END, which is the last
-unfoldable pub all_keys_in : List (List ℕ) → Option (List (List ℕ))
-all_keys_in [] = None
-all_keys_in (line ∷ lines) =
-    if bytes_eq line (codes "END")
-    then (if length lines == 0 then Some [] else None)
-    else (keys_in line >>= λ keys. all_keys_in lines >>= λ others. Some (keys ∷ others))
+unfoldable pub end_in : List ℕ → Option Form
+end_in line = if bytes_eq line (codes "END") then Some End else None
 
--- the first line, and those behind it
-abbrev pub first_line : List (List ℕ) → Option (List ℕ × List (List ℕ))
-first_line [] = None
-first_line (line ∷ lines) = Some (line, lines)
+-- a form among those of accounts
+unfoldable pub groups_in : List ℕ → Option Form
+groups_in line =
+    or_else (account_in line) (or_else (file_in line) (or_else (terminal_in line) (end_in line)))
 
--- the lines in front of the keys, and those from there on
-pub record Head : Type 0 where
-  pub version : List ℕ
-  pub disk : List ℕ
-  pub account : List ℕ
-  pub terminal : List ℕ
-  pub rest : List (List ℕ)
+-- a form behind a terminal
+unfoldable pub session_in : List ℕ → Option Form
+session_in line = or_else (keys_in line) (or_else (terminal_in line) (end_in line))
 
-unfoldable pub head_in : List (List ℕ) → Option Head
-head_in lines = do
-  version ← first_line lines
-  disk ← first_line version.1
-  account ← first_line disk.1
-  terminal ← first_line account.1
-  Some (record {
-    version = version.0;
-    disk = disk.0;
-    account = account.0;
-    terminal = terminal.0;
-    rest = terminal.1;
-  })
+-- the form that a line has behind a front
+unfoldable pub form_at : Front → List ℕ → Option Form
+form_at Nothing line = version_in line
+form_at Versioned line = disk_in line
+form_at (InAccounts deck) line = groups_in line
+form_at (InTerminal deck terminal) line = session_in line
+form_at (Whole deck) line = None
 
--- the blocks and the accounts
-unfoldable pub volume_in : Head → Option (ℕ × List AccountEntry)
-volume_in head = do
-  blocks ← blocks_in head.disk
-  fields ← fields_in head.account
-  entry ← entry_in fields
-  if bytes_eq head.version (codes "RSTS-DECK 1") && is_good_volume blocks (entry ∷ [])
-      then Some (blocks, entry ∷ []) else None
+-- FRONTS
 
-unfoldable pub deck_in : List (List ℕ) → Option Deck
-deck_in lines = do
-  head ← head_in lines
-  volume ← volume_in head
-  name ← name_in head.terminal
-  keys ← all_keys_in head.rest
-  Some (record {
-    blocks = volume.0;
-    accounts = volume.1;
-    terminals = record { name = name; keys = keys } ∷ [];
-  })
+-- the front behind a line of a form, unless a cause applies
+abbrev pub unless_refused : Front → Option DeckCause → Result Front DeckCause
+unless_refused front None = Ok front
+unless_refused front (Some why) = Err why
 
--- the deck that bytes spell, if they end in a LF
-unfoldable pub deck_at : List ℕ → Option Deck
-deck_at bytes =
-    if slice_index bytes (length bytes - 1) == 10 then deck_in (lines bytes) else None
+unfoldable pub behind_form : Front → Option Form → Result Front DeckCause
+behind_form front None = Err (shape_cause front)
+behind_form front (Some form) = unless_refused (adds front form) (first_cause (causes front form))
+
+-- the front behind one line
+unfoldable pub behind_line : Front → List ℕ → Result Front DeckCause
+behind_line front line = behind_form front (form_at front line)
+
+-- VERDICTS
+
+-- bytes spell a deck, or are refused at a line, from 1, for a cause
+pub data Verdict : Type 0 where
+  Spells : Deck → Verdict
+  Refuses : ℕ → DeckCause → Verdict
+
+-- where the lines have ended
+abbrev pub at_end : Front → ℕ → List ℕ → Verdict
+at_end (Whole deck) line [] = Spells deck
+at_end front line cut = Refuses line cause.Cut
+
+-- on to the front behind a line, unless the line is refused
+abbrev pub onwards : Result Front DeckCause → ℕ → (Front → Verdict) → Verdict
+onwards (Ok front) number next = next front
+onwards (Err why) number next = Refuses number why
+
+-- what is told of a front, the number of its next line, the lines from there, and a line that is cut
+unfoldable pub reading : Front → ℕ → List (List ℕ) → List ℕ → Verdict
+reading front number [] cut = at_end front number cut
+reading front number (line ∷ lines) cut =
+    onwards (behind_line front line) number (λ next. reading next (number + 1) lines cut)
+
+-- what is told of bytes
+unfoldable pub verdict : List ℕ → Verdict
+verdict bytes = reading Nothing 1 (whole_lines bytes) (cut_line bytes)

@@ -1,8 +1,10 @@
 //! Laws over the definitions. They compute nothing.
 
-ghost use Rattle.deck_model.specs.Laws.{OneDeck};
+ghost use Rattle.deck_model.specs.Laws.{OneDeck, OneRefusal, NeverBoth};
 
-/// The same bytes spell one deck.
-pub fn one_deck()
-    ensures { OneDeck }
+/// The same bytes spell one deck, or are refused at one line for one cause, and never both.
+pub fn one_verdict()
+    ensures one_deck { OneDeck }
+    ensures one_refusal { OneRefusal }
+    ensures never_both { NeverBoth }
 {}

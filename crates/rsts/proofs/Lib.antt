@@ -1,4 +1,3 @@
-mod KeyLemmas
-mod LineLemmas
+mod RunLemmas
 mod StreamLemmas
 mod SystemLemmas

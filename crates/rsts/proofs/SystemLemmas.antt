@@ -1,19 +1,27 @@
 -- What was read, and what a run leaves for its report.
-use Rattle.std.proofs.Common.{◌≡◌, ℕ, suc, true, false, List, ◌∷◌, [], length, map, Option, Some, None, Ok, Err, inl, inr, ⊎_elim, refl, sym, ap, ◌∙◌}
-use Rattle.std.specs.Prelude.{Result, IsOk}
+use Rattle.std.proofs.Common.{◌≡◌, ℕ, true, false, List, ◌∷◌, [], map, Option, Some, None, Ok, Err, inl, inr, ⊎_elim, refl, sym, ap, ◌∙◌}
+use Rattle.std.specs.Prelude.{Bool, Result, IsOk}
 use Rattle.monitor_calls.specs.declared.calls.Entry.{Entry}
+use Rattle.deck_model.specs.declared.faults.DeckCause.{DeckCause}
+use Rattle.deck_model.specs.declared.faults.DeckFault.{DeckFault}
 use Rattle.deck_model.specs.Deck as model
-use Rattle.rsts.specs.declared.decks.Deck.{Deck}
-use Rattle.rsts.specs.declared.decks.Terminal.{Terminal}
+use Rattle.deck_model.specs.Spelling.{Spelled}
+use Rattle.deck_model.specs.Refusals.{Refused}
+use Rattle.deck_model.specs.Reading.{Spells, Refuses}
+use Rattle.deck_model.proofs.ReadingLaws.{spelled_told, refused_told}
+use Rattle.deck_reader.specs.declared.decks.Deck.{Deck}
+use Rattle.deck_reader.specs.declared.decks.Terminal.{Terminal}
 use Rattle.rsts.specs.declared.outcomes.Outcome.{Outcome}
 use Rattle.rsts.specs.declared.outcomes.Outcome.TheVariants as outcome
 use Rattle.rsts.specs.declared.systems.Stopped.{Stopped}
 use Rattle.rsts.specs.declared.systems.Stopped.TheVariants as stopped
-use Rattle.rsts.specs.Decks.{terminal_of, names_of}
-use Rattle.rsts.specs.Headline.{Ends, NothingGiven, SourceFailed, InputTooLong, Refused, SinkFailed, WantedMemory, Answers, IsReport, HasRan}
+use Rattle.deck_reader.specs.Seen.{terminal_of, deck_of}
+use Rattle.report_texts.specs.Names.{names_of}
+use Rattle.rsts.specs.Headline as headline
+use Rattle.rsts.specs.Headline.{Ends, NothingGiven, SourceFailed, InputTooLong, SinkFailed, WantedMemory, Answers, IsReport, HasRan, IsGoodLine, HasChecked, FoundDeck, SpellsNone}
 use Rattle.rsts.specs.Outcomes.{IfRan, OnChecked, OnUsage, OnReadFault, OnTooLong, IfDeck, OnWriteFault, OnNoMemory}
 use Rattle.rsts.specs.Readings.{outcome_of, WhyStopped, MustStop, MustFind, MustRefuse}
-use Rattle.rsts.specs.Streams.{AreAll}
+use Rattle.rsts.specs.Streams.{AreAll, IsOverLimit, BrokeOff}
 
 -- what a source tells that it has left is what was read of it to its end
 pub read_is : (bytes read : List ℕ) (left left' : Option (List ℕ)) → AreAll bytes left left' → left ≡ Some read → read ≡ bytes
@@ -22,9 +30,23 @@ read_is bytes read (Some left) left' all told =
     let same : left ≡ read = (cc) in
     sym same ∙ all.0
 
-pub as_many : (terminals : List Terminal) → length (map terminal_of terminals) ≡ length terminals
-as_many [] = refl
-as_many (terminal ∷ terminals) = ap suc (as_many terminals)
+-- bytes that spell a deck are not refused, and bytes that are refused are for one cause at one line
+pub never_both : (bytes : List ℕ) (deck : model.Deck) (fault : DeckFault) → Spelled bytes deck → Refused bytes fault.line fault.cause → ⊥
+never_both bytes deck fault s r = not_both deck fault.line fault.cause (sym (spelled_told bytes deck s) ∙ refused_told bytes fault.line fault.cause r)
+  where
+    not_both : (d : model.Deck) (l : ℕ) (why : DeckCause) → Spells d ≡ Refuses l why → ⊥
+    not_both d l why e = cc
+
+pub same_fault : (bytes : List ℕ) (fault other : DeckFault) → Refused bytes fault.line fault.cause → Refused bytes other.line other.cause → fault ≡ other
+same_fault bytes fault other r q =
+    let e = sym (refused_told bytes fault.line fault.cause r) ∙ refused_told bytes other.line other.cause q in
+    λ i. record { line = line_is fault.line other.line fault.cause other.cause e i; cause = why_is fault.line other.line fault.cause other.cause e i }
+  where
+    line_is : (l m : ℕ) (x y : DeckCause) → Refuses l x ≡ Refuses m y → l ≡ m
+    line_is l m x y e = cc
+
+    why_is : (l m : ℕ) (x y : DeckCause) → Refuses l x ≡ Refuses m y → x ≡ y
+    why_is l m x y e = cc
 
 pub names_are : (terminals : List Terminal) → names_of terminals ≡ map (λ (terminal : model.Terminal). terminal.name) (map terminal_of terminals)
 names_are [] = refl
@@ -61,11 +83,11 @@ stopped_answers IsOutput Succeeds why before after cause given stop find refuse 
   not_usage = elim why as (λ (w : Stopped). OnUsage (outcome_of w) ⊥) [ stopped.ReadFault ↦ tt | stopped.TooLong ↦ tt | stopped.Deck fault ↦ tt | stopped.NoMemory ↦ tt ];
   read_fault = elim why as (λ (w : Stopped). WhyStopped w before.source after.source → OnReadFault (outcome_of w) (SourceFailed before after)) [ stopped.ReadFault ↦ λ c. record { fault = c; given = given } | stopped.TooLong ↦ λ c. tt | stopped.Deck fault ↦ λ c. tt | stopped.NoMemory ↦ λ c. tt ] cause;
   too_long = elim why as (λ (w : Stopped). WhyStopped w before.source after.source → OnTooLong (outcome_of w) (InputTooLong before after)) [ stopped.ReadFault ↦ λ c. tt | stopped.TooLong ↦ λ c. record { taken = c; given = given } | stopped.Deck fault ↦ λ c. tt | stopped.NoMemory ↦ λ c. tt ] cause;
-  deck = elim why as (λ (w : Stopped). WhyStopped w before.source after.source → IfDeck (outcome_of w) (Refused before after)) [ stopped.ReadFault ↦ λ c. tt | stopped.TooLong ↦ λ c. tt | stopped.Deck fault ↦ λ c. record { found = c; given = given } | stopped.NoMemory ↦ λ c. tt ] cause;
+  deck = elim why as (λ (w : Stopped). WhyStopped w before.source after.source → IfDeck (outcome_of w) (headline.Refused before after)) [ stopped.ReadFault ↦ λ c. tt | stopped.TooLong ↦ λ c. tt | stopped.Deck fault ↦ λ c. record { found = c; given = given } | stopped.NoMemory ↦ λ c. tt ] cause;
   write_fault = elim why as (λ (w : Stopped). OnWriteFault (outcome_of w) (SinkFailed IsOutput before after)) [ stopped.ReadFault ↦ tt | stopped.TooLong ↦ tt | stopped.Deck fault ↦ tt | stopped.NoMemory ↦ tt ];
   no_memory = elim why as (λ (w : Stopped). WhyStopped w before.source after.source → OnNoMemory (outcome_of w) (WantedMemory before after)) [ stopped.ReadFault ↦ λ c. tt | stopped.TooLong ↦ λ c. tt | stopped.Deck fault ↦ λ c. tt | stopped.NoMemory ↦ λ c. record { no_fault = c; given = given } ] cause;
   must_be_too_long = λ over. outcome_is why stopped.TooLong (stop over);
-  must_refuse = λ none. ⊎_elim (λ refused. inl (refused.0, outcome_is why (stopped.Deck refused.0) refused.1)) (λ e. inr (outcome_is why stopped.NoMemory e)) (refuse none);
+  must_refuse = λ fault none. ⊎_elim (λ refused. inl (outcome_is why (stopped.Deck fault) refused)) (λ e. inr (outcome_is why stopped.NoMemory e)) (refuse fault none);
   completes = λ fair. ⊎_elim (λ ok. absurd (not_ok why ok)) (λ e. inr (outcome_is why stopped.NoMemory e)) (find fair.source);
 }
 
@@ -76,17 +98,52 @@ stopped_neither stopped.TooLong P Q = (tt, tt)
 stopped_neither (stopped.Deck fault) P Q = (tt, tt)
 stopped_neither stopped.NoMemory P Q = (tt, tt)
 
--- where a deck was found and run
-pub ran_answers : (deck : Deck) (history : List Entry) (before after : Ends) → MustStop (Ok deck) before.source after.source → MustRefuse (Ok deck) before.source after.source → Answers IsReport HasRan before after (outcome.Ok history)
-unfolding some_deck no_deck
-ran_answers deck history before after stop refuse = record {
-  not_usage = tt;
-  read_fault = tt;
-  too_long = tt;
-  deck = tt;
-  write_fault = tt;
-  no_memory = tt;
-  must_be_too_long = λ over. absurd (is_found deck stopped.TooLong (stop over));
-  must_refuse = λ none. absurd (⊎_elim (λ refused. is_found deck (stopped.Deck refused.0) refused.1) (is_found deck stopped.NoMemory) (refuse none));
-  completes = λ fair. inl (history, refl);
-}
+-- where a deck was found, and all was written of it
+module _ (deck : Deck) (before after : Ends) (stop : MustStop (Ok deck) before.source after.source) (refuse : MustRefuse (Ok deck) before.source after.source) where
+  not_too_long : IsOverLimit before.source after.source → ⊥
+  unfolding some_deck no_deck
+  not_too_long over = is_found deck stopped.TooLong (stop over)
+
+  not_refused : (fault : DeckFault) → SpellsNone fault before.source after.source → ⊥
+  unfolding some_deck no_deck
+  not_refused fault none = ⊎_elim (is_found deck (stopped.Deck fault)) (is_found deck stopped.NoMemory) (refuse fault none)
+
+  pub ran_answers : (wanted : Bool) (history : List Entry) → Answers (IsReport wanted) HasRan before after (outcome.Ok history)
+  ran_answers wanted history = record {
+    not_usage = tt;
+    read_fault = tt;
+    too_long = tt;
+    deck = tt;
+    write_fault = tt;
+    no_memory = tt;
+    must_be_too_long = λ over. absurd (not_too_long over);
+    must_refuse = λ fault none. absurd (not_refused fault none);
+    completes = λ fair. inl (history, refl);
+  }
+
+  pub checked_answers : Answers IsGoodLine HasChecked before after outcome.Checked
+  checked_answers = record {
+    not_usage = tt;
+    read_fault = tt;
+    too_long = tt;
+    deck = tt;
+    write_fault = tt;
+    no_memory = tt;
+    must_be_too_long = λ over. absurd (not_too_long over);
+    must_refuse = λ fault none. absurd (not_refused fault none);
+    completes = λ fair. inl refl;
+  }
+
+  -- the sink failed
+  pub broke_answers : (IsOutput : model.Deck → List ℕ → Type 0) (Succeeds : Outcome → Type 0) (output : List ℕ) → FoundDeck (deck_of deck) before.source after.source → IsOutput (deck_of deck) output → BrokeOff output before.sink after.sink → Answers IsOutput Succeeds before after outcome.WriteFault
+  broke_answers IsOutput Succeeds output found is broke = record {
+    not_usage = tt;
+    read_fault = tt;
+    too_long = tt;
+    deck = tt;
+    write_fault = record { deck = deck_of deck; found = found; output = output; is_output = is; broke_off = broke };
+    no_memory = tt;
+    must_be_too_long = λ over. absurd (not_too_long over);
+    must_refuse = λ fault none. absurd (not_refused fault none);
+    completes = λ fair. absurd (fair.sink broke.fault);
+  }

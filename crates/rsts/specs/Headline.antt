@@ -1,19 +1,20 @@
 -- What the program does. Whoever trusts this file, and the definitions that it names, knows it.
 -- `Does`, at the end, is the one clause of the program's call; what stands before it are its words.
-use Rattle.std.specs.Prelude.{◌≡◌, ℕ, ◌≤◌, List, length, map, slice_get, Some, ◌⊎◌}
+use Rattle.std.specs.Prelude.{◌≡◌, ℕ, ◌≤◌, Bool, if◌then◌else◌, List, [], ◌++◌, length, map, slice_get, Some, ◌⊎◌}
 use Rattle.monitor_calls.specs.declared.calls.Entry.{Entry}
-use Rattle.monitor_calls.specs.Pairs.{requests, replies}
+use Rattle.monitor_calls.specs.Pairs.{Pair, requests, replies}
 use Rattle.monitor_calls.specs.Proper.{Proper}
 use Rattle.monitor_model.specs.State as monitor
 use Rattle.monitor_model.specs.History.{Legal, part_of}
 use Rattle.job_model.specs.Talk.{IsTalk}
 use Rattle.deck_model.specs.Deck.{Deck, Terminal}
 use Rattle.deck_model.specs.Spelling.{Spelled}
+use Rattle.deck_model.specs.Refusals as refusals
 use Rattle.deck_model.specs.Report.{report, good_line}
+use Rattle.deck_model.specs.Histories.{history_text}
 use Rattle.deck_model.specs.Words.{Asked, Run, Check, Nothing}
 use Rattle.rsts_io.specs.Ends.{SourceState, SinkState, Rose}
-use Rattle.rsts.specs.declared.decks.DeckFault.{DeckFault}
-use Rattle.rsts.specs.declared.decks.DeckCause.TheVariants.{Stage}
+use Rattle.deck_model.specs.declared.faults.DeckFault.{DeckFault}
 use Rattle.rsts.specs.declared.outcomes.Outcome.{Outcome}
 use Rattle.rsts.specs.declared.outcomes.Outcome.TheVariants as outcome
 use Rattle.rsts.specs.declared.streams.TheConstants.{INPUT_LIMIT}
@@ -33,10 +34,14 @@ ends source sink = record { source = source; sink = sink }
 
 -- A RUN OF A DECK
 
+-- the talk of these keys, given the replies of the pairs, makes their requests and ends with the
+-- screen
+unfoldable pub Talks : List (List ℕ) → List Pair → List ℕ → Type 0
+Talks keys pairs screen = IsTalk keys (replies pairs) (requests pairs) screen
+
 -- a job's part of the history is what the terminal's talk makes, and the screen is what it shows
-unfoldable pub HasTalked : List Entry → ℕ → Terminal → List ℕ → Type 0
-HasTalked history job terminal screen =
-    IsTalk terminal.keys (replies (part_of job history)) (requests (part_of job history)) screen
+abbrev pub HasTalked : List Entry → ℕ → Terminal → List ℕ → Type 0
+HasTalked history job terminal screen = Talks terminal.keys (part_of job history) screen
 
 -- there are as many screens as terminals, and at each place the terminal has talked so, as the job
 -- of that number
@@ -49,22 +54,29 @@ pub record AllTalk (history : List Entry) (terminals : List Terminal) (screens :
 -- the monitor answered one call at a time, from the deck's opening state, and each job asked what
 -- its terminal's keys make given the replies
 pub record IsRun (deck : Deck) (history : List Entry) (screens : List (List ℕ)) : Type 0 where
-  pub legal : Legal (monitor.opening deck.accounts deck.blocks (length deck.terminals)) history
+  pub legal : Legal (monitor.opening deck.accounts deck.blocks [] (length deck.terminals)) history
   pub proper : Proper history
   pub talks : AllTalk history deck.terminals screens
 
 abbrev pub names_in : Deck → List (List ℕ)
 names_in deck = map (λ (terminal : Terminal). terminal.name) deck.terminals
 
+-- what is written of a run: its report, and behind it the text of its history where that is wanted
+abbrev pub written_of : Bool → Deck → List Entry → List (List ℕ) → List ℕ
+written_of wanted deck history screens =
+    if wanted then report (names_in deck) screens ++ history_text history
+    else report (names_in deck) screens
+
 -- the report of a run of the deck with this history
-pub record Reports (deck : Deck) (history : List Entry) (output : List ℕ) : Type 0 where
+pub record Reports (wanted : Bool) (deck : Deck) (history : List Entry) (output : List ℕ)
+    : Type 0 where
   pub screens : List (List ℕ)
   pub run : IsRun deck history screens
-  pub reported : output ≡ report (names_in deck) screens
+  pub reported : output ≡ written_of wanted deck history screens
 
 -- what a run of the deck may write
-abbrev pub IsReport : Deck → List ℕ → Type 0
-IsReport deck output = (history : List Entry) × Reports deck history output
+abbrev pub IsReport : Bool → Deck → List ℕ → Type 0
+IsReport wanted deck output = (history : List Entry) × Reports wanted deck history output
 
 -- what a check of the deck writes
 abbrev pub IsGoodLine : Deck → List ℕ → Type 0
@@ -79,11 +91,11 @@ pub record FoundDeck (deck : Deck) (old new : SourceState) : Type 0 where
   pub spelled : Spelled read deck
 
 -- the input spells a deck, and what was written is the report of a run of it with this history
-pub record Headline (before after : Ends) (history : List Entry) : Type 0 where
+pub record Headline (wanted : Bool) (before after : Ends) (history : List Entry) : Type 0 where
   pub deck : Deck
   pub output : List ℕ
   pub found : FoundDeck deck before.source after.source
-  pub reports : Reports deck history output
+  pub reports : Reports wanted deck history output
   pub written : Written output before.sink after.sink
 
 -- the input spells a deck, and what was written says so
@@ -109,12 +121,11 @@ pub record InputTooLong (before after : Ends) : Type 0 where
   pub taken : IsTooMuch before.source after.source
   pub given : NothingGiven before after
 
--- the input was read whole, and spells no deck
+-- the input was read whole, and is refused at this line for this cause
 pub record FoundNone (fault : DeckFault) (old new : SourceState) : Type 0 where
-  pub fault_is : fault ≡ record { line = 0; cause = Stage }
   pub read : List ℕ
   pub input : IsInput read old new
-  pub none : (deck : Deck) → Spelled read deck → ⊥
+  pub refused : refusals.Refused read fault.line fault.cause
 
 pub record Refused (before after : Ends) (fault : DeckFault) : Type 0 where
   pub found : FoundNone fault before.source after.source
@@ -147,10 +158,10 @@ pub record SpellsDeck (old new : SourceState) : Type 0 where
   pub told : IsTold read old new
   pub spelled : Spelled read deck
 
-pub record SpellsNone (old new : SourceState) : Type 0 where
+pub record SpellsNone (fault : DeckFault) (old new : SourceState) : Type 0 where
   pub read : List ℕ
   pub told : IsTold read old new
-  pub none : (deck : Deck) → Spelled read deck → ⊥
+  pub refused : refusals.Refused read fault.line fault.cause
 
 -- a deck between ends that do not fail
 pub record IsFair (before after : Ends) : Type 0 where
@@ -162,11 +173,11 @@ abbrev pub Completes : (Outcome → Type 0) → Ends → Ends → Outcome → Ty
 Completes Succeeds before after result =
     IsFair before after → Succeeds result ⊎ (result ≡ outcome.NoMemory)
 
--- unless memory runs out, an input that spells none is refused
+-- unless memory runs out, an input that is refused is told its line and its cause
 abbrev pub Refuses : Ends → Ends → Outcome → Type 0
 Refuses before after result =
-    SpellsNone before.source after.source
-    → ((fault : DeckFault) × (result ≡ outcome.Deck fault)) ⊎ (result ≡ outcome.NoMemory)
+    (fault : DeckFault) → SpellsNone fault before.source after.source
+    → (result ≡ outcome.Deck fault) ⊎ (result ≡ outcome.NoMemory)
 
 -- one byte more than an input may have is too much
 abbrev pub EndsTooLong : Ends → Ends → Outcome → Type 0
@@ -194,10 +205,10 @@ pub record Answers (IsOutput : Deck → List ℕ → Type 0) (Succeeds : Outcome
   pub must_refuse : Refuses before after result
   pub completes : Completes Succeeds before after result
 
-pub record Runs (before after : Ends) (result : Outcome) : Type 0 where
-  pub ran : IfRan result (Headline before after)
+pub record Runs (wanted : Bool) (before after : Ends) (result : Outcome) : Type 0 where
+  pub ran : IfRan result (Headline wanted before after)
   pub not_checked : OnChecked result ⊥
-  pub answers : Answers IsReport HasRan before after result
+  pub answers : Answers (IsReport wanted) HasRan before after result
 
 pub record Checks (before after : Ends) (result : Outcome) : Type 0 where
   pub checked : OnChecked result (Checked before after)
@@ -209,8 +220,9 @@ pub record TellsUsage (before after : Ends) (result : Outcome) : Type 0 where
   pub usage : result ≡ outcome.Usage
   pub untouched : after ≡ before
 
--- as the words ask, a deck is run or checked, or the usage is told
+-- as the words ask, a deck is run, with the text of its history or without, or checked, or the usage
+-- is told
 abbrev pub Does : Asked → Ends → Ends → Outcome → Type 0
-Does Run before after result = Runs before after result
+Does (Run wanted) before after result = Runs wanted before after result
 Does Check before after result = Checks before after result
 Does Nothing before after result = TellsUsage before after result

@@ -1,7 +1,7 @@
 -- Facts for one outcome of the program.
 use Rattle.std.specs.Prelude.{List}
 use Rattle.monitor_calls.specs.declared.calls.Entry.{Entry}
-use Rattle.rsts.specs.declared.decks.DeckFault.{DeckFault}
+use Rattle.deck_model.specs.declared.faults.DeckFault.{DeckFault}
 use Rattle.rsts.specs.declared.outcomes.Outcome.{Outcome}
 use Rattle.rsts.specs.declared.outcomes.Outcome.TheVariants as outcome
 

@@ -1,13 +1,13 @@
 -- What reading a deck from a source answers.
 use Rattle.std.specs.Prelude.{◌≡◌, Result, Ok, Err, IsOk, ◌⊎◌}
 use Rattle.rsts_io.specs.Ends.{SourceState, Rose}
-use Rattle.rsts.specs.declared.decks.Deck.{Deck}
-use Rattle.rsts.specs.declared.decks.DeckFault.{DeckFault}
+use Rattle.deck_reader.specs.declared.decks.Deck.{Deck}
+use Rattle.deck_model.specs.declared.faults.DeckFault.{DeckFault}
 use Rattle.rsts.specs.declared.outcomes.Outcome.{Outcome}
 use Rattle.rsts.specs.declared.outcomes.Outcome.TheVariants as outcome
 use Rattle.rsts.specs.declared.systems.Stopped.{Stopped}
 use Rattle.rsts.specs.declared.systems.Stopped.TheVariants as stopped
-use Rattle.rsts.specs.Decks.{deck_of}
+use Rattle.deck_reader.specs.Seen.{deck_of}
 use Rattle.rsts.specs.Headline.{FoundDeck, FoundNone, SpellsDeck, SpellsNone}
 use Rattle.rsts.specs.Streams.{IsOverLimit, IsTooMuch}
 
@@ -38,5 +38,5 @@ MustFind result old new = SpellsDeck old new → IsOk result ⊎ (result ≡ Err
 
 abbrev pub MustRefuse : Result Deck Stopped → SourceState → SourceState → Type 0
 MustRefuse result old new =
-    SpellsNone old new → ((fault : DeckFault) × (result ≡ Err (stopped.Deck fault)))
+    (fault : DeckFault) → SpellsNone fault old new → (result ≡ Err (stopped.Deck fault))
     ⊎ (result ≡ Err stopped.NoMemory)

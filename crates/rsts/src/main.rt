@@ -1,17 +1,14 @@
 //! The program: time sharing after RSTS/E, with BASIC-PLUS jobs.
 //!
 //! `top::rsts_main` carries the program's promise: its one clause is `Does` of `specs/Headline`.
-//! `streams` reads a source and gives to a sink, `lines` and `decks` read a deck, `runs` runs it,
-//! `reports` spells what is written, `systems` puts these together, `words` tells what is asked,
-//! and `outcomes` the status. It stands on `command_level`, for the session, on `monitor_core`, for
-//! the monitor, and on `rsts_io`, for the ends; what they mean stands in `job_model`,
-//! `monitor_model` and `deck_model`.
+//! `streams` reads a source and gives to a sink, `runs` runs the terminals of a deck,
+//! `systems` puts these together, `words` tells what is asked, and `outcomes` the status. It stands
+//! on `deck_reader`, for decks, on `report_texts`, for what is written, on `command_level`, for the session
+//! of a terminal, on `terminal_runner`, for the threads, and on `rsts_io`, for the ends; what they
+//! mean stands in `deck_model`, `job_model` and `monitor_model`.
 #![tactic(auto)]
 
-mod decks;
-mod lines;
 mod outcomes;
-mod reports;
 mod runs;
 mod streams;
 mod systems;
@@ -30,6 +27,7 @@ use std::{env, io, str};
 fn main(rt: HostRuntime) -> ExitCode {
     let outcome = match words_of(&rt) {
         Ok(words) => rsts_main(
+            &rt,
             rt.alloc(),
             words.as_slice(),
             &mut StdSource::new(rt.reader()),

@@ -1,10 +1,10 @@
 //! How a call of the program ends.
 
 ghost use Rattle.std.specs.Prelude.{◌≡◌, ◌≤◌, length};
-ghost use Rattle.rsts.specs.Statuses.{status_of, line_of, fault_line};
+ghost use Rattle.rsts.specs.Statuses.{status_of, line_of, cause_text, fault_line};
 
-use crate::decks::{DeckCause, DeckFault};
 use arrayvec::ArrayVec;
+use deck_model::{DeckCause, DeckFault};
 use itoa::Buffer;
 use monitor_calls::RunRecord;
 
@@ -17,7 +17,7 @@ pub enum Outcome {
     Checked,
     /// The words ask for nothing that the program does.
     Usage,
-    /// The input is no deck that can be run.
+    /// The input spells no deck: the first line that no deck can have there, and why.
     Deck(DeckFault),
     /// The source failed.
     ReadFault,
@@ -74,13 +74,26 @@ fn fault_line(fault: DeckFault) -> ArrayVec<u8, 64>
     ensures { result.items ≡ fault_line fault }
 {
     let mut buffer = Buffer::new();
-    let cause = match fault.cause {
-        DeckCause::Stage => b"not a deck of this stage".as_slice(),
-    };
     let mut line = words(b"deck line ");
     line.try_extend_from_slice(buffer.format(fault.line).as_bytes())
         .unwrap();
     line.try_extend_from_slice(b": ").unwrap();
-    line.try_extend_from_slice(cause).unwrap();
+    line.try_extend_from_slice(cause_text(fault.cause)).unwrap();
     line
+}
+
+/// The words of a cause.
+fn cause_text(cause: DeckCause) -> &'static [u8]
+    ensures text { result.now ≡ cause_text cause }
+    ensures short { length result.now ≤ 27 }
+{
+    match cause {
+        DeckCause::Cut => b"input ends early",
+        DeckCause::Version => b"not a version 1 deck",
+        DeckCause::Shape => b"wrong form",
+        DeckCause::Stage => b"not a deck of this stage",
+        DeckCause::Range => b"number or text out of range",
+        DeckCause::Double => b"name given twice",
+        DeckCause::Space => b"no room",
+    }
 }

@@ -1,10 +1,9 @@
 //! Reading a source to its end, and giving bytes to a sink.
 
-ghost use Rattle.std.specs.Prelude.{◌≡◌, ◌+◌, ◌<◌, ◌≤◌, ◌==◌, length, position, Err, MatchOption, OnOk, OnErr};
+ghost use Rattle.std.specs.Prelude.{◌≡◌, ◌+◌, ◌<◌, ◌≤◌, ◌==◌, length, position, Err, IfSome, MatchOption, OnOk, OnErr};
 ghost use Rattle.rsts_io.specs.Ends.{Takes};
 ghost use Rattle.rsts.specs.Streams.{ReadSo, TookNext, IsOverLimit, Written, BrokeOff};
 
-use crate::lines::place_of;
 use rsts_io::{Gave, Sink, Source, Took};
 use std::alloc::{AllocError, Global};
 
@@ -105,6 +104,14 @@ fn line_length(bytes: &[u8]) -> usize
         Some(at) => at + 1,
         None => bytes.len(),
     }
+}
+
+/// The place of the first such byte.
+fn place_of(byte: u8, text: &[u8]) -> Option<usize>
+    ensures place { result ≡ position (λ b. b == byte) text.now }
+    ensures within { IfSome result (λ at. at < length text.now) }
+{
+    text.iter().position(|b| *b == byte)
 }
 
 /// Gives a piece, in as many calls as the sink needs.

@@ -2,19 +2,22 @@
 
 ghost use Rattle.std.specs.Prelude.{◌≡◌, IfOk};
 ghost use Rattle.deck_model.specs.Deck.{IsDeck};
-ghost use Rattle.rsts.specs.Decks.{deck_of};
+ghost use Rattle.deck_reader.specs.Seen.{deck_of};
 ghost use Rattle.rsts.specs.Headline.{ends, Reports, Runs, Checks};
 ghost use Rattle.rsts.specs.Readings.{Found, MustFind, MustRefuse, MustStop, outcome_of};
 
-use crate::decks::{Deck, DeckFault, read_deck};
 use crate::outcomes::Outcome;
-use crate::reports::{good_line, report};
 use crate::runs::run_deck;
 use crate::streams::{ReadEnd, SinkFault, give_all, read_all};
 use basic_values::{NoMemory, Trouble};
+use deck_model::DeckFault;
+use deck_reader::{Deck, read_deck};
 use monitor_calls::RunRecord;
+use report_texts::{good_line, push_history, report};
 use rsts_io::{Pacer, Sink, Source};
 use std::alloc::Global;
+use std::sync::Wait;
+use std::thread::Threads;
 
 /// Why no deck was read.
 #[derive(Clone, Copy, Debug, PartialEq, Eq)]
@@ -38,21 +41,24 @@ impl Stopped {
     }
 }
 
-/// Runs the deck that the source spells and writes the report, as the word `run` asks.
-pub(crate) fn run_system<S: Source, K: Sink, P: Pacer>(
+/// Runs the terminals of the deck that the source spells and writes the report, and behind it the
+/// text of the history where that is wanted, as the word `run` asks.
+pub(crate) fn run_system<R: Threads + Wait + Sync, S: Source, K: Sink, P: Pacer + Sync>(
+    rt: &R,
     alloc: Global,
+    history: bool,
     source: &mut S,
     sink: &mut K,
     pacer: &P,
 ) -> Outcome
-    ensures { Runs (ends (S.state source.old) (K.state sink.old))
+    ensures { Runs history (ends (S.state source.old) (K.state sink.old))
         (ends (S.state source.new) (K.state sink.new)) result }
 {
     let deck = match read_system(alloc, source) {
         Ok(deck) => deck,
         Err(stopped) => return stopped.outcome(),
     };
-    let (record, output) = match run_and_report(alloc, &deck, pacer) {
+    let (record, output) = match run_and_report(rt, alloc, history, &deck, pacer) {
         Ok(ran) => ran,
         Err(NoMemory) => return Outcome::NoMemory,
     };
@@ -102,16 +108,22 @@ fn read_system<S: Source>(alloc: Global, source: &mut S) -> Result<Deck, Stopped
     }
 }
 
-/// A run of the deck, and its report.
-fn run_and_report<P: Pacer>(
+/// A run of the deck, and what is written of it.
+fn run_and_report<R: Threads + Wait + Sync, P: Pacer + Sync>(
+    rt: &R,
     alloc: Global,
+    history: bool,
     deck: &Deck,
     pacer: &P,
 ) -> Result<(RunRecord, Vec<u8>), NoMemory>
     requires { IsDeck (deck_of deck.now) }
-    ensures { IfOk result (λ ran. Reports (deck_of deck.now) ran.0 ran.1.items) }
+    ensures { IfOk result (λ ran. Reports history (deck_of deck.now) ran.0 ran.1.items) }
 {
-    let ran = run_deck(alloc, deck, pacer)?;
-    let output = report(alloc, deck.terminals.as_slice(), ran.screens.as_slice())?;
-    Ok((ran.record, output))
+    let ran = run_deck(rt, alloc, deck, pacer)?;
+    let mut output = report(alloc, deck.terminals.as_slice(), ran.screens.as_slice())?;
+    if !history {
+        return Ok((ran.run, output));
+    }
+    push_history(&mut output, ran.run.as_slice())?;
+    Ok((ran.run, output))
 }

@@ -9,10 +9,14 @@ use crate::systems::{check_system, run_system};
 use crate::words::{Asked, action_of};
 use rsts_io::{Pacer, Sink, Source};
 use std::alloc::Global;
+use std::sync::Wait;
+use std::thread::Threads;
 
-/// Reads a deck from the source, runs its terminal, and writes the report to the sink; or reads a
-/// deck and writes whether it is good; as the words ask.
-pub fn rsts_main<S: Source, K: Sink, P: Pacer>(
+/// Reads a deck from the source, runs its terminals, each in a thread of its own, and writes the
+/// report to the sink, and behind it the text of the history; or reads a deck and writes whether it
+/// is good; as the words ask.
+pub fn rsts_main<R: Threads + Wait + Sync, S: Source, K: Sink, P: Pacer + Sync>(
+    rt: &R,
     alloc: Global,
     words: &[String],
     source: &mut S,
@@ -24,11 +28,13 @@ pub fn rsts_main<S: Source, K: Sink, P: Pacer>(
         (ends (S.state source.new) (K.state sink.new)) result }
 {
     match action_of(words) {
-        Asked::Run => run_system(alloc, source, sink, pacer),
+        Asked::Run(history) => run_system(rt, alloc, history, source, sink, pacer),
         Asked::Check => check_system(alloc, source, sink),
         Asked::Nothing => Outcome::Usage,
     }
 }
 
+#[cfg(test)]
+mod pacing;
 #[cfg(test)]
 mod tests;

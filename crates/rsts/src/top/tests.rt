@@ -5,11 +5,15 @@ ghost use Rattle.rsts.specs.Headline.{HasRan};
 
 use super::*;
 use crate::streams::INPUT_LIMIT;
+use crate::top::pacing::Together;
 use rsts_io::{IdlePacer, MemorySink, MemorySource, PlainSink, PlainSource, StdSink, StdSource};
 use std::io;
 use std::io::{Read, Write};
 use std::process::Abort;
+use std::sync::Wait;
 use std::test::Fail;
+use std::thread::Threads;
+use std::time::Clock;
 
 const HEAD: &[u8] = b"RSTS-DECK 1\nDISK 8\nACCOUNT 100,5 DEMO 100\nTERMINAL T1\n";
 
@@ -28,18 +32,33 @@ struct Ended {
 }
 
 /// Calls the program with a word and an input, over ends that fail at the listed calls.
-fn call(
+fn call<R: Threads + Wait + Sync>(
+    rt: &R,
     alloc: Global,
     word: &str,
     input: &[u8],
     failing_takes: &[u64],
     failing_gifts: &[u64],
 ) -> Result<Ended, Fail> {
+    call_with(rt, alloc, &[word], input, failing_takes, failing_gifts)
+}
+
+/// The same with any words.
+fn call_with<R: Threads + Wait + Sync>(
+    rt: &R,
+    alloc: Global,
+    asked: &[&str],
+    input: &[u8],
+    failing_takes: &[u64],
+    failing_gifts: &[u64],
+) -> Result<Ended, Fail> {
     let mut words = Vec::new(alloc);
-    words.push(String::from_str(alloc, word)?)?;
+    for word in asked {
+        words.push(String::from_str(alloc, word)?)?;
+    }
     let mut source = MemorySource::new(alloc, input, failing_takes)?;
     let mut sink = MemorySink::new(alloc, failing_gifts)?;
-    let outcome = rsts_main(alloc, &words, &mut source, &mut sink, &IdlePacer);
+    let outcome = rsts_main(rt, alloc, &words, &mut source, &mut sink, &IdlePacer);
     Ok(Ended {
         status: outcome.status(),
         line: String::from_utf8(outcome.line().as_slice().to_vec(alloc)?)?,
@@ -67,7 +86,7 @@ fn a_program_that_always_wants_memory_fails_these_rows(rt: HostRuntime) -> Resul
         ("check", no_keys.as_slice(), b"GOOD 1 0 1\n"),
     ];
     for (word, input, want) in rows {
-        let ended = call(rt.alloc(), word, input, &[], &[])?;
+        let ended = call(&rt, rt.alloc(), word, input, &[], &[])?;
         assert_eq!(rt; ended.written.as_slice(), want);
         assert_eq!(rt; ended.line.as_str(), "");
         assert_eq!(rt; ended.status, 0);
@@ -78,7 +97,7 @@ fn a_program_that_always_wants_memory_fails_these_rows(rt: HostRuntime) -> Resul
 #[test]
 fn other_words_are_told_the_usage(rt: HostRuntime) -> Result<(), Fail> {
     for word in ["", "RUN", "runs", "check ", "drill"] {
-        let ended = call(rt.alloc(), word, FIRST_SUM, &[1], &[1])?;
+        let ended = call(&rt, rt.alloc(), word, FIRST_SUM, &[1], &[1])?;
         assert_eq!(rt; ended.status, 1);
         assert_eq!(rt;
             ended.line.as_str(),
@@ -90,7 +109,7 @@ fn other_words_are_told_the_usage(rt: HostRuntime) -> Result<(), Fail> {
     let mut source = MemorySource::new(rt.alloc(), FIRST_SUM, &[])?;
     let mut sink = MemorySink::new(rt.alloc(), &[])?;
     for _ in 0..3 {
-        let outcome = rsts_main(rt.alloc(), &words, &mut source, &mut sink, &IdlePacer);
+        let outcome = rsts_main(&rt, rt.alloc(), &words, &mut source, &mut sink, &IdlePacer);
         assert_eq!(rt; outcome.status(), if words.len() == 1 { 0 } else { 1 });
         words.push(String::from_str(rt.alloc(), "run")?)?;
     }
@@ -101,29 +120,33 @@ fn other_words_are_told_the_usage(rt: HostRuntime) -> Result<(), Fail> {
 fn bad_input_is_refused_and_nothing_is_written(rt: HostRuntime) -> Result<(), Fail> {
     let long_keys = deck_with_keys(rt.alloc(), 256)?;
     let too_long = deck_with_keys(rt.alloc(), INPUT_LIMIT + 1 - HEAD.len() - 6)?;
-    let no_deck = "deck line 0: not a deck of this stage";
     let rows: [(&[u8], &[u64], u8, &str); 7] = [
-        (b"", &[], 2, no_deck),
+        (b"", &[], 2, "deck line 1: input ends early"),
         (
             b"RSTS-DECK 2\nDISK 8\nACCOUNT 100,5 DEMO 100\nTERMINAL T1\nEND\n",
             &[],
             2,
-            no_deck,
+            "deck line 1: not a version 1 deck",
         ),
         (
-            b"RSTS-DECK 1\nDISK 8\nACCOUNT 100,5 DEMO 100\nTERMINAL T1\nTERMINAL T2\nEND\n",
+            b"RSTS-DECK 1\nDISK 8\nACCOUNT 100,5 DEMO 100\nTERMINAL T1\nTERMINAL T1\nEND\n",
             &[],
             2,
-            no_deck,
+            "deck line 5: name given twice",
         ),
-        (long_keys.as_slice(), &[], 2, no_deck),
+        (
+            long_keys.as_slice(),
+            &[],
+            2,
+            "deck line 5: number or text out of range",
+        ),
         (too_long.as_slice(), &[], 4, "input too long"),
         (FIRST_SUM, &[1], 3, "read fault"),
         (FIRST_SUM, &[2], 3, "read fault"),
     ];
     for word in ["run", "check"] {
         for (input, failing, status, line) in rows {
-            let ended = call(rt.alloc(), word, input, failing, &[])?;
+            let ended = call(&rt, rt.alloc(), word, input, failing, &[])?;
             assert_eq!(rt; ended.line.as_str(), line);
             assert_eq!(rt; ended.status, status);
             assert_eq!(rt; ended.written.len(), 0);
@@ -135,11 +158,106 @@ fn bad_input_is_refused_and_nothing_is_written(rt: HostRuntime) -> Result<(), Fa
 #[test]
 fn a_deck_that_is_cut_at_any_byte_is_refused(rt: HostRuntime) -> Result<(), Fail> {
     for end in 0..FIRST_SUM.len() {
-        let ended = call(rt.alloc(), "run", &FIRST_SUM[..end], &[], &[])?;
+        let whole = FIRST_SUM[..end].iter().filter(|b| **b == b'\n').count();
+        let line = whole.saturating_add(1);
+        let want = format!(in rt.alloc(); "deck line {line}: input ends early")?;
+        let ended = call(&rt, rt.alloc(), "run", &FIRST_SUM[..end], &[], &[])?;
         assert_eq!(rt; ended.status, 2, "cut at {end}");
+        assert_eq!(rt; ended.line.as_str(), want.as_str());
         assert_eq!(rt; ended.written.len(), 0);
     }
     Ok(())
+}
+
+#[test]
+fn the_history_stands_behind_the_report(rt: HostRuntime) -> Result<(), Fail> {
+    let mut want = SUM_REPORT.to_vec(rt.alloc())?;
+    want.extend_from_slice(b"HISTORY 2\n0 LOGIN 100,5 44454d4f = DONE\n0 LOGOUT = DONE\n")?;
+    let mut no_keys = HEAD.to_vec(rt.alloc())?;
+    no_keys.extend_from_slice(b"END\n")?;
+    let rows: [(&[&str], &[u8], &[u8]); 3] = [
+        (&["run", "--history"], FIRST_SUM, want.as_slice()),
+        (&["--history", "run"], FIRST_SUM, want.as_slice()),
+        (
+            &["run", "--history"],
+            no_keys.as_slice(),
+            b"TERMINAL T1 0\n\nHISTORY 0\n",
+        ),
+    ];
+    for (words, input, want) in rows {
+        let ended = call_with(&rt, rt.alloc(), words, input, &[], &[])?;
+        assert_eq!(rt; ended.written.as_slice(), want);
+        assert_eq!(rt; ended.status, 0);
+    }
+    let ended = call_with(
+        &rt,
+        rt.alloc(),
+        &["check", "--history"],
+        FIRST_SUM,
+        &[],
+        &[],
+    )?;
+    assert_eq!(rt; ended.status, 1);
+    Ok(())
+}
+
+const TWO: &[u8] = b"RSTS-DECK 1\nDISK 8\nACCOUNT 100,5 DEMO 100\nACCOUNT 1,2 SYS 50\n\
+TERMINAL T1\n>HELLO 100,5;DEMO\n>BYE\nTERMINAL T2\n>HELLO 1,2;SYS\n>BYE\nEND\n";
+
+const TWO_REPORT: &[u8] = b"TERMINAL T1 35\nHELLO 100,5;DEMO\r\nReady\r\nBYE\r\nBye\r\n\n\
+TERMINAL T2 32\nHELLO 1,2;SYS\r\nReady\r\nBYE\r\nBye\r\n\n";
+
+/// Runs a deck whose jobs are held by the pacer, and asserts that each was, and what was written.
+fn run_together<R: Threads + Wait + Clock + Abort + Sync>(
+    rt: &R,
+    alloc: Global,
+    jobs: u32,
+    deck: &[u8],
+    want: &[u8],
+) -> Result<(), Fail> {
+    let pacer = Together::new(rt, alloc, jobs)?;
+    let mut words = Vec::new(alloc);
+    words.push(String::from_str(alloc, "run")?)?;
+    let mut source = MemorySource::new(alloc, deck, &[])?;
+    let mut sink = MemorySink::new(alloc, &[])?;
+    let outcome = rsts_main(rt, alloc, words.as_slice(), &mut source, &mut sink, &pacer);
+    assert_eq!(rt; sink.bytes(), want);
+    let record = match outcome {
+        Outcome::Ok(record) => record,
+        _ => return Err("the deck was not run")?,
+    };
+    assert!(rt; !pacer.is_late(), "a job waited for the others in vain");
+    for job in 0..jobs {
+        let entries = record
+            .as_slice()
+            .iter()
+            .filter(|entry| entry.job == job)
+            .count() as u64;
+        assert_eq!(rt; pacer.calls_of(job), (entries, entries));
+    }
+    Ok(())
+}
+
+#[test]
+fn two_terminals_run_beside_each_other(rt: HostRuntime) -> Result<(), Fail> {
+    run_together(&rt, rt.alloc(), 2, TWO, TWO_REPORT)
+}
+
+#[test]
+fn four_terminals_run_beside_each_other(rt: HostRuntime) -> Result<(), Fail> {
+    let alloc = rt.alloc();
+    let mut deck = b"RSTS-DECK 1\nDISK 8\nACCOUNT 100,5 DEMO 100\n".to_vec(alloc)?;
+    let mut want = Vec::new(alloc);
+    for name in ["T1", "T2", "T3", "T4"] {
+        let keys = format!(in alloc; "TERMINAL {name}\n>HELLO 100,5;DEMO\n>BYE\n")?;
+        deck.extend_from_slice(keys.as_bytes())?;
+        let screen = format!(in alloc;
+            "TERMINAL {name} 35\nHELLO 100,5;DEMO\r\nReady\r\nBYE\r\nBye\r\n\n"
+        )?;
+        want.extend_from_slice(screen.as_bytes())?;
+    }
+    deck.extend_from_slice(b"END\n")?;
+    run_together(&rt, alloc, 4, deck.as_slice(), want.as_slice())
 }
 
 #[test]
@@ -152,7 +270,7 @@ fn a_failing_sink_leaves_a_proper_front(rt: HostRuntime) -> Result<(), Fail> {
         ("check", &[2], 0, b"GOOD 1 0 1\n"),
     ];
     for (word, failing, status, want) in rows {
-        let ended = call(rt.alloc(), word, FIRST_SUM, &[], failing)?;
+        let ended = call(&rt, rt.alloc(), word, FIRST_SUM, &[], failing)?;
         assert_eq!(rt; ended.status, status);
         assert_eq!(rt;
             ended.line.as_str(),
@@ -164,7 +282,11 @@ fn a_failing_sink_leaves_a_proper_front(rt: HostRuntime) -> Result<(), Fail> {
 }
 
 /// Asserts what the program shows of one line behind the login, in front of CR LF and Ready.
-fn assert_line(rt: &(impl AllocGlobal + Abort), line: &str, answer: &str) -> Result<(), Fail> {
+fn assert_line<R: AllocGlobal + Abort + Threads + Wait + Sync>(
+    rt: &R,
+    line: &str,
+    answer: &str,
+) -> Result<(), Fail> {
     let alloc = rt.alloc();
     let mut deck = HEAD.to_vec(alloc)?;
     deck.extend_from_slice(b">HELLO 100,5;DEMO\n>")?;
@@ -175,7 +297,7 @@ fn assert_line(rt: &(impl AllocGlobal + Abort), line: &str, answer: &str) -> Res
     )?;
     let count = screen.len();
     let want = format!(in alloc; "TERMINAL T1 {count}\n{screen}\n")?;
-    let ended = call(alloc, "run", deck.as_slice(), &[], &[])?;
+    let ended = call(rt, alloc, "run", deck.as_slice(), &[], &[])?;
     assert_eq!(rt;
         ended.written.as_slice(),
         want.as_bytes(),
@@ -216,7 +338,11 @@ fn lines_are_judged_by_the_grammar(rt: HostRuntime) -> Result<(), Fail> {
 
 /// Runs an input between ends in memory. What must come is no empty promise: here a deck is run,
 /// unless memory or the sink's room runs out.
-fn run_between_plain_ends(alloc: Global, input: &[u8]) -> Result<(Outcome, PlainSink), Fail>
+fn run_between_plain_ends<R: Threads + Wait + Sync>(
+    rt: &R,
+    alloc: Global,
+    input: &[u8],
+) -> Result<(Outcome, PlainSink), Fail>
     ensures { IfOk result (λ ended. (deck : Deck) → Spelled input.now deck
         → length input.now ≤ INPUT_LIMIT → ended.1.faults ≡ 0
         → HasRan ended.0 ⊎ (ended.0 ≡ Outcome.NoMemory)) }
@@ -225,13 +351,20 @@ fn run_between_plain_ends(alloc: Global, input: &[u8]) -> Result<(Outcome, Plain
     words.push(String::from_str(alloc, "run")?)?;
     let mut source = PlainSource::new(alloc, input)?;
     let mut sink = PlainSink::new(alloc)?;
-    let outcome = rsts_main(alloc, words.as_slice(), &mut source, &mut sink, &IdlePacer);
+    let outcome = rsts_main(
+        rt,
+        alloc,
+        words.as_slice(),
+        &mut source,
+        &mut sink,
+        &IdlePacer,
+    );
     Ok((outcome, sink))
 }
 
 #[test]
 fn a_good_deck_between_ends_that_never_fail_is_run(rt: HostRuntime) -> Result<(), Fail> {
-    let (outcome, sink) = run_between_plain_ends(rt.alloc(), FIRST_SUM)?;
+    let (outcome, sink) = run_between_plain_ends(&rt, rt.alloc(), FIRST_SUM)?;
     assert_eq!(rt; outcome.status(), 0);
     assert_eq!(rt; sink.bytes(), SUM_REPORT);
     Ok(())
@@ -281,6 +414,7 @@ fn ends_that_move_one_byte_at_a_time_change_nothing(rt: HostRuntime) -> Result<(
         let mut source = StdSource::new(DribblingReader { text: FIRST_SUM });
         let mut sink = StdSink::new(DribblingWriter { kept: &mut kept });
         let outcome = rsts_main(
+            &rt,
             rt.alloc(),
             words.as_slice(),
             &mut source,

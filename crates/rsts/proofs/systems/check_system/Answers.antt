@@ -1,7 +1,11 @@
-use Rattle.std.proofs.Common.{refl, sym, subst}
+use Rattle.std.proofs.Common.{◌≡◌, ℕ, List, refl, sym, subst, ◌∙◌, arith, length, map}
+use Rattle.deck_model.specs.Report.{good_line}
+use Rattle.deck_reader.specs.Seen.{deck_of, terminal_of}
+use Rattle.rsts.proofs.RunLemmas.{as_many}
 use Rattle.rsts.specs.declared.outcomes.Outcome.{Outcome}
 use Rattle.rsts.specs.Headline.{ends, IsGoodLine, HasChecked, Checked, Checks}
-use Rattle.rsts.proofs.SystemLemmas.{stopped_answers, stopped_neither}
+use Rattle.rsts.specs.Streams.{Written, BrokeOff}
+use Rattle.rsts.proofs.SystemLemmas.{stopped_answers, stopped_neither, checked_answers, broke_answers}
 use Rattle.rsts.proofs.systems.check_system.Goals as goal
 
 pub returns-in-Err : goal.returns-in-Err
@@ -16,3 +20,38 @@ returns-in-Err g c =
       not_ran = neither.0;
       answers = stopped_answers IsGoodLine HasChecked c.in-Err.stopped before after told.found refl told.must_stop told.must_find told.must_refuse;
     })
+
+pub returns-in-Ok-give_all : goal.returns-in-Ok-give_all
+returns-in-Ok-give_all g c =
+    let before = ends (g.S.Source.state c.args.source.now) (g.K.Sink.state c.args.sink.now) in
+    let after = ends (g.S.Source.state c.read_system.new.source) (g.K.Sink.state c.give_all.new.sink) in
+    let output = c.in-Ok-good_line.output.items in
+    let accounts : c.len.result ≡ length c.in-Ok.deck.volume.accounts.items = omega (arith, c.len.ensures, c.in-Ok.deck.volume.accounts.ok.0) in
+    let terminals : c.len-2.result ≡ length (map terminal_of c.in-Ok.deck.terminals.items) = omega (arith, c.len-2.ensures, c.in-Ok.deck.terminals.ok.0, as_many c.in-Ok.deck.terminals.items) in
+    let line : IsGoodLine (deck_of c.in-Ok.deck) output = c.in-Ok-good_line.ensures ∙ (λ i. good_line (accounts i) 0 (terminals i)) in
+    record {
+      checked = record {
+        deck = deck_of c.in-Ok.deck;
+        output = output;
+        found = c.in-Ok.ensures.found;
+        is_good_line = line;
+        written = subst (λ (bytes : List ℕ). Written bytes before.sink after.sink) c.as_slice.ensures.value c.in-Ok-give_all.ensures.all;
+      };
+      not_ran = tt;
+      answers = checked_answers c.in-Ok.deck before after c.in-Ok.ensures.must_stop c.in-Ok.ensures.must_refuse;
+    }
+
+pub returns : goal.returns
+returns g c =
+    let before = ends (g.S.Source.state c.args.source.now) (g.K.Sink.state c.args.sink.now) in
+    let after = ends (g.S.Source.state c.read_system.new.source) (g.K.Sink.state c.give_all.new.sink) in
+    let output = c.in-Ok-good_line.output.items in
+    let accounts : c.len.result ≡ length c.in-Ok.deck.volume.accounts.items = omega (arith, c.len.ensures, c.in-Ok.deck.volume.accounts.ok.0) in
+    let terminals : c.len-2.result ≡ length (map terminal_of c.in-Ok.deck.terminals.items) = omega (arith, c.len-2.ensures, c.in-Ok.deck.terminals.ok.0, as_many c.in-Ok.deck.terminals.items) in
+    let line : IsGoodLine (deck_of c.in-Ok.deck) output = c.in-Ok-good_line.ensures ∙ (λ i. good_line (accounts i) 0 (terminals i)) in
+    record {
+      checked = tt;
+      not_ran = tt;
+      answers = broke_answers c.in-Ok.deck before after c.in-Ok.ensures.must_stop c.in-Ok.ensures.must_refuse IsGoodLine HasChecked output c.in-Ok.ensures.found line
+          (subst (λ (bytes : List ℕ). BrokeOff bytes before.sink after.sink) c.as_slice.ensures.value c.in-Err-give_all.ensures.front);
+    }

@@ -1,9 +1,9 @@
 use Rattle.std.proofs.Common.{ℕ, List, refl, sym, subst}
 use Rattle.rsts.specs.declared.outcomes.Outcome.{Outcome}
-use Rattle.rsts.specs.Decks.{deck_of}
+use Rattle.deck_reader.specs.Seen.{deck_of}
 use Rattle.rsts.specs.Headline.{ends, IsReport, HasRan, Headline, Runs}
-use Rattle.rsts.specs.Streams.{Written}
-use Rattle.rsts.proofs.SystemLemmas.{stopped_answers, stopped_neither, ran_answers}
+use Rattle.rsts.specs.Streams.{Written, BrokeOff}
+use Rattle.rsts.proofs.SystemLemmas.{stopped_answers, stopped_neither, ran_answers, broke_answers}
 use Rattle.rsts.proofs.systems.run_system.Goals as goal
 
 pub returns-in-Err : goal.returns-in-Err
@@ -11,12 +11,12 @@ returns-in-Err g c =
     let before = ends (g.S.Source.state c.args.source.now) (g.K.Sink.state c.args.sink.now) in
     let after = ends (g.S.Source.state c.read_system.new.source) (g.K.Sink.state c.args.sink.now) in
     let told = c.in-Err.ensures in
-    let neither = stopped_neither c.in-Err.stopped (Headline before after) ⊥ in
-    subst (λ (result : Outcome). Runs before after result) (sym c.outcome.ensures)
+    let neither = stopped_neither c.in-Err.stopped (Headline c.args.history before after) ⊥ in
+    subst (λ (result : Outcome). Runs c.args.history before after result) (sym c.outcome.ensures)
     (record {
       ran = neither.0;
       not_checked = neither.1;
-      answers = stopped_answers IsReport HasRan c.in-Err.stopped before after told.found refl told.must_stop told.must_find told.must_refuse;
+      answers = stopped_answers (IsReport c.args.history) HasRan c.in-Err.stopped before after told.found refl told.must_stop told.must_find told.must_refuse;
     })
 
 pub returns-in-Ok-give_all : goal.returns-in-Ok-give_all
@@ -32,5 +32,18 @@ returns-in-Ok-give_all g c =
         written = subst (λ (output : List ℕ). Written output before.sink after.sink) c.as_slice.ensures.value c.in-Ok-give_all.ensures.all;
       };
       not_checked = tt;
-      answers = ran_answers c.in-Ok.deck c.in-Ok-run_and_report.ran.0 before after c.in-Ok.ensures.must_stop c.in-Ok.ensures.must_refuse;
+      answers = ran_answers c.in-Ok.deck before after c.in-Ok.ensures.must_stop c.in-Ok.ensures.must_refuse c.args.history c.in-Ok-run_and_report.ran.0;
+    }
+
+pub returns : goal.returns
+returns g c =
+    let before = ends (g.S.Source.state c.args.source.now) (g.K.Sink.state c.args.sink.now) in
+    let after = ends (g.S.Source.state c.read_system.new.source) (g.K.Sink.state c.give_all.new.sink) in
+    let output = c.in-Ok-run_and_report.ran.1.items in
+    record {
+      ran = tt;
+      not_checked = tt;
+      answers = broke_answers c.in-Ok.deck before after c.in-Ok.ensures.must_stop c.in-Ok.ensures.must_refuse (IsReport c.args.history) HasRan output c.in-Ok.ensures.found
+          (c.in-Ok-run_and_report.ran.0, c.in-Ok-run_and_report.ensures)
+          (subst (λ (bytes : List ℕ). BrokeOff bytes before.sink after.sink) c.as_slice.ensures.value c.in-Err-give_all.ensures.front);
     }

@@ -1,4 +1,4 @@
-use Rattle.std.proofs.Common.{◌≡◌, ℕ, List, [], ◌∷◌, ◌++◌, map, Some, ap, subst, ◌∙◌, arith}
+use Rattle.std.proofs.Common.{◌≡◌, ℕ, false, List, [], ◌∷◌, ◌++◌, map, Some, ap, subst, ◌∙◌, arith}
 use Rattle.std.specs.Prelude.{string_bytes}
 use Rattle.std.specs.Global.{Global}
 use Rattle.deck_model.specs.Words.{Asked, Run, asked}
@@ -7,10 +7,10 @@ use Rattle.rsts.specs.Headline.{ends, Does}
 use Rattle.rsts.proofs.top.tests.run_between_plain_ends.Goals as goal
 
 pub returns : goal.returns
-returns c = λ deck spelled most stayed.
+returns g c = λ deck spelled most stayed.
     let before = ends (plain_feed_state c.in_ok-source.source) (plain_store_state c.in_ok-sink.sink) in
     let after = ends (plain_feed_state c.rsts_main-outcome.new.source) (plain_store_state c.rsts_main-outcome.new.sink) in
-    let asks : asked (map (string_bytes {Z = Global}) c.as_slice.result.now) ≡ Run =
+    let asks : asked (map (string_bytes {Z = Global}) c.as_slice.result.now) ≡ Run false =
     (λ i. asked (map (string_bytes {Z = Global}) (c.as_slice.ensures.value i)))
     ∙ (λ i. asked (map (string_bytes {Z = Global}) (c.in_ok-push.ensures.items i)))
     ∙ (λ i. asked (map (string_bytes {Z = Global}) (c.new-words.ensures.items i ++ (c.in_ok-from_str.field-0 ∷ []))))

@@ -1,0 +1,238 @@
+-- The form that a line is found to have is one that it has, and a form is found in its line.
+use Rattle.std.proofs.Common.{◌≡◌, ℕ, ◌^◌, ◌<◌, ◌≤◌, Bool, true, false, cond, eqb, List, [], ◌∷◌, ◌++◌, length, get_or, Option, Some, None, refl, sym, ap, subst, ◌∙◌, append_assoc, arith, ◌⊎◌, inl, inr, ⊎_elim}
+use Rattle.std.specs.Prelude.{◌&&◌, ◌||◌, not, nat_le, bytes_eq, codes}
+use Rattle.std.specs.List.{list_all}
+use Rattle.std.specs.Char.{is_ascii_digit}
+use Rattle.std.specs.Fmt.{decimal}
+use Rattle.std.specs.Int.{IsInRange}
+use Rattle.std.specs.Str.Parse.{AllDigits}
+use Rattle.std.specs.Cmp.Lexicographic.{bytes_decides}
+use Rattle.std.proofs.lemmas.Bool.{ne_eqb, le-leb, cases_lt}
+use Rattle.std.proofs.lemmas.Fmt.{decimal_is_IsNumeral, first_decimal, decimal_digit}
+use Rattle.std.proofs.lemmas.Str.Parse.{digit_from_value}
+use Rattle.monitor_calls.specs.Names.{is_capital_or_digit}
+use Rattle.deck_model.specs.Forms.{Form, Version, Disk, Account, File, Terminal, Keys, End, AccountTexts, account_text, line_of, is_numeral, is_name, is_formed}
+use Rattle.deck_model.specs.Fronts.{Front, Nothing, Versioned, InAccounts, InTerminal, Whole, May}
+use Rattle.deck_model.specs.Refusals.{HasForm}
+use Rattle.text_cuts.specs.Cuts.{◌>>=◌, behind, cut}
+use Rattle.deck_model.specs.Reading.{or_else, version_in, disk_in, texts_in, account_in, file_in, terminal_in, keys_in, end_in, groups_in, session_in, form_at}
+use Rattle.text_cuts.proofs.CutLaws.{bind_some, guard_some, and_left, and_right, and_both, behind_takes, Lacks, cut_takes, cut_again}
+
+-- ---- numerals and names
+
+abbrev is_plain : List ℕ → Bool
+is_plain text = list_all is_ascii_digit text
+
+digits_are : (ds : List ℕ) → AllDigits 10 ds → is_plain ds ≡ true
+digits_are [] all = refl
+digits_are (d ∷ ds) all =
+    let range : IsInRange 48 57 d = digit_from_value d all.0 in
+    and_both (is_ascii_digit d) (is_plain ds) (and_both (nat_le 48 d) (nat_le d 57) (le-leb 48 d (omega arith)) (le-leb d 57 (omega arith))) (digits_are ds all.1)
+
+-- digits are a numeral where the first is no zero, or the only one
+numeral_from : (ds : List ℕ) → 0 < length ds → is_plain ds ≡ true → (48 < get_or ds 0 0) ⊎ (length ds ≡ 1) → is_numeral ds ≡ true
+numeral_from [] some plain first = absurd (omega arith)
+numeral_from (d ∷ ds) some plain first =
+    ⊎_elim
+    (λ (large : 48 < d).
+    let no : eqb d 48 ≡ false = ne_eqb d 48 (λ e. omega arith) in
+    rw (plain, no) refl)
+    (λ (one : length (d ∷ ds) ≡ 1).
+    let none : length ds ≡ 0 = omega arith in
+    rw (plain, none) (either (eqb d 48)))
+    first
+  where
+    either : (b : Bool) → (not b || true) ≡ true
+    either true = refl
+    either false = refl
+
+pub decimal_numeral : (n : ℕ) → n < 2 ^ 32 → is_numeral (decimal n) ≡ true
+decimal_numeral n small =
+    let is = decimal_is_IsNumeral n (omega arith) in
+    ⊎_elim
+    (λ (more : 0 < n). numeral_from (decimal n) is.0.0 (digits_are (decimal n) is.0.1) (inl (first_decimal n more (omega arith))))
+    (λ (zero_ : n ≤ 0).
+    let none : n ≡ 0 = omega arith in
+    let first : is_numeral (decimal 0) ≡ true = ap is_numeral (decimal_digit 0 (omega arith)) in
+    subst (λ (k : ℕ). is_numeral (decimal k) ≡ true) (sym none) first)
+    (cases_lt 0 n)
+
+-- a text all of whose bytes pass a test lacks a byte that fails it
+lacks_unlike : (test : ℕ → Bool) (byte : ℕ) → test byte ≡ false → (text : List ℕ) → list_all test text ≡ true → Lacks byte text
+lacks_unlike test byte fails [] all = tt
+lacks_unlike test byte fails (b ∷ text) all = (
+  ne_eqb b byte (λ e. let bad : test byte ≡ true = subst (λ x. test x ≡ true) e (and_left (test b) (list_all test text) all) in absurd cc),
+  lacks_unlike test byte fails text (and_right (test b) (list_all test text) all),
+)
+
+numeral_digits : (text : List ℕ) → is_numeral text ≡ true → is_plain text ≡ true
+numeral_digits [] e = absurd (cc)
+numeral_digits (d ∷ ds) e = and_left (is_plain (d ∷ ds)) (not (eqb d 48) || eqb (length ds) 0) e
+
+pub numeral_lacks : (byte : ℕ) → is_ascii_digit byte ≡ false → (text : List ℕ) → is_numeral text ≡ true → Lacks byte text
+numeral_lacks byte fails text e = lacks_unlike is_ascii_digit byte fails text (numeral_digits text e)
+
+-- ---- the fields of an account
+
+abbrev plain_text : AccountTexts → List ℕ
+plain_text t = codes "ACCOUNT " ++ (t.project ++ 44 ∷ (t.programmer ++ 32 ∷ (t.password ++ 32 ∷ t.limit)))
+
+text_is : (t : AccountTexts) → account_text t ≡ plain_text t
+text_is t = simp append_assoc
+
+some_is : {A : Type 0} (x y : A) → Some x ≡ Some y → x ≡ y
+some_is x y e = cc
+
+texts_take : (line : List ℕ) (t : AccountTexts) → texts_in line ≡ Some t → line ≡ account_text t
+unfolding texts_in
+texts_take line t e =
+    let a = bind_some (behind (codes "ACCOUNT ") line) (λ fields. cut 44 fields >>= λ project. cut 32 project.1 >>= λ programmer. cut 32 programmer.1 >>= λ password. Some (record { project = project.0; programmer = programmer.0; password = password.0; limit = password.1 })) t e in
+    let b = bind_some (cut 44 a.0) (λ project. cut 32 project.1 >>= λ programmer. cut 32 programmer.1 >>= λ password. Some (record { project = project.0; programmer = programmer.0; password = password.0; limit = password.1 })) t a.2 in
+    let c = bind_some (cut 32 b.0.1) (λ programmer. cut 32 programmer.1 >>= λ password. Some (record { project = b.0.0; programmer = programmer.0; password = password.0; limit = password.1 })) t b.2 in
+    let d = bind_some (cut 32 c.0.1) (λ password. Some (record { project = b.0.0; programmer = c.0.0; password = password.0; limit = password.1 })) t c.2 in
+    let made : AccountTexts = record { project = b.0.0; programmer = c.0.0; password = d.0.0; limit = d.0.1 } in
+    let rest : c.0.1 ≡ d.0.0 ++ 32 ∷ d.0.1 = cut_takes 32 c.0.1 d.0 d.1 in
+    let second : b.0.1 ≡ c.0.0 ++ 32 ∷ (d.0.0 ++ 32 ∷ d.0.1) = cut_takes 32 b.0.1 c.0 c.1 ∙ ap (λ t. c.0.0 ++ 32 ∷ t) rest in
+    let first : a.0 ≡ b.0.0 ++ 44 ∷ (c.0.0 ++ 32 ∷ (d.0.0 ++ 32 ∷ d.0.1)) = cut_takes 44 a.0 b.0 b.1 ∙ ap (λ t. b.0.0 ++ 44 ∷ t) second in
+    subst (λ (x : AccountTexts). line ≡ plain_text x) (some_is made t d.2) (behind_takes (codes "ACCOUNT ") line a.0 a.1 ∙ ap (λ t. codes "ACCOUNT " ++ t) first)
+    ∙ sym (text_is t)
+
+texts_again : (t : AccountTexts) → Lacks 44 t.project → Lacks 32 t.programmer → Lacks 32 t.password → texts_in (account_text t) ≡ Some t
+unfolding texts_in
+texts_again t p n w =
+    ap texts_in (text_is t) ∙ rw (cut_again 44 t.project (t.programmer ++ 32 ∷ (t.password ++ 32 ∷ t.limit)) p, cut_again 32 t.programmer (t.password ++ 32 ∷ t.limit) n, cut_again 32 t.password t.limit w) refl
+
+-- ---- what is found
+
+-- the form is well formed, and the line is its line
+record Took (line : List ℕ) (form : Form) : Type 0 where
+  formed : is_formed form ≡ true
+  line_is : line ≡ line_of form
+
+took_has : (front : Front) (line : List ℕ) (made form : Form) → May front made → Took line made → made ≡ form → HasForm front line form
+took_has front line made form may took same =
+    subst (λ (f : Form). HasForm front line f) same (record { may = may; is_formed = took.formed; line_is = took.line_is })
+
+version_take : (line : List ℕ) (form : Form) → version_in line ≡ Some form → Took line Version × (Version ≡ form)
+unfolding version_in
+version_take line form e =
+    let g = guard_some (bytes_eq line (codes "RSTS-DECK 1")) Version form e in
+    (record { formed = refl; line_is = (bytes_decides line (codes "RSTS-DECK 1")).0 g.0 }, g.1)
+
+end_take : (line : List ℕ) (form : Form) → end_in line ≡ Some form → Took line End × (End ≡ form)
+unfolding end_in
+end_take line form e =
+    let g = guard_some (bytes_eq line (codes "END")) End form e in
+    (record { formed = refl; line_is = (bytes_decides line (codes "END")).0 g.0 }, g.1)
+
+disk_take : (line : List ℕ) (form : Form) → disk_in line ≡ Some form → (blocks : List ℕ) × Took line (Disk blocks) × (Disk blocks ≡ form)
+unfolding disk_in
+disk_take line form e =
+    let a = bind_some (behind (codes "DISK ") line) (λ blocks. cond (is_numeral blocks) (Some (Disk blocks)) None) form e in
+    let g = guard_some (is_numeral a.0) (Disk a.0) form a.2 in
+    (a.0, record { formed = g.0; line_is = behind_takes (codes "DISK ") line a.0 a.1 }, g.1)
+
+abbrev are_texts : AccountTexts → Bool
+are_texts t = is_numeral t.project && is_numeral t.programmer && is_name t.password && is_numeral t.limit
+
+account_take : (line : List ℕ) (form : Form) → account_in line ≡ Some form → (t : AccountTexts) × Took line (Account t) × (Account t ≡ form)
+unfolding account_in
+account_take line form e =
+    let a = bind_some (texts_in line) (λ t. cond (are_texts t) (Some (Account t)) None) form e in
+    let g = guard_some (are_texts a.0) (Account a.0) form a.2 in
+    (a.0, record { formed = g.0; line_is = texts_take line a.0 a.1 }, g.1)
+
+file_take : (line : List ℕ) (form : Form) → file_in line ≡ Some form → (rest : List ℕ) × Took line (File rest) × (File rest ≡ form)
+unfolding file_in
+file_take line form e =
+    let a = bind_some (behind (codes "FILE ") line) (λ rest. Some (File rest)) form e in
+    (a.0, record { formed = refl; line_is = behind_takes (codes "FILE ") line a.0 a.1 }, some_is (File a.0) form a.2)
+
+terminal_take : (line : List ℕ) (form : Form) → terminal_in line ≡ Some form → (name : List ℕ) × Took line (Terminal name) × (Terminal name ≡ form)
+unfolding terminal_in
+terminal_take line form e =
+    let a = bind_some (behind (codes "TERMINAL ") line) (λ name. cond (is_name name) (Some (Terminal name)) None) form e in
+    let g = guard_some (is_name a.0) (Terminal a.0) form a.2 in
+    (a.0, record { formed = g.0; line_is = behind_takes (codes "TERMINAL ") line a.0 a.1 }, g.1)
+
+keys_take : (line : List ℕ) (form : Form) → keys_in line ≡ Some form → (keys : List ℕ) × Took line (Keys keys) × (Keys keys ≡ form)
+unfolding keys_in
+keys_take line form e =
+    let a = bind_some (behind (codes ">") line) (λ keys. Some (Keys keys)) form e in
+    (a.0, record { formed = refl; line_is = behind_takes (codes ">") line a.0 a.1 }, some_is (Keys a.0) form a.2)
+
+else_some : {A : Type 0} (a b : Option A) (y : A) → or_else a b ≡ Some y → (a ≡ Some y) ⊎ (b ≡ Some y)
+else_some None b y e = inr e
+else_some (Some a) b y e = inl e
+
+-- what is found is a form that the line has
+pub form_takes : (front : Front) (line : List ℕ) (form : Form) → form_at front line ≡ Some form → HasForm front line form
+unfolding form_at groups_in session_in
+form_takes Nothing line form e =
+    let v = version_take line form e in
+    took_has Nothing line Version form tt v.0 v.1
+form_takes Versioned line form e =
+    let d = disk_take line form e in
+    took_has Versioned line (Disk d.0) form tt d.1 d.2
+form_takes (InAccounts deck) line form e =
+    ⊎_elim
+    (λ h.
+    let a = account_take line form h in
+    took_has (InAccounts deck) line (Account a.0) form tt a.1 a.2)
+    (λ h.
+    ⊎_elim
+    (λ i.
+    let f = file_take line form i in
+    took_has (InAccounts deck) line (File f.0) form tt f.1 f.2)
+    (λ i.
+    ⊎_elim
+    (λ j.
+    let t = terminal_take line form j in
+    took_has (InAccounts deck) line (Terminal t.0) form tt t.1 t.2)
+    (λ j.
+    let v = end_take line form j in
+    took_has (InAccounts deck) line End form tt v.0 v.1)
+    (else_some (terminal_in line) (end_in line) form i))
+    (else_some (file_in line) (or_else (terminal_in line) (end_in line)) form h))
+    (else_some (account_in line) (or_else (file_in line) (or_else (terminal_in line) (end_in line))) form e)
+form_takes (InTerminal deck terminal) line form e =
+    ⊎_elim
+    (λ h.
+    let k = keys_take line form h in
+    took_has (InTerminal deck terminal) line (Keys k.0) form tt k.1 k.2)
+    (λ h.
+    ⊎_elim
+    (λ j.
+    let t = terminal_take line form j in
+    took_has (InTerminal deck terminal) line (Terminal t.0) form tt t.1 t.2)
+    (λ j.
+    let v = end_take line form j in
+    took_has (InTerminal deck terminal) line End form tt v.0 v.1)
+    (else_some (terminal_in line) (end_in line) form h))
+    (else_some (keys_in line) (or_else (terminal_in line) (end_in line)) form e)
+form_takes (Whole deck) line form e = absurd (cc)
+
+-- ---- what is there is found
+
+account_found : (t : AccountTexts) → are_texts t ≡ true → account_in (account_text t) ≡ Some (Account t)
+unfolding account_in
+account_found t formed =
+    let b = and_left (is_numeral t.project && is_numeral t.programmer && is_name t.password) (is_numeral t.limit) formed in
+    let a = and_left (is_numeral t.project && is_numeral t.programmer) (is_name t.password) b in
+    let p = numeral_lacks 44 refl t.project (and_left (is_numeral t.project) (is_numeral t.programmer) a) in
+    let n = numeral_lacks 32 refl t.programmer (and_right (is_numeral t.project) (is_numeral t.programmer) a) in
+    let w = lacks_unlike is_capital_or_digit 32 refl t.password (and_right (is_numeral t.project && is_numeral t.programmer) (is_name t.password) b) in
+    rw (texts_again t p n w, formed) refl
+
+pub form_again : (front : Front) (form : Form) → May front form → is_formed form ≡ true → form_at front (line_of form) ≡ Some form
+unfolding form_at groups_in session_in version_in disk_in account_in texts_in file_in terminal_in keys_in end_in
+form_again Nothing Version may formed = refl
+form_again Versioned (Disk blocks) may formed = rw formed refl
+form_again (InAccounts deck) (Account texts) may formed = rw (account_found texts formed) refl
+form_again (InAccounts deck) (File rest) may formed = refl
+form_again (InAccounts deck) (Terminal name) may formed = rw formed refl
+form_again (InAccounts deck) End may formed = refl
+form_again (InTerminal deck terminal) (Keys keys) may formed = refl
+form_again (InTerminal deck terminal) (Terminal name) may formed = rw formed refl
+form_again (InTerminal deck terminal) End may formed = refl
+form_again front form may formed = absurd may

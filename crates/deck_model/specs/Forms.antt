@@ -1,0 +1,60 @@
+-- The forms of the lines of a deck, with numbers and names of any size.
+use Rattle.std.specs.Prelude.{ℕ, Bool, true, false, ◌&&◌, ◌||◌, not, ◌==◌, List, [], ◌∷◌, ◌++◌, length, codes}
+use Rattle.std.specs.List.{list_all}
+use Rattle.std.specs.Char.{is_ascii_digit}
+use Rattle.monitor_calls.specs.Names.{is_capital_or_digit}
+
+-- the texts of an account's fields
+pub record AccountTexts : Type 0 where
+  pub project : List ℕ
+  pub programmer : List ℕ
+  pub password : List ℕ
+  pub limit : List ℕ
+
+-- RSTS-DECK 1; DISK and blocks; ACCOUNT and its fields; FILE and what stands behind it; TERMINAL and
+-- a name; the keys of a line; END
+pub data Form : Type 0 where
+  Version : Form
+  Disk : List ℕ → Form
+  Account : AccountTexts → Form
+  File : List ℕ → Form
+  Terminal : List ℕ → Form
+  Keys : List ℕ → Form
+  End : Form
+
+abbrev pub account_text : AccountTexts → List ℕ
+account_text texts =
+    codes "ACCOUNT " ++ (texts.project ++ codes "," ++ texts.programmer ++ codes " "
+    ++ texts.password ++ codes " " ++ texts.limit)
+
+-- the line of a form
+abbrev pub line_of : Form → List ℕ
+line_of Version = codes "RSTS-DECK 1"
+line_of (Disk blocks) = codes "DISK " ++ blocks
+line_of (Account texts) = account_text texts
+line_of (File rest) = codes "FILE " ++ rest
+line_of (Terminal name) = codes "TERMINAL " ++ name
+line_of (Keys keys) = codes ">" ++ keys
+line_of End = codes "END"
+
+-- 0, or digits without a leading zero
+abbrev pub is_numeral : List ℕ → Bool
+is_numeral [] = false
+is_numeral (digit ∷ digits) =
+    list_all is_ascii_digit (digit ∷ digits) && (not (digit == 48) || length digits == 0)
+
+-- capital letters and digits, or none
+abbrev pub is_name : List ℕ → Bool
+is_name text = list_all is_capital_or_digit text
+
+-- whether numbers stand where numbers have to, and names where names have to
+abbrev pub is_formed : Form → Bool
+is_formed Version = true
+is_formed (Disk blocks) = is_numeral blocks
+is_formed (Account texts) =
+    is_numeral texts.project && is_numeral texts.programmer && is_name texts.password
+    && is_numeral texts.limit
+is_formed (File rest) = true
+is_formed (Terminal name) = is_name name
+is_formed (Keys keys) = true
+is_formed End = true

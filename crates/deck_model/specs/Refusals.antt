@@ -1,0 +1,96 @@
+-- At which line, and for which cause, bytes that spell no deck are refused.
+use Rattle.std.specs.Prelude.{◌≡◌, ◌<◌, ◌+◌, ◌⊎◌, ℕ, Bool, true, ◌&&◌, not, nat_le, nat_lt, if◌then◌else◌, List, [], ◌∷◌, ◌++◌, length, Option, Some, None}
+use Rattle.basic_values.specs.Decimals.{is_number_between}
+use Rattle.basic_values.specs.declared.lists.TheConstants.{LINE_LENGTH}
+use Rattle.monitor_calls.specs.Names.{is_password, is_terminal_name}
+use Rattle.monitor_calls.specs.Volumes.{has_account}
+use Rattle.deck_model.specs.declared.faults.DeckCause.{DeckCause}
+use Rattle.deck_model.specs.declared.faults.DeckCause.TheVariants as cause
+use Rattle.deck_model.specs.Deck as model
+use Rattle.deck_model.specs.Deck.{Deck, has_terminal}
+use Rattle.deck_model.specs.Forms.{Form, Disk, Account, File, Terminal, Keys, AccountTexts, line_of, is_formed}
+use Rattle.deck_model.specs.Fronts.{Front, Nothing, InAccounts, InTerminal, Whole, front_lines, IsFront, May, entry_of}
+use Rattle.deck_model.specs.Lines.{whole_lines, cut_line}
+
+-- CAUSES OF A LINE
+
+-- the numbers and the password of an account are in their ranges
+abbrev pub is_in_range : AccountTexts → Bool
+is_in_range texts =
+    is_number_between 1 254 texts.project && is_number_between 0 254 texts.programmer
+    && is_password texts.password && is_number_between 1 16384 texts.limit
+
+abbrev pub terminals_in : Front → List model.Terminal
+terminals_in (InTerminal deck terminal) = deck.terminals ++ terminal ∷ []
+terminals_in front = []
+
+-- the first of the causes whose test holds
+abbrev pub first_cause : List (Bool × DeckCause) → Option DeckCause
+first_cause [] = None
+first_cause (test ∷ tests) = if test.0 then Some test.1 else first_cause tests
+
+abbrev pub account_causes : Deck → AccountTexts → List (Bool × DeckCause)
+account_causes deck texts =
+    (not (is_in_range texts), cause.Range)
+    ∷ (has_account deck.accounts (entry_of texts).account, cause.Double)
+    ∷ (nat_le 512 (length deck.accounts), cause.Space) ∷ []
+
+abbrev pub terminal_causes : List model.Terminal → List ℕ → List (Bool × DeckCause)
+terminal_causes terminals name =
+    (not (is_terminal_name name), cause.Range)
+    ∷ (has_terminal terminals name, cause.Double)
+    ∷ (nat_le 63 (length terminals), cause.Space) ∷ []
+
+abbrev pub keys_causes : List ℕ → List (Bool × DeckCause)
+keys_causes keys = (nat_lt LINE_LENGTH (length keys), cause.Range) ∷ []
+
+-- why a line of a form that may stand there is refused, if it is
+abbrev pub causes : Front → Form → List (Bool × DeckCause)
+causes front (Disk blocks) = (not (is_number_between 1 16384 blocks), cause.Range) ∷ []
+causes (InAccounts deck) (Account texts) = account_causes deck texts
+causes front (File rest) = (true, cause.Stage) ∷ []
+causes front (Terminal name) = terminal_causes (terminals_in front) name
+causes front (Keys keys) = keys_causes keys
+causes front form = []
+
+-- the cause of a line that has no form that may stand there
+abbrev pub shape_cause : Front → DeckCause
+shape_cause Nothing = cause.Version
+shape_cause front = cause.Shape
+
+-- the line has a form that may stand there
+pub record HasForm (front : Front) (line : List ℕ) (form : Form) : Type 0 where
+  pub may : May front form
+  pub is_formed : is_formed form ≡ true
+  pub line_is : line ≡ line_of form
+
+-- no form that may stand there is the line's
+abbrev pub IsUnformed : Front → List ℕ → DeckCause → Type 0
+IsUnformed front line why = ((form : Form) → HasForm front line form → ⊥) × (why ≡ shape_cause front)
+
+-- it has a form, for which a cause applies
+abbrev pub IsWrong : Front → List ℕ → DeckCause → Type 0
+IsWrong front line why =
+    (form : Form) × HasForm front line form × (first_cause (causes front form) ≡ Some why)
+
+-- no deck can have the line behind this front, for this cause
+abbrev pub IsRefused : Front → List ℕ → DeckCause → Type 0
+IsRefused front line why = IsUnformed front line why ⊎ IsWrong front line why
+
+-- THE REFUSED LINE
+
+-- the lines behind a front go on by a refused line; or there are none, and the input is cut there
+abbrev pub StopsAt : Front → List (List ℕ) → List ℕ → DeckCause → Type 0
+StopsAt front (line ∷ lines) cut why = IsRefused front line why
+StopsAt (Whole deck) [] cut why = (0 < length cut) × (why ≡ cause.Cut)
+StopsAt front [] cut why = why ≡ cause.Cut
+
+-- The lines of the bytes begin by a front of a deck, and the next line, of this number from 1, is one
+-- that no deck can have there, for this cause
+pub record Refused (bytes : List ℕ) (line : ℕ) (why : DeckCause) : Type 0 where
+  pub front : Front
+  pub rest : List (List ℕ)
+  pub is_front : IsFront front
+  pub lines_are : whole_lines bytes ≡ front_lines front ++ rest
+  pub line_is : line ≡ length (front_lines front) + 1
+  pub stops : StopsAt front rest (cut_line bytes) why

@@ -1,0 +1,4 @@
+pub mod FrontLemmas
+pub mod LineLemmas
+pub mod NameLemmas
+pub mod VerdictLemmas

@@ -1,0 +1,98 @@
+-- What was read, as the definitions have it, and what reading answers.
+use Rattle.std.specs.Prelude.{◌≡◌, ℕ, Bool, bytes_eq, List, [], ◌∷◌, Option, Some, None, Result, Ok, Err, map, ⊤}
+use Rattle.std.specs.List.{list_any}
+use Rattle.basic_values.specs.declared.failures.Trouble.{Trouble}
+use Rattle.basic_values.specs.declared.failures.Trouble.TheVariants as trouble
+use Rattle.deck_model.specs.declared.faults.DeckCause.{DeckCause}
+use Rattle.deck_model.specs.declared.faults.DeckFault.{DeckFault}
+use Rattle.deck_model.specs.Deck as model
+use Rattle.deck_model.specs.Forms as forms
+use Rattle.deck_model.specs.Fronts as fronts
+use Rattle.deck_model.specs.Lines.{whole_lines, cut_line}
+use Rattle.deck_model.specs.Reading.{Verdict, Spells, Refuses}
+use Rattle.deck_reader.specs.declared.decks.BareVolume.{BareVolume}
+use Rattle.deck_reader.specs.declared.decks.Deck.{Deck}
+use Rattle.deck_reader.specs.declared.decks.Terminal.{Terminal}
+use Rattle.deck_reader.specs.declared.failures.ReadError.{ReadError}
+use Rattle.deck_reader.specs.declared.failures.ReadError.TheVariants as errors
+use Rattle.deck_reader.specs.declared.forms.AccountTexts.{AccountTexts}
+use Rattle.deck_reader.specs.declared.forms.GroupForm.{GroupForm}
+use Rattle.deck_reader.specs.declared.forms.GroupForm.TheVariants as group
+use Rattle.deck_reader.specs.declared.forms.SessionForm.{SessionForm}
+use Rattle.deck_reader.specs.declared.forms.SessionForm.TheVariants as session
+use Rattle.deck_reader.specs.declared.fronts.Front.{Front}
+use Rattle.deck_reader.specs.declared.fronts.Front.TheVariants as code
+
+abbrev pub terminal_of : Terminal → model.Terminal
+terminal_of terminal = record { name = terminal.name; keys = terminal.keys.items }
+
+-- whether a terminal has this name
+unfoldable pub is_named : List Terminal → List ℕ → Bool
+is_named terminals name = list_any (λ (terminal : Terminal). bytes_eq terminal.name name) terminals
+
+-- a deck without where it lies in memory
+abbrev pub deck_of : Deck → model.Deck
+deck_of deck = record {
+  blocks = deck.volume.blocks;
+  accounts = deck.volume.accounts.items;
+  terminals = map terminal_of deck.terminals.items;
+}
+
+-- a deck of which only the disk and the accounts were read
+abbrev pub accounts_of : BareVolume → model.Deck
+accounts_of bare =
+    record { blocks = bare.volume.blocks; accounts = bare.volume.accounts.items; terminals = [] }
+
+abbrev pub front_of : Front → fronts.Front
+front_of code.Nothing = fronts.Nothing
+front_of code.Versioned = fronts.Versioned
+front_of (code.InAccounts bare) = fronts.InAccounts (accounts_of bare)
+front_of (code.InTerminal deck terminal) = fronts.InTerminal (deck_of deck) (terminal_of terminal)
+front_of (code.Whole deck) = fronts.Whole (deck_of deck)
+
+abbrev pub texts_seen : AccountTexts → forms.AccountTexts
+texts_seen texts = record {
+  project = texts.project.now;
+  programmer = texts.programmer.now;
+  password = texts.password.now;
+  limit = texts.limit.now;
+}
+
+abbrev pub group_seen : GroupForm → forms.Form
+group_seen (group.Account texts) = forms.Account (texts_seen texts)
+group_seen (group.File rest) = forms.File rest.now
+group_seen (group.Terminal name) = forms.Terminal name.now
+group_seen group.End = forms.End
+
+abbrev pub session_seen : SessionForm → forms.Form
+session_seen (session.Keys keys) = forms.Keys keys.now
+session_seen (session.Terminal name) = forms.Terminal name.now
+session_seen session.End = forms.End
+
+-- the first line, and the bytes behind it; or there is no whole line
+abbrev pub CutsLine : {X : Type 0} → (X → List ℕ × List ℕ) → List ℕ → Option X → Type 0
+CutsLine view bytes None = (whole_lines bytes ≡ []) × (cut_line bytes ≡ bytes)
+CutsLine view bytes (Some x) =
+    (whole_lines bytes ≡ (view x).0 ∷ whole_lines (view x).1)
+    × (cut_line bytes ≡ cut_line (view x).1)
+
+-- what was answered, seen by view, is what reading answers, unless memory ran out
+abbrev pub Decides : {X Y : Type 0} → (X → Y) → Result X ReadError → Result Y DeckCause → Type 0
+Decides view (Ok x) read = read ≡ Ok (view x)
+Decides view (Err errors.Memory) read = ⊤
+Decides view (Err (errors.Refused why)) read = read ≡ Err why
+
+abbrev pub trouble_at : ReadError → ℕ → Trouble DeckFault
+trouble_at errors.Memory line = trouble.NoMemory
+trouble_at (errors.Refused why) line = trouble.Refused (record { line = line; cause = why })
+
+-- the line and the cause of a refusal
+abbrev pub IfRefused : Result Deck (Trouble DeckFault) → (DeckFault → Type 0) → Type 0
+IfRefused (Err (trouble.Refused fault)) P = P fault
+IfRefused answer P = Unit {0}
+
+-- what was answered is the verdict, unless memory ran out
+abbrev pub Tells : Result Deck (Trouble DeckFault) → Verdict → Type 0
+Tells (Ok deck) v = v ≡ Spells (deck_of deck)
+Tells (Err (trouble.Refused fault)) v = v ≡ Refuses fault.line fault.cause
+Tells (Err trouble.NoMemory) v = ⊤

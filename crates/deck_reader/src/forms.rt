@@ -1,0 +1,150 @@
+//! The forms of lines: which words stand in front, and numbers and names where they have to.
+
+ghost use Rattle.std.specs.Prelude.{◌≡◌};
+ghost use Rattle.std.specs.List.{list_all};
+ghost use Rattle.std.specs.Char.{is_ascii_digit};
+ghost use Rattle.deck_model.specs.Forms.{Disk, Account, Terminal, is_numeral, is_name};
+ghost use Rattle.deck_model.specs.Reading.{disk_in, texts_in, account_in, terminal_in, groups_in, session_in};
+ghost use Rattle.text_cuts.specs.Cuts.{Finds};
+ghost use Rattle.deck_reader.specs.Seen.{texts_seen, group_seen, session_seen};
+
+use text_cuts::{behind, cut};
+
+/// The texts of an account's fields.
+#[derive(Clone, Copy)]
+pub(crate) struct AccountTexts<'a> {
+    pub(crate) project: &'a [u8],
+    pub(crate) programmer: &'a [u8],
+    pub(crate) password: &'a [u8],
+    pub(crate) limit: &'a [u8],
+}
+
+/// The form of a line among those of accounts.
+#[derive(Clone, Copy)]
+pub(crate) enum GroupForm<'a> {
+    Account(AccountTexts<'a>),
+    File(&'a [u8]),
+    Terminal(&'a [u8]),
+    End,
+}
+
+/// The form of a line behind a terminal.
+#[derive(Clone, Copy)]
+pub(crate) enum SessionForm<'a> {
+    Keys(&'a [u8]),
+    Terminal(&'a [u8]),
+    End,
+}
+
+/// The number of blocks of a DISK line.
+#[tactic(auto, unfolding(deck_model::specs::Reading::disk_in))]
+pub(crate) fn disk_blocks(line: &[u8]) -> Option<&[u8]>
+    ensures { Finds (λ blocks. Disk blocks.now) result (disk_in line.now) }
+{
+    let blocks = behind(b"DISK ", line)?;
+    if is_numeral(blocks) {
+        Some(blocks)
+    } else {
+        None
+    }
+}
+
+/// The form that a line has where accounts may stand.
+#[tactic(auto, unfolding(deck_model::specs::Reading::groups_in, deck_model::specs::Reading::file_in, deck_model::specs::Reading::end_in))]
+pub(crate) fn group_form(line: &[u8]) -> Option<GroupForm<'_>>
+    ensures { Finds group_seen result (groups_in line.now) }
+{
+    if let Some(texts) = account_texts(line) {
+        return Some(GroupForm::Account(texts));
+    }
+    if let Some(rest) = behind(b"FILE ", line) {
+        return Some(GroupForm::File(rest));
+    }
+    if let Some(name) = terminal_name(line) {
+        return Some(GroupForm::Terminal(name));
+    }
+    if line == b"END".as_slice() {
+        Some(GroupForm::End)
+    } else {
+        None
+    }
+}
+
+/// The form that a line has where keys may stand.
+#[tactic(auto, unfolding(deck_model::specs::Reading::session_in, deck_model::specs::Reading::keys_in, deck_model::specs::Reading::end_in))]
+pub(crate) fn session_form(line: &[u8]) -> Option<SessionForm<'_>>
+    ensures { Finds session_seen result (session_in line.now) }
+{
+    if let Some(keys) = behind(b">", line) {
+        return Some(SessionForm::Keys(keys));
+    }
+    if let Some(name) = terminal_name(line) {
+        return Some(SessionForm::Terminal(name));
+    }
+    if line == b"END".as_slice() {
+        Some(SessionForm::End)
+    } else {
+        None
+    }
+}
+
+/// The fields of an ACCOUNT line.
+#[tactic(auto, unfolding(deck_model::specs::Reading::account_in))]
+fn account_texts(line: &[u8]) -> Option<AccountTexts<'_>>
+    ensures { Finds (λ texts. Account (texts_seen texts)) result (account_in line.now) }
+{
+    let texts = fields_of(line)?;
+    let is_formed = is_numeral(texts.project)
+        && is_numeral(texts.programmer)
+        && is_name(texts.password)
+        && is_numeral(texts.limit);
+    if is_formed { Some(texts) } else { None }
+}
+
+#[tactic(auto, unfolding(deck_model::specs::Reading::texts_in))]
+fn fields_of(line: &[u8]) -> Option<AccountTexts<'_>>
+    ensures { Finds texts_seen result (texts_in line.now) }
+{
+    let (project, rest) = cut(b',', behind(b"ACCOUNT ", line)?)?;
+    let (programmer, rest) = cut(b' ', rest)?;
+    let (password, limit) = cut(b' ', rest)?;
+    Some(AccountTexts {
+        project,
+        programmer,
+        password,
+        limit,
+    })
+}
+
+/// The name in a TERMINAL line.
+#[tactic(auto, unfolding(deck_model::specs::Reading::terminal_in))]
+fn terminal_name(line: &[u8]) -> Option<&[u8]>
+    ensures { Finds (λ name. Terminal name.now) result (terminal_in line.now) }
+{
+    let name = behind(b"TERMINAL ", line)?;
+    if is_name(name) { Some(name) } else { None }
+}
+
+/// Whether the text is 0, or digits without a leading zero.
+fn is_numeral(text: &[u8]) -> bool
+    ensures { result ≡ is_numeral text.now }
+{
+    match text {
+        [] => false,
+        [first, rest @ ..] => is_digits(text) && (*first != b'0' || rest.is_empty()),
+    }
+}
+
+fn is_digits(text: &[u8]) -> bool
+    ensures { result ≡ list_all is_ascii_digit text.now }
+{
+    text.iter().all(|byte| byte.is_ascii_digit())
+}
+
+/// Whether the text is capital letters and digits, or empty.
+fn is_name(text: &[u8]) -> bool
+    ensures { result ≡ is_name text.now }
+{
+    text.iter()
+        .all(|byte| byte.is_ascii_uppercase() || byte.is_ascii_digit())
+}

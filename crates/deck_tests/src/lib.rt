@@ -1,0 +1,9 @@
+//! Tests of the reader of decks and of what is written, by their public calls alone.
+#![tactic(auto)]
+
+#[cfg(test)]
+mod causes;
+#[cfg(test)]
+mod decks;
+#[cfg(test)]
+mod histories;
