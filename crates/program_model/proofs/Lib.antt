@@ -1,0 +1,4 @@
+pub mod Rows
+pub mod RefusalRows
+pub mod SoundnessLemmas
+mod BoundLemmas

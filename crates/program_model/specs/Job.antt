@@ -1,0 +1,68 @@
+-- What a job keeps while its program runs, and what a statement leads to.
+use Rattle.std.specs.Prelude.{ℕ, List, [], ℤ, pos, if◌then◌else◌, nat_le, Result, Ok, Err, length}
+use Rattle.basic_values.specs.declared.texts.TheConstants.{MOST_BYTES}
+use Rattle.basic_values.specs.declared.failures.Halt.TheVariants.{TooLong}
+use Rattle.program_model.specs.declared.homes.Home.{Home}
+use Rattle.error_trap.specs.declared.trap.Trap.{Trap}
+use Rattle.job_memory.specs.Memory.{Memory}
+use Rattle.job_model.specs.Act.{Act, Gives, Breaks, Faulted, Halted}
+
+pub data Value : Type 0 where
+  Number : ℤ → Value
+  Text : List ℕ → Value
+
+-- a value that is known to be a number, and one that is known to be a text
+abbrev pub number : Value → ℤ
+number (Number n) = n
+number (Text t) = pos 0
+
+abbrev pub text : Value → List ℕ
+text (Number n) = []
+text (Text t) = t
+
+-- a running call of a function: its result so far, and how many return places were made before it
+pub record Frame : Type 0 where
+  pub result : Value
+  pub base : ℕ
+
+-- R is how the place of a statement is kept.
+pub record Job (R : Type 0) : Type 0 where
+  pub memory : Memory
+  -- the buffers of channels 1 to 12
+  pub buffers : List (List ℕ)
+  -- all bytes that were written, and the key lines that are left
+  pub screen : List ℕ
+  pub keys : List (List ℕ)
+  -- its place is the number of a statement
+  pub trap : Trap
+  -- the statements behind which RETURN goes on, the newest first
+  pub returns : List R
+  -- limit and step of each FOR
+  pub limits : List (ℤ × ℤ)
+  -- the number of the DATA item that READ takes next
+  pub item : ℕ
+  -- the line of the statement that runs, in a body too; 0 in immediate mode
+  pub line : ℕ
+  -- the statement of a line that runs at main level
+  pub home : Home
+  -- the running calls, the innermost first
+  pub frames : List Frame
+
+-- The ways to leave a program that are no error: its end, and a STOP. CONT goes on behind the STOP, or where that stands in a body behind the statement that runs at main level.
+pub data Leaving (R : Type 0) : Type 0 where
+  Ended : Leaving R
+  Stopped : R → Leaving R
+  StoppedInside : Home → Leaving R
+
+-- what a part of a program does
+abbrev pub Deed : Type 0 → Type 0 → Type 0
+Deed R A = Act (Leaving R) (Job R) A
+
+-- A text is made, where it is not too long.
+abbrev pub text_made : {R : Type 0} → List ℕ → Job R → Deed R Value
+text_made bytes j = if nat_le (length bytes) MOST_BYTES then Gives (Text bytes) j else Breaks (Halted TooLong) j
+
+-- a value, or the number of an error
+abbrev pub or_fault : {R A : Type 0} → Result A ℕ → Job R → Deed R A
+or_fault (Ok value) j = Gives value j
+or_fault (Err fault) j = Breaks (Faulted fault) j

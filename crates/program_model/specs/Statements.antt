@@ -1,0 +1,88 @@
+-- What each statement does at its position, and to what it leads.
+use Rattle.std.specs.Prelude.{ℕ, Bool, true, false, if◌then◌else◌, Option, Some, None}
+use Rattle.basic_tree.specs.Trees.{Tree, ModifierTree, If, Unless, While, Until, ForModifier, StatementTree, IfThen, IfGoto, Modified, For, Next, FnEnd, Data, Dim, Def, Let, Result as ResultOf, Print, Input, InputLine, Read, Restore, Goto, Gosub, Return, OnGoto, OnGosub, OnErrorGoto, Resume, Stop, End}
+use Rattle.job_model.specs.Act.{Gives, Breaks, Left, ◌then◌}
+use Rattle.program_model.specs.Program.{Program, Position, whole, inside, items_of, behind_body, next_of, for_of, behind_statement, loop_place}
+use Rattle.program_model.specs.Job.{Value, number, Job, Ended, Stopped}
+use Rattle.program_model.specs.Operators.{is_true}
+use Rattle.program_model.specs.Expressions.{Around, value_of}
+use Rattle.program_model.specs.Targets.{stored_to_all}
+use Rattle.program_model.specs.Control.{Onward, At, Behind, Leave, Doing, goes_on, at_line, at_else, chosen, on_chosen, home_of, runs_at, kept, returned}
+use Rattle.program_model.specs.Loops.{begins_loop, next_turn}
+use Rattle.program_model.specs.Reading.{read_all}
+use Rattle.program_model.specs.Printing.{print_all}
+use Rattle.program_model.specs.Input.{input, input_line}
+use Rattle.program_model.specs.Calls.{answered}
+use Rattle.program_model.specs.Traps.{sets_handler, resumes}
+
+abbrev pub goes_to : Onward → Job Position → Doing Onward
+goes_to o j = Gives o j
+
+-- one way where it is true, and another
+abbrev pub either_way : Onward → Onward → Bool → Onward
+either_way o other true = o
+either_way o other false = other
+
+abbrev pub by_truth : Onward → Onward → Value → Job Position → Doing Onward
+by_truth o other v j = Gives (either_way o other (is_true v)) j
+
+abbrev pub by_turn : Onward → Onward → Bool → Job Position → Doing Onward
+by_turn o other has_turn j = Gives (either_way o other has_turn) j
+
+-- the FOR that a NEXT closes, by its place; and the statement behind a FOR or NEXT
+abbrev pub place_of_for : Program → Option ℕ → ℕ
+place_of_for program (Some m) = loop_place program (whole m)
+place_of_for program None = 0
+
+abbrev pub behind_pair : Program → Option ℕ → Onward
+behind_pair program m = At (whole (behind_statement program m))
+
+-- a DEF is passed over, with its body where it has one
+abbrev pub past_def : Program → Position → Option Tree → Onward
+past_def program q (Some value) = Behind q
+past_def program q None = At (whole (behind_body program q.statement))
+
+-- a modifier: whether the statement before it begins
+abbrev pub modified : Around Position → Program → Position → ModifierTree → Job Position → Doing Onward
+modified around program q (If e) j = value_of around e j then by_truth (At (inside q true)) (Behind q)
+modified around program q (Unless e) j = value_of around e j then by_truth (Behind q) (At (inside q true))
+modified around program q (While e) j = value_of around e j then by_truth (At (inside q true)) (Behind q)
+modified around program q (Until e) j = value_of around e j then by_truth (Behind q) (At (inside q true))
+modified around program q (ForModifier variable from to step) j =
+    begins_loop around variable (loop_place program q) from to step j then by_turn (At (inside q true)) (Behind q)
+
+-- Statements of later stages lead on: no line with one of them runs yet. Each of them gets a line of its own here.
+abbrev pub does : Around Position → Program → Position → StatementTree → Job Position → Doing Onward
+does around program q (IfThen e clause otherwise) j = value_of around e j then by_truth (At (inside q true)) (at_else q otherwise)
+does around program q (IfGoto e n otherwise) j = value_of around e j then by_truth (at_line program n) (at_else q otherwise)
+does around program q (Modified s modifier) j = modified around program q modifier j
+does around program q (For variable from to step) j =
+    begins_loop around variable (loop_place program q) from to step j
+    then by_turn (Behind q) (behind_pair program (next_of program q.statement))
+does around program q (Next variable) j =
+    next_turn variable (place_of_for program (for_of program q.statement)) j
+    then by_turn (behind_pair program (for_of program q.statement)) (Behind q)
+does around program q FnEnd j = Gives Leave j
+does around program q (Data items) j = goes_on q j
+does around program q (Dim shapes) j = goes_on q j
+does around program q (Def f parameters value) j = Gives (past_def program q value) j
+does around program q (Let word targets e) j =
+    value_of around e j then λ v j. stored_to_all around targets v j then λ _ j. goes_on q j
+does around program q (ResultOf f e) j = value_of around e j then λ v j. goes_on q (answered v j)
+does around program q (Print None items last) j = print_all around items last j then λ _ j. goes_on q j
+does around program q (Input None prompt targets) j = input around prompt targets j then λ _ j. goes_on q j
+does around program q (InputLine None variable) j = input_line variable j then λ _ j. goes_on q j
+does around program q (Read targets) j = read_all around (items_of program) targets j then λ _ j. goes_on q j
+does around program q Restore j = goes_on q (record j { item = 0 })
+does around program q (Goto apart n) j = Gives (at_line program n) j
+does around program q (Gosub apart n) j = kept q (goes_to (at_line program n)) j
+does around program q Return j = returned (λ place j. Gives (Behind place) (runs_at (home_of program place.statement) j)) j.returns j
+does around program q (OnGoto e lines) j =
+    value_of around e j then λ v j. on_chosen (chosen (number v) lines) (λ n j. Gives (at_line program n) j) j
+does around program q (OnGosub e lines) j =
+    value_of around e j then λ v j. on_chosen (chosen (number v) lines) (λ n j. kept q (goes_to (at_line program n)) j) j
+does around program q (OnErrorGoto n) j = sets_handler n (goes_on q) j
+does around program q (Resume n) j = resumes (λ m. At (whole m)) (at_line program) n j
+does around program q Stop j = Breaks (Left (Stopped q)) j
+does around program q End j = Breaks (Left Ended) j
+does around program q s j = goes_on q j
