@@ -6,7 +6,8 @@ use Rattle.basic_tree.specs.MachineJudge.{judge_of}
 use Rattle.job_model.specs.Act.{Gives, ◌then◌}
 use Rattle.job_model.specs.Play.{at_start}
 use Rattle.job_model.specs.Follow.{Follows}
-use Rattle.job_model.specs.Talk.{Session, Step, says, TakesKey, line_acts, with_next, session, whole_session, opening, leave}
+use Rattle.line_editor.specs.Lines.{Lines}
+use Rattle.session_model.specs.Talk.{Session, Step, says, TakesKey, line_acts, with_next, session, whole_session, opening, leave, no_name}
 use Rattle.command_level.specs.declared.session.Onward.{Onward}
 use Rattle.command_level.specs.Onwards.{goes}
 use Rattle.job_model.proofs.Follows.{follows_stay, follows_on, follows_from, follows_then, follows_is, follows_same, follows_lost, follows_none, follows_nothing}
@@ -37,14 +38,19 @@ pub record LineDone {P W : Type 0} (who : P → W) (log : P → List Pair) (old 
   pub enough : length left ≤ most
   pub follows : Follows who log old new at_start at_start (whole_session judge_of keys) (option_map (λ step. step then λ _ s. session judge_of most s) after)
 
+-- a session that nobody has logged in to
+abbrev pub started : List ℕ → List (List ℕ) → Lines → Session
+started screen typed lines = record { account = None; screen = screen; keys = typed; name = no_name; lines = lines }
+
 module _ {P W : Type 0} {who : P → W} {log : P → List Pair} where
   pub comes_first : {p : P} (keys : List (List ℕ)) → Comes who log p p keys (opening keys)
   comes_first keys = record { most = length keys; enough = (let h : length keys ≤ length keys = omega arith in h); follows = follows_stay }
 
-  pub opens : (p : P) (keys : List (List ℕ)) (screen : List ℕ) (typed : List (List ℕ)) → screen ≡ [] → typed ≡ keys → Comes who log p p keys (record { account = None; screen = screen; keys = typed })
-  opens p keys screen typed blank same =
-      subst (λ (typed : List (List ℕ)). Comes who log p p keys (record { account = None; screen = screen; keys = typed })) (sym same)
-      (subst (λ (screen : List ℕ). Comes who log p p keys (record { account = None; screen = screen; keys = keys })) (sym blank) (comes_first keys))
+  pub opens : (p : P) (keys : List (List ℕ)) (screen : List ℕ) (typed : List (List ℕ)) (lines : Lines) → screen ≡ [] → typed ≡ keys → lines ≡ [] → Comes who log p p keys (started screen typed lines)
+  opens p keys screen typed lines blank same none =
+      subst (λ (lines : Lines). Comes who log p p keys (started screen typed lines)) (sym none)
+      (subst (λ (typed : List (List ℕ)). Comes who log p p keys (started screen typed [])) (sym same)
+      (subst (λ (screen : List ℕ). Comes who log p p keys (started screen keys [])) (sym blank) (comes_first keys)))
 
   line_done : {p q r : P} {after : Option Step} (keys : List (List ℕ)) (line : List ℕ) (s t : Session) → TakesKey s t (Some line) → Comes who log p q keys s → Follows who log q r at_start at_start (line_acts judge_of line t) after → LineDone who log p r keys t.keys after
   line_done {p} {q} {r} {after} keys line s t takes so_far this = counted so_far.most so_far.enough so_far.follows

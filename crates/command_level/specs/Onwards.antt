@@ -2,7 +2,7 @@
 use Rattle.command_level.specs.declared.session.Onward.{Onward}
 use Rattle.command_level.specs.declared.session.Onward.TheVariants as onward
 use Rattle.job_model.specs.Act.{Gives, Breaks, Gone, Left}
-use Rattle.job_model.specs.Talk.{Session, Step, Ended}
+use Rattle.session_model.specs.Talk.{Session, Step, Ended}
 
 -- what is left of a line behind which the session is in this state
 abbrev pub goes : Onward → Session → Step

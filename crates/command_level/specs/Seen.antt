@@ -1,5 +1,5 @@
 -- The types of the code as the definitions see them.
-use Rattle.std.specs.Prelude.{ℕ, ◌≤◌, List, map, length}
+use Rattle.std.specs.Prelude.{ℕ, ◌≤◌, List, map, length, Option, Some, None}
 use Rattle.std.specs.Borrow.{Bor}
 use Rattle.std.specs.Option.{option_map}
 use Rattle.basic_values.specs.declared.lists.TheConstants.{LINE_LENGTH}
@@ -7,14 +7,28 @@ use Rattle.basic_tree.specs.LineVerdicts as grammar
 use Rattle.command_level.specs.declared.logins.LoginForm.{LoginForm}
 use Rattle.command_level.specs.declared.commands.Command.{Command}
 use Rattle.command_level.specs.declared.commands.Command.TheVariants as code
+use Rattle.command_level.specs.declared.commands.Naming.{Naming}
+use Rattle.command_level.specs.declared.commands.Naming.TheVariants as naming
+use Rattle.command_level.specs.declared.ranges.Range.{Range}
 use Rattle.command_level.specs.declared.judging.Verdict.{Verdict}
 use Rattle.command_level.specs.declared.judging.Verdict.TheVariants as verdict
 use Rattle.command_level.specs.declared.session.Session.{Session}
-use Rattle.job_model.specs.Commands as model
-use Rattle.job_model.specs.Talk as talk
+use Rattle.line_editor.specs.declared.text.EditRefusal.{EditRefusal}
+use Rattle.line_editor.specs.declared.text.EditRefusal.TheVariants as edit
+use Rattle.session_model.specs.Texts.{illegal_line_number, line_too_long, too_many_lines, refusal_text}
+use Rattle.session_model.specs.Commands as model
+use Rattle.session_model.specs.Talk as talk
 
 abbrev pub login_seen : LoginForm → model.Login
 login_seen form = record { account = form.account; password = form.password }
+
+abbrev pub range_seen : Range → model.Range
+range_seen range = record { from = range.from; to = range.to }
+
+abbrev pub naming_seen : Naming → model.Naming
+naming_seen naming.Nameless = model.Nameless
+naming_seen (naming.Named name) = model.Named name
+naming_seen naming.Misnamed = model.Misnamed
 
 -- without where the bytes of a line lie in memory
 abbrev pub command_seen : Command → model.Command
@@ -22,13 +36,16 @@ command_seen (code.Hello form) = model.Hello (option_map login_seen form)
 command_seen code.Bye = model.Bye
 command_seen code.BadBye = model.BadBye
 command_seen code.Idle = model.Idle
+command_seen (code.New naming) = model.New (naming_seen naming)
+command_seen (code.Rename naming) = model.Rename (naming_seen naming)
+command_seen (code.ListLines with_name range) = model.ListLines with_name (option_map range_seen range)
+command_seen (code.Delete range) = model.Delete (option_map range_seen range)
 command_seen code.Later = model.Later
-command_seen (code.Numbered statement) = model.Numbered statement.now
+command_seen (code.Numbered numbered) = model.Numbered numbered.number numbered.rest.now
 command_seen (code.Immediate statement) = model.Immediate statement.now
 
 -- what is to be judged is no longer than a line may be
 abbrev pub IsShort : model.Command → Type 0
-IsShort (model.Numbered statement) = length statement ≤ LINE_LENGTH
 IsShort (model.Immediate statement) = length statement ≤ LINE_LENGTH
 IsShort other = Unit {0}
 
@@ -41,6 +58,23 @@ without_tree (grammar.RefusedFor cause) = verdict.RefusedFor cause
 abbrev pub words_seen : List (Bor (List ℕ)) → List (List ℕ)
 words_seen words = map (λ word. word.now) words
 
+-- the name that the program was given, or the one that it has without
+abbrev pub name_seen : Option (List ℕ) → List ℕ
+name_seen None = talk.no_name
+name_seen (Some name) = name
+
 abbrev pub seen : Session → talk.Session
-seen session =
-    record { account = session.account; screen = session.screen; keys = session.keys }
+seen session = record {
+  account = session.account;
+  screen = session.screen;
+  keys = session.keys;
+  name = name_seen session.name;
+  lines = session.text;
+}
+
+-- what a refused program line shows
+abbrev pub edit_text : EditRefusal → List ℕ
+edit_text edit.Number = illegal_line_number
+edit_text edit.TooLong = line_too_long
+edit_text (edit.Line refusal) = refusal_text refusal.cause
+edit_text edit.TooMany = too_many_lines

@@ -9,11 +9,11 @@ ghost use Rattle.std.specs.Prelude.{◌≡◌, ◌≤◌, ℕ, List, length, IfO
 ghost use Rattle.monitor_calls.specs.Pairs.{Pair, requests, replies, Grew};
 ghost use Rattle.monitor_calls.specs.declared.calls.Request.TheVariants as request;
 ghost use Rattle.basic_tree.specs.MachineJudge.{judge_of};
-ghost use Rattle.job_model.specs.Commands.{print_of};
+ghost use Rattle.session_model.specs.Commands.{print_of};
 ghost use Rattle.job_model.specs.Asking.{counts_as};
 ghost use Rattle.job_model.specs.Play.{at_start};
 ghost use Rattle.job_model.specs.Follow.{Follows, unless_memory};
-ghost use Rattle.job_model.specs.Talk.{answered, entered, hello, log_out, numbered_text, immediate_text, sum_text, visitor_acts, user_acts, line_acts, leave, TakesKey, IsTalk, BeginsTalk};
+ghost use Rattle.session_model.specs.Talk.{answered, entered, hello, log_out, immediate_text, sum_text, visitor_acts, user_acts, line_acts, leave, TakesKey, IsTalk, BeginsTalk};
 ghost use Rattle.command_level.specs.Seen.{seen, login_seen, command_seen, IsShort};
 ghost use Rattle.command_level.specs.Onwards.{goes};
 ghost use Rattle.std.specs.Option.{option_map};
@@ -23,7 +23,8 @@ use crate::commands::{Command, command_of, print_of};
 use crate::judging::{Verdict, judge, refusal_text};
 use crate::logins::LoginForm;
 use basic_values::{Fault, Int, KeyLine, LINE_LENGTH, NoMemory};
-use monitor_calls::{Account, Port, Reply, Request};
+use line_editor::ProgramText;
+use monitor_calls::{Account, Port, Reply, Request, Short};
 use std::alloc::Global;
 use terminal_line::{Keys, Screen};
 
@@ -41,12 +42,15 @@ pub(crate) enum Onward {
 }
 
 /// What is kept from line to line: the account that the session acts for, if it is logged in, the
-/// screen, and the key lines that are left.
+/// screen, the key lines that are left, and the program in memory.
 #[derive(Drop)]
 pub(crate) struct Session {
     pub(crate) account: Option<Account>,
     pub(crate) screen: Screen,
     pub(crate) keys: Keys,
+    /// The name that was given to the program in memory.
+    pub(crate) name: Option<Short>,
+    pub(crate) text: ProgramText,
 }
 
 /// The session of a terminal with these keys: what it shows when it has ended. It asks the port for
@@ -65,6 +69,8 @@ pub fn serve<P: Port>(alloc: Global, keys: &[KeyLine], port: &mut P) -> Result<S
         account: None,
         screen: Screen::new(alloc),
         keys: typed,
+        name: None,
+        text: ProgramText::new(alloc),
     };
     while let Some(line) = session.next_key() {
         match session.take_line(alloc, &line, port)? {
@@ -127,7 +133,7 @@ impl Session {
             Command::Hello(form) => self.hello(alloc, *form, port),
             Command::Bye => Ok(Onward::Ended),
             Command::BadBye => self.answer(b"?Illegal command\r\n"),
-            Command::Idle | Command::Later | Command::Numbered(_) | Command::Immediate(_) => {
+            _ => {
                 self.screen.write(b"Please say HELLO\r\n")?;
                 Ok(Onward::Next)
             }
@@ -156,24 +162,13 @@ impl Session {
             }
             Command::BadBye => self.answer(b"?Illegal command\r\n"),
             Command::Idle => Ok(Onward::Next),
+            Command::New(naming) => self.begin_new(alloc, *naming),
+            Command::Rename(naming) => self.rename(*naming),
+            Command::ListLines { with_name, range } => self.list(*with_name, *range),
+            Command::Delete(range) => self.delete(*range),
             Command::Later => self.answer(NOT_IN_STAGE),
-            Command::Numbered(statement) => self.store(alloc, statement),
+            Command::Numbered(line) => self.edit(line),
             Command::Immediate(statement) => self.run(alloc, statement),
-        }
-    }
-
-    /// A program line, of which nothing is kept.
-    #[tactic(auto, using(crate::proofs::VerdictLemmas::texts))]
-    fn store(&mut self, alloc: Global, statement: &[u8]) -> Result<Onward, NoMemory>
-        requires { length statement.now ≤ LINE_LENGTH }
-        ensures keys { self.new.keys ≡ self.old.keys }
-        ensures means { IfOk result (λ onward.
-            answered (numbered_text (judge_of statement.now)) (seen self.old)
-            ≡ goes onward (seen self.new)) }
-    {
-        match judge(alloc, statement)? {
-            Verdict::RefusedFor(cause) => self.answer(refusal_text(cause)),
-            Verdict::HasTree => self.answer(NOT_IN_STAGE),
         }
     }
 
@@ -211,7 +206,7 @@ impl Session {
     }
 
     /// A command that is done: its text, and Ready.
-    fn answer(&mut self, text: &[u8]) -> Result<Onward, NoMemory>
+    pub(crate) fn answer(&mut self, text: &[u8]) -> Result<Onward, NoMemory>
         ensures keys { self.new.keys ≡ self.old.keys }
         ensures means { IfOk result (λ onward.
             answered text.now (seen self.old)

@@ -1,12 +1,7 @@
-//! What a job means: a tree, through which the replies of its port lead; the session of a terminal as
-//! such a tree, over its keys and a judge of its lines; and the talk, which is what playing that tree
-//! comes to.
+//! What a job does, as a tree of acts, and how such trees are played.
 //!
-//! It holds definitions, and the lemmas by which calls over a port are put together. It stands on the
-//! grammar's verdicts, the monitor's requests and replies, and how numbers are printed.
-//!
-//! `laws::talk_ends`, `laws::talk_grows` and `laws::talk_is_one` carry the laws of the talk, and
-//! `laws::keys_are_enough` that its session goes through all of its keys.
+//! It holds definitions, and the lemmas by which calls over a port are put together: `specs/Act` has
+//! the trees, `specs/Asking` which reply fits which request, `specs/Play` how a tree is played with
+//! replies, fuel and a clock, `specs/Follow` what a call over a port does. `proofs/Plays` has the laws
+//! of any tree. It stands on the monitor's requests and replies.
 #![tactic(auto)]
-
-pub mod laws;

@@ -8,3 +8,5 @@ mod lines;
 mod sessions;
 #[cfg(test)]
 mod talks;
+#[cfg(test)]
+mod texts;

@@ -1,8 +1,8 @@
 //! One key line each: what it shows before the login and behind it.
 
 use crate::talks::{
-    FLOATING_LITERAL, FLOATING_NAME, HELLO, NOT_IN_STAGE, OPEN_STRING, STRAY_BYTE, SYNTAX,
-    TOO_DEEP, TOO_WIDE, assert_talk, assert_user, assert_visitor,
+    FLOATING_LITERAL, FLOATING_NAME, HELLO, ILLEGAL_NUMBER, NOT_IN_STAGE, OPEN_STRING, STRAY_BYTE,
+    SYNTAX, TOO_DEEP, TOO_WIDE, assert_talk, assert_user, assert_visitor,
 };
 use monitor_calls::Reply;
 use std::alloc::{AllocGlobal, Global};
@@ -130,8 +130,7 @@ fn what_is_no_sum(rt: HostRuntime) -> Result<(), Fail> {
 #[test]
 fn words_of_a_later_stage(rt: HostRuntime) -> Result<(), Fail> {
     for word in [
-        "NEW", "OLD", "SAVE", "REPLACE", "UNSAVE", "RUN", "RUNNH", "LIST", "LISTNH", "DELETE",
-        "RENAME", "CAT", "CONT", " list", "Cat",
+        "OLD", "SAVE", "REPLACE", "UNSAVE", "RUN", "RUNNH", "CAT", "CONT", " run", "Cat",
     ] {
         assert_user(&rt, word, NOT_IN_STAGE)?;
         let behind = format!(in rt.alloc(); "{word}& 1.5 \"")?;
@@ -145,10 +144,16 @@ fn words_of_a_later_stage(rt: HostRuntime) -> Result<(), Fail> {
 #[test]
 fn program_lines(rt: HostRuntime) -> Result<(), Fail> {
     for (line, shown) in [
-        ("10", NOT_IN_STAGE),
-        ("10 PRINT 1", NOT_IN_STAGE),
-        (" 10 PRINT 1%", NOT_IN_STAGE),
-        ("99999 GOTO 10", NOT_IN_STAGE),
+        ("10", ""),
+        ("10 ", ""),
+        ("10 PRINT 1", ""),
+        (" 10 PRINT 1%", ""),
+        ("32767 GOTO 10", ""),
+        ("00001STOP", ""),
+        ("0", ILLEGAL_NUMBER),
+        ("0 PRINT 1", ILLEGAL_NUMBER),
+        ("32768 PRINT 1", ILLEGAL_NUMBER),
+        ("99999999999999999999 PRINT A", ILLEGAL_NUMBER),
         ("10PRINT A", FLOATING_NAME),
         ("10 LIST", FLOATING_NAME),
         ("10.5", STRAY_BYTE),

@@ -14,6 +14,8 @@ pub(crate) const WRONG: &str = "Invalid entry - try again";
 
 pub(crate) const NOT_IN_STAGE: &str = "?Not in this stage\nReady\n";
 
+pub(crate) const ILLEGAL_NUMBER: &str = "?Illegal line number\nReady\n";
+
 pub(crate) const FLOATING_NAME: &str = "?Floating variable\nReady\n";
 
 pub(crate) const FLOATING_LITERAL: &str = "?Floating literal\nReady\n";
@@ -140,4 +142,24 @@ pub(crate) fn assert_user(
     let screen = format!(in rt.alloc(); "{HELLO}\nReady\n{line}\n{shown}Bye\n")?;
     let log = "Login 100,5;DEMO Done\nLogout Done\n";
     assert_talk(rt, &[HELLO, line], &[Reply::Done], screen.as_str(), log)
+}
+
+/// Asserts what lines show behind the login one after another, where they ask nothing. Each is given
+/// with what it shows.
+pub(crate) fn assert_lines(
+    rt: &(impl AllocGlobal + Abort),
+    lines: &[(&str, &str)],
+) -> Result<(), Fail> {
+    let mut keys = Vec::new(rt.alloc());
+    keys.push(HELLO)?;
+    let mut screen = format!(in rt.alloc(); "{HELLO}\nReady\n")?;
+    for (line, shown) in lines {
+        keys.push(*line)?;
+        screen.push_str(line)?;
+        screen.push_str("\n")?;
+        screen.push_str(shown)?;
+    }
+    screen.push_str("Bye\n")?;
+    let log = "Login 100,5;DEMO Done\nLogout Done\n";
+    assert_talk(rt, keys.as_slice(), &[Reply::Done], screen.as_str(), log)
 }

@@ -6,7 +6,7 @@ use Rattle.monitor_calls.specs.Pairs.{Pair, requests, replies}
 use Rattle.monitor_calls.specs.Proper.{Proper}
 use Rattle.monitor_model.specs.State as monitor
 use Rattle.monitor_model.specs.History.{Legal, part_of}
-use Rattle.job_model.specs.Talk.{IsTalk}
+use Rattle.session_model.specs.Talk.{IsTalk}
 use Rattle.deck_model.specs.Deck.{Deck, Terminal}
 use Rattle.deck_model.specs.Spelling.{Spelled}
 use Rattle.deck_model.specs.Refusals as refusals

@@ -317,9 +317,10 @@ fn lines_are_judged_by_the_grammar(rt: HostRuntime) -> Result<(), Fail> {
         ("PRINT 1%+", "?Syntax error"),
         ("&", "?Stray byte"),
         ("10 PRINT A", "?Floating variable"),
-        ("10 PRINT 1%", "?Not in this stage"),
+        ("0 PRINT 1%", "?Illegal line number"),
         ("GOTO 10", "?Not in this stage"),
-        ("LIST", "?Not in this stage"),
+        ("LIST", "NONAME"),
+        ("RUN", "?Not in this stage"),
         ("PRINT (2%)", "?Not in this stage"),
         ("print 2 + 3%", " 5 "),
     ] {

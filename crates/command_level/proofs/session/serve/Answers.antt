@@ -3,9 +3,9 @@ use Rattle.basic_tree.specs.MachineJudge.{judge_of}
 use Rattle.basic_tree.proofs.Judged.{judge_of_judges}
 use Rattle.job_model.specs.Act.{Gone, Left}
 use Rattle.job_model.specs.Play.{at_start}
-use Rattle.job_model.specs.Talk.{Ended}
+use Rattle.session_model.specs.Talk.{Ended}
 use Rattle.job_model.proofs.Follows.{follows_forget, follows_nothing}
-use Rattle.job_model.proofs.Talks.{follows_talk, follows_begins}
+use Rattle.session_model.proofs.Talks.{follows_talk, follows_begins}
 use Rattle.command_level.specs.declared.session.Onward.TheVariants as onward
 use Rattle.command_level.specs.Seen.{seen}
 use Rattle.command_level.proofs.Ends.{on_err}
@@ -18,7 +18,7 @@ returns-in_err-typed-clause-memory g c = on_err _ (follows_begins {P = g.row.P.D
 
 pub loop-line-init : goal.loop-line-init
 loop-line-init g c =
-    opens {who = g.P.Port.who} {log = g.P.Port.log} c.args.port.now c.args.keys.now c.new-2.result c.in_ok-typed.typed c.new-2.ensures c.in_ok-typed.ensures
+    opens {who = g.P.Port.who} {log = g.P.Port.log} c.args.port.now c.args.keys.now c.new-2.result c.in_ok-typed.typed c.new-3.result c.new-2.ensures c.in_ok-typed.ensures c.new-3.ensures
 
 pub loop-line-preserved : goal.loop-line-preserved
 loop-line-preserved g c =

@@ -3,8 +3,8 @@ use Rattle.std.specs.Option.{option_map}
 use Rattle.monitor_calls.specs.declared.calls.Request.TheVariants as request
 use Rattle.job_model.specs.Act.{Gives}
 use Rattle.job_model.specs.Asking.{counts_as}
-use Rattle.job_model.specs.Talk.{hello, entered}
-use Rattle.job_model.specs.Texts.{invalid_entry}
+use Rattle.session_model.specs.Talk.{hello, entered}
+use Rattle.session_model.specs.Texts.{invalid_entry}
 use Rattle.job_model.proofs.Follows.{follows_from, follows_is, follows_reply}
 use Rattle.command_level.specs.Seen.{seen, login_seen}
 use Rattle.command_level.proofs.Ends.{ok_map}

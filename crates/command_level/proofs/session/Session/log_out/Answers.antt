@@ -1,8 +1,8 @@
 use Rattle.std.proofs.Common.{ap}
 use Rattle.monitor_calls.specs.declared.calls.Request.TheVariants as request
 use Rattle.job_model.specs.Act.{Breaks, Left}
-use Rattle.job_model.specs.Talk.{Ended, says}
-use Rattle.job_model.specs.Texts.{bye}
+use Rattle.session_model.specs.Talk.{Ended, says}
+use Rattle.session_model.specs.Texts.{bye}
 use Rattle.job_model.proofs.Follows.{follows_on, follows_is, follows_asked, follows_forget, follows_lost}
 use Rattle.command_level.specs.Seen.{seen}
 use Rattle.command_level.proofs.SessionLemmas.{said}

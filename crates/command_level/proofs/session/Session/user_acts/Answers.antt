@@ -1,6 +1,6 @@
 use Rattle.std.proofs.Common.{ap}
 use Rattle.basic_tree.specs.MachineJudge.{judge_of}
-use Rattle.job_model.specs.Talk.{user_acts}
+use Rattle.session_model.specs.Talk.{user_acts}
 use Rattle.job_model.proofs.Follows.{follows_from, follows_same}
 use Rattle.command_level.specs.Seen.{seen, command_seen}
 use Rattle.command_level.proofs.session.Session.user_acts.Goals as goal

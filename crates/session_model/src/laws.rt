@@ -1,6 +1,6 @@
 //! The laws of the talk, each the contract of a function that does nothing.
 
-ghost use Rattle.job_model.specs.TalkLaws.{KeysAreEnough, TalkEnds, TalkGrows, TalkIsOne};
+ghost use Rattle.session_model.specs.TalkLaws.{KeysAreEnough, TalkEnds, TalkGrows, TalkIsOne};
 
 /// A session takes its keys to their end: it takes no more key lines than there are at first.
 pub fn keys_are_enough()

@@ -1,5 +1,5 @@
 -- A session takes no more key lines than there are at first.
-use Rattle.std.proofs.Common.{◌≡◌, ℕ, zero, suc, ◌≤◌, List, [], ◌∷◌, ◌++◌, length, ap, Option, Some, None, refl, arith}
+use Rattle.std.proofs.Common.{◌≡◌, ℕ, zero, suc, ◌≤◌, List, [], ◌∷◌, ◌++◌, length, ap, Bool, true, false, Option, Some, None, refl, arith}
 use Rattle.monitor_calls.specs.declared.names.Account.{Account}
 use Rattle.monitor_calls.specs.declared.calls.Request.TheVariants as request
 use Rattle.monitor_calls.specs.declared.calls.Reply.{Reply}
@@ -7,10 +7,11 @@ use Rattle.monitor_calls.specs.declared.calls.Reply.TheVariants.{Done, Failed}
 use Rattle.basic_tree.specs.LineVerdicts.{Judge}
 use Rattle.job_model.specs.Act.{Gives, Breaks, Asks, Takes, ◌then◌}
 use Rattle.job_model.specs.Asking.{counts_as}
-use Rattle.job_model.specs.Commands.{Login, Command, Hello, Bye, BadBye, Idle, Later, Numbered, Immediate, command_of}
-use Rattle.job_model.specs.Talk.{Session, Step, says, keys_are, entered, hello, leave, visitor_acts, user_acts, acts, line_acts, with_next, session, opening}
+use Rattle.session_model.specs.Commands.{Login, Naming, Nameless, Named, Misnamed, Range, Command, Hello, Bye, BadBye, Idle, New, Rename, ListLines, Delete, Later, Numbered, Immediate, command_of}
+use Rattle.session_model.specs.Editing.{Edited, Accepted, Refused, edited}
+use Rattle.session_model.specs.Talk.{Session, Step, says, keys_are, entered, hello, leave, begins_new, renames, lists, deletes, takes_edit, visitor_acts, user_acts, acts, line_acts, with_next, session, opening}
 use Rattle.job_model.specs.Texts.{line_end}
-use Rattle.job_model.specs.TalkLaws.{KeysAreEnough}
+use Rattle.session_model.specs.TalkLaws.{KeysAreEnough}
 
 -- where it gives something these keys are left
 abbrev Keeps : List (List ℕ) → Step → Type 0
@@ -33,9 +34,36 @@ visitor_keeps (Hello login) s = hello_keeps login s
 visitor_keeps Bye s = tt
 visitor_keeps BadBye s = refl
 visitor_keeps Idle s = refl
+visitor_keeps (New naming) s = refl
+visitor_keeps (Rename naming) s = refl
+visitor_keeps (ListLines with_name range) s = refl
+visitor_keeps (Delete range) s = refl
 visitor_keeps Later s = refl
-visitor_keeps (Numbered statement) s = refl
+visitor_keeps (Numbered number rest) s = refl
 visitor_keeps (Immediate statement) s = refl
+
+new_keeps : (naming : Naming) (s : Session) → Keeps s.keys (begins_new naming s)
+new_keeps Nameless s = refl
+new_keeps (Named name) s = refl
+new_keeps Misnamed s = refl
+
+renames_keeps : (naming : Naming) (s : Session) → Keeps s.keys (renames naming s)
+renames_keeps Nameless s = refl
+renames_keeps (Named name) s = refl
+renames_keeps Misnamed s = refl
+
+lists_keeps : (with_name : Bool) (range : Option Range) (s : Session) → Keeps s.keys (lists with_name range s)
+lists_keeps with_name None s = refl
+lists_keeps true (Some range) s = refl
+lists_keeps false (Some range) s = refl
+
+deletes_keeps : (range : Option Range) (s : Session) → Keeps s.keys (deletes range s)
+deletes_keeps None s = refl
+deletes_keeps (Some range) s = refl
+
+edit_keeps : (edit : Edited) (s : Session) → Keeps s.keys (takes_edit edit s)
+edit_keeps (Accepted lines) s = refl
+edit_keeps (Refused text) s = refl
 
 user_keeps : (judge : Judge) (command : Command) (s : Session) → Keeps s.keys (user_acts judge command s)
 user_keeps judge (Hello login) s = refl
@@ -43,7 +71,11 @@ user_keeps judge Bye s = λ reply. tt
 user_keeps judge BadBye s = refl
 user_keeps judge Idle s = refl
 user_keeps judge Later s = refl
-user_keeps judge (Numbered statement) s = refl
+user_keeps judge (New naming) s = new_keeps naming s
+user_keeps judge (Rename naming) s = renames_keeps naming s
+user_keeps judge (ListLines with_name range) s = lists_keeps with_name range s
+user_keeps judge (Delete range) s = deletes_keeps range s
+user_keeps judge (Numbered number rest) s = edit_keeps (edited judge number rest s.lines) s
 user_keeps judge (Immediate statement) s = refl
 
 acts_keep : (judge : Judge) (account : Option Account) (command : Command) (s : Session) → Keeps s.keys (acts judge account command s)

@@ -4,7 +4,7 @@ use Rattle.monitor_calls.specs.declared.calls.Request.{Request}
 use Rattle.monitor_calls.specs.declared.calls.Reply.{Reply}
 use Rattle.basic_tree.specs.LineVerdicts.{Judge}
 use Rattle.job_model.specs.PlayLaws.{EndsWith, GrowsTo}
-use Rattle.job_model.specs.Talk.{session, opening, talk, IsTalk}
+use Rattle.session_model.specs.Talk.{session, opening, talk, IsTalk}
 
 -- a session that may take more key lines than there are is the same
 abbrev pub KeysAreEnough : Type 0

@@ -1,7 +1,7 @@
 -- The talk of a terminal: the requests that its session makes and the bytes that it shows, given its
 -- keys and the replies. A judge says of each line that is a statement which tree the grammar has for
 -- it, or why it refuses it.
-use Rattle.std.specs.Prelude.{◌≡◌, ℕ, zero, suc, List, [], ◌∷◌, ◌++◌, length, Option, Some, None, ℤ}
+use Rattle.std.specs.Prelude.{◌≡◌, ℕ, zero, suc, Bool, true, false, List, [], ◌∷◌, ◌++◌, length, Option, Some, None, ℤ, codes}
 use Rattle.monitor_calls.specs.declared.names.Account.{Account}
 use Rattle.monitor_calls.specs.declared.calls.Request.{Request}
 use Rattle.monitor_calls.specs.declared.calls.Request.TheVariants as request
@@ -11,10 +11,13 @@ use Rattle.basic_values.specs.Numbers.{printed}
 use Rattle.basic_tree.specs.LineVerdicts.{Verdict, HasTree, RefusedFor, Judge, Judges}
 use Rattle.job_model.specs.Act.{Act, Gives, Breaks, Gone, Left, ◌then◌}
 use Rattle.job_model.specs.Asking.{ask}
-use Rattle.job_model.specs.Commands.{Login, Command, Hello, Bye, BadBye, Idle, Later, Numbered, Immediate, command_of, print_of}
+use Rattle.session_model.specs.Commands.{Login, Naming, Nameless, Named, Misnamed, Range, Command, Hello, Bye, BadBye, Idle, New, Rename, ListLines, Delete, Later, Numbered, Immediate, command_of, print_of}
 use Rattle.job_model.specs.Play.{at_start, fuel_for, play, End, Gave, Broke, Finished, Played, told_by}
 use Rattle.job_model.specs.PlayLaws.{Begins}
-use Rattle.job_model.specs.Texts.{line_end, ready, please_say_hello, invalid_entry, already_logged_in, illegal_command, not_in_stage, bye, job_expired, refusal_text}
+use Rattle.job_model.specs.Texts.{line_end, job_expired}
+use Rattle.line_editor.specs.Lines.{Lines, within, without, listing}
+use Rattle.session_model.specs.Editing.{Edited, Accepted, Refused, edited}
+use Rattle.session_model.specs.Texts.{ready, please_say_hello, invalid_entry, already_logged_in, illegal_command, not_in_stage, bye, illegal_file_name, refusal_text}
 
 -- THE SESSION
 
@@ -23,6 +26,9 @@ pub record Session : Type 0 where
   pub account : Option Account
   pub screen : List ℕ
   pub keys : List (List ℕ)
+  -- the name of the program in memory, and its lines
+  pub name : List ℕ
+  pub lines : Lines
 
 -- it is left by BYE, and at the end of its keys
 pub data Leaving : Type 0 where
@@ -63,10 +69,47 @@ abbrev pub leave : Option Account → Session → Step
 leave None s = Breaks (Left Ended) s
 leave (Some account) s = log_out s
 
--- a program line: it is refused, or it would be stored
-abbrev pub numbered_text : Verdict → List ℕ
-numbered_text (RefusedFor cause) = refusal_text cause
-numbered_text (HasTree tree) = not_in_stage
+-- THE TEXT OF THE PROGRAM
+
+abbrev pub no_name : List ℕ
+no_name = codes "NONAME"
+
+abbrev pub named : List ℕ → Session → Session
+named name s = record s { name = name }
+
+abbrev pub with_lines : Lines → Session → Session
+with_lines lines s = record s { lines = lines }
+
+-- NEW: an empty program of that name
+abbrev pub begins_new : Naming → Session → Step
+begins_new Nameless s = answered [] (named no_name (with_lines [] s))
+begins_new (Named name) s = answered [] (named name (with_lines [] s))
+begins_new Misnamed s = answered illegal_file_name s
+
+abbrev pub renames : Naming → Session → Step
+renames Nameless s = answered illegal_command s
+renames (Named name) s = answered [] (named name s)
+renames Misnamed s = answered illegal_file_name s
+
+-- LIST writes the program's name in front, and LISTNH does not
+abbrev pub headed : Bool → Session → Session
+headed true s = says (s.name ++ line_end) s
+headed false s = s
+
+abbrev pub lists : Bool → Option Range → Session → Step
+lists with_name None s = answered illegal_command s
+lists with_name (Some range) s = answered (listing (within range.from range.to s.lines)) (headed with_name s)
+
+abbrev pub deletes : Option Range → Session → Step
+deletes None s = answered illegal_command s
+deletes (Some range) s = answered [] (with_lines (without range.from range.to s.lines) s)
+
+-- a program line that is stored, or deletes one, writes nothing
+abbrev pub takes_edit : Edited → Session → Step
+takes_edit (Accepted lines) s = Gives tt (with_lines lines s)
+takes_edit (Refused text) s = answered text s
+
+-- IMMEDIATE MODE
 
 -- a line of immediate mode: it is refused, or it is done where it is PRINT of one sum of literals
 abbrev pub sum_text : Option ℤ → List ℕ
@@ -81,18 +124,19 @@ abbrev pub visitor_acts : Command → Session → Step
 visitor_acts (Hello login) s = hello login s
 visitor_acts Bye s = Breaks (Left Ended) s
 visitor_acts BadBye s = answered illegal_command s
-visitor_acts Idle s = Gives tt (says please_say_hello s)
-visitor_acts Later s = Gives tt (says please_say_hello s)
-visitor_acts (Numbered statement) s = Gives tt (says please_say_hello s)
-visitor_acts (Immediate statement) s = Gives tt (says please_say_hello s)
+visitor_acts other s = Gives tt (says please_say_hello s)
 
 abbrev pub user_acts : Judge → Command → Session → Step
 user_acts judge (Hello login) s = answered already_logged_in s
 user_acts judge Bye s = log_out s
 user_acts judge BadBye s = answered illegal_command s
 user_acts judge Idle s = Gives tt s
+user_acts judge (New naming) s = begins_new naming s
+user_acts judge (Rename naming) s = renames naming s
+user_acts judge (ListLines with_name range) s = lists with_name range s
+user_acts judge (Delete range) s = deletes range s
 user_acts judge Later s = answered not_in_stage s
-user_acts judge (Numbered statement) s = answered (numbered_text (judge statement)) s
+user_acts judge (Numbered number rest) s = takes_edit (edited judge number rest s.lines) s
 user_acts judge (Immediate statement) s =
     answered (immediate_text (judge statement) (print_of statement)) s
 
@@ -121,9 +165,9 @@ session judge zero s = leave s.account s
 session judge (suc most) s =
     with_next (λ line s. line_acts judge line s then λ _ s. session judge most s) s.keys s
 
--- nobody is logged in, and nothing was written
+-- nobody is logged in, nothing was written, and there is no program
 abbrev pub opening : List (List ℕ) → Session
-opening keys = record { account = None; screen = []; keys = keys }
+opening keys = record { account = None; screen = []; keys = keys; name = no_name; lines = [] }
 
 abbrev pub whole_session : Judge → List (List ℕ) → Step
 whole_session judge keys = session judge (length keys) (opening keys)

@@ -10,8 +10,8 @@ use Rattle.job_model.specs.Act.{Breaks, Break}
 use Rattle.job_model.specs.Play.{Clock, at_start, fuel_for, play, Broke, Outcome, Finished, Waits, Spent, Played, outcome_by, told_by}
 use Rattle.job_model.specs.PlayLaws.{Begins, EndsWith, GrowsTo}
 use Rattle.job_model.specs.Follow.{Follows}
-use Rattle.job_model.specs.Talk.{Session, Leaving, shown, whole_session, talk, ByGrammar, IsTalk, BeginsTalk}
-use Rattle.job_model.specs.TalkLaws.{TalkEnds, TalkGrows, TalkIsOne}
+use Rattle.session_model.specs.Talk.{Session, Leaving, shown, whole_session, talk, ByGrammar, IsTalk, BeginsTalk}
+use Rattle.session_model.specs.TalkLaws.{TalkEnds, TalkGrows, TalkIsOne}
 use Rattle.job_model.proofs.Plays.{enough_at_start, play_ends, play_grows, path_plays}
 
 -- THE LAWS

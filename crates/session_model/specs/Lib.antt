@@ -1,0 +1,7 @@
+pub mod Commands
+pub mod Editing
+pub mod Talk
+pub mod TalkLaws
+pub mod Texts
+pub use Rattle.basic_values.specs.Numbers
+pub use Rattle.monitor_calls.specs.Pairs
