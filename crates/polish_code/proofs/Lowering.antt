@@ -17,7 +17,10 @@ use Rattle.job_memory.specs.Calls.{enter}
 use Rattle.job_model.specs.Act.{Act, Gives, Breaks, Asks, Takes, ◌then◌, Break, Faulted, Halted, Gone, Left, break_over}
 use Rattle.program_model.specs.declared.homes.Home.{Home}
 use Rattle.program_model.specs.Program.{Program, Position}
-use Rattle.program_model.specs.Job.{Value, Number, Text, number, Frame, Job, Leaving, Ended, Stopped, StoppedInside, Deed, text_made, or_fault}
+use Rattle.program_model.specs.declared.values.Value.{Value}
+use Rattle.program_model.specs.declared.values.Value.TheVariants.{Number, Text}
+use Rattle.program_model.specs.declared.values.Frame.{Frame}
+use Rattle.program_model.specs.Job.{number, Job, Leaving, Ended, Stopped, StoppedInside, Deed, text_made, or_fault}
 use Rattle.program_model.specs.Operators.{gives_number, sum_of, operated}
 use Rattle.program_model.specs.Functions.{applied, number_at}
 use Rattle.program_model.specs.Variables.{held, second, element, remembered, content_of, stored, stored_at}

@@ -3,13 +3,12 @@ use Rattle.std.specs.Prelude.{ℕ, List, [], ℤ, pos, if◌then◌else◌, nat_
 use Rattle.basic_values.specs.declared.texts.TheConstants.{MOST_BYTES}
 use Rattle.basic_values.specs.declared.failures.Halt.TheVariants.{TooLong}
 use Rattle.program_model.specs.declared.homes.Home.{Home}
+pub use Rattle.program_model.specs.declared.values.Value.{Value}
+pub use Rattle.program_model.specs.declared.values.Value.TheVariants.{Number, Text}
+pub use Rattle.program_model.specs.declared.values.Frame.{Frame}
 use Rattle.error_trap.specs.declared.trap.Trap.{Trap}
 use Rattle.job_memory.specs.Memory.{Memory}
 use Rattle.job_model.specs.Act.{Act, Gives, Breaks, Faulted, Halted}
-
-pub data Value : Type 0 where
-  Number : ℤ → Value
-  Text : List ℕ → Value
 
 -- a value that is known to be a number, and one that is known to be a text
 abbrev pub number : Value → ℤ
@@ -19,11 +18,6 @@ number (Text t) = pos 0
 abbrev pub text : Value → List ℕ
 text (Number n) = []
 text (Text t) = t
-
--- a running call of a function: its result so far, and how many return places were made before it
-pub record Frame : Type 0 where
-  pub result : Value
-  pub base : ℕ
 
 -- R is how the place of a statement is kept.
 pub record Job (R : Type 0) : Type 0 where

@@ -1,0 +1,34 @@
+//! The items of a program's code that call no function of it: each runs on the state of a job and
+//! leaves what its act leaves. So do the beginning and the end of a call.
+//!
+//! `state::Running` is the state, seen as the job of the definitions, and `stack::Stack` the values
+//! that items leave for later ones. `Running::step` carries the promise: the new stack and the new
+//! state are those that the item's act gives, or breaks with; where memory runs out nothing is told
+//! of them. It stands on `polish_code`, which has the items and their acts.
+#![tactic(auto)]
+
+mod calls;
+pub mod exits;
+mod functions;
+mod gosub;
+mod input;
+mod loops;
+mod numbers;
+mod printing;
+mod reading;
+mod relations;
+pub mod spots;
+pub mod stack;
+pub mod state;
+mod step;
+pub mod storage;
+mod traps;
+mod values;
+mod variables;
+
+pub use exits::{Exit, Move};
+pub use spots::Spot;
+pub use stack::Stack;
+pub use state::Running;
+pub use step::is_call;
+pub use storage::Storage;

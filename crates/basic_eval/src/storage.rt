@@ -1,0 +1,134 @@
+//! What a job's variables hold, with the buffers of its channels, in which some texts stand.
+
+ghost use Rattle.std.specs.Prelude.{◌≡◌, Ok, IfOk, IfErr, Err};
+ghost use Rattle.job_memory.specs.declared.contents.Content.TheVariants as content;
+ghost use Rattle.job_memory.specs.Answers.{Changes, Stores, StoresAt};
+ghost use Rattle.job_memory.specs.Calls.{enter, leave};
+ghost use Rattle.job_memory.specs.Contents.{number_in, text_in};
+ghost use Rattle.job_memory.specs.Memory.{empty, variable, number_at, text_at};
+
+use basic_tree::Name;
+use basic_values::{Fault, Halt, Int, Stop, Text, Trouble};
+use job_memory::Memory;
+use record_fields::Buffers;
+use std::alloc::Global;
+use std::marker::Model;
+
+/// The variables of a job and the buffers of its channels. Each part of a buffer that stands for a
+/// text lies in the buffer of a channel.
+#[derive(Drop)]
+pub struct Storage {
+    memory: Memory,
+    buffers: Buffers,
+}
+
+impl Model for Storage {
+    ghost use Rattle.basic_eval.specs.Stored.{Stored, PartsLie};
+
+    ghost Value = { Stored };
+
+    ghost view = { λ storage. record { memory = storage.memory; buffers = storage.buffers } };
+
+    ghost invariant = { λ storage. PartsLie storage.memory };
+}
+
+impl Storage {
+    /// No variables.
+    pub fn new(alloc: Global, buffers: Buffers) -> Storage
+        ensures { result ≡ record { memory = empty; buffers = buffers } }
+    {
+        Storage {
+            memory: Memory::new(alloc),
+            buffers,
+        }
+    }
+
+    /// The number of a variable: 0 where nothing is stored.
+    pub fn number(&self, name: Name) -> Int
+        ensures { result ≡ number_in (variable name self.now.memory) }
+    {
+        self.memory.number(name)
+    }
+
+    /// The text of a variable, lent. It is empty where nothing is stored.
+    pub fn text(&self, name: Name) -> &[u8]
+        ensures { result.now ≡ text_in self.entry.now.buffers (variable name self.entry.now.memory) }
+    {
+        self.memory.text(name, &self.buffers)
+    }
+
+    /// Stores a number.
+    pub fn set_number(&mut self, name: Name, value: Int) -> Result<(), Trouble<Halt>>
+        ensures memory { Stores name (content.Number value) self.old.memory self.new.memory result }
+        ensures buffers { self.new.buffers ≡ self.old.buffers }
+    {
+        self.memory.set_number(name, value)
+    }
+
+    /// Stores a text.
+    pub fn set_text(&mut self, name: Name, value: Text) -> Result<(), Trouble<Halt>>
+        ensures memory { Stores name (content.Own value) self.old.memory self.new.memory result }
+        ensures buffers { self.new.buffers ≡ self.old.buffers }
+    {
+        self.memory.set_text(name, value)
+    }
+
+    /// The number of an element, or error 55.
+    pub fn number_at(&self, name: Name, first: Int, second: Option<Int>) -> Result<Int, Fault>
+        ensures { result ≡ number_at name first second self.now.memory }
+    {
+        self.memory.number_at(name, first, second)
+    }
+
+    /// The text of an element, lent, or error 55.
+    pub fn text_at(&self, name: Name, first: Int, second: Option<Int>) -> Result<&[u8], Fault>
+        ensures text { IfOk result (λ t. text_at name first second self.entry.now.memory ≡ Ok t.now) }
+        ensures refused { IfErr result (λ n. text_at name first second self.entry.now.memory ≡ Err n) }
+    {
+        self.memory.text_at(name, first, second)
+    }
+
+    /// Stores a number to an element, or error 55.
+    pub fn set_number_at(
+        &mut self,
+        name: Name,
+        first: Int,
+        second: Option<Int>,
+        value: Int,
+    ) -> Result<(), Stop>
+        ensures memory { StoresAt name first second (content.Number value) self.old.memory self.new.memory result }
+        ensures buffers { self.new.buffers ≡ self.old.buffers }
+    {
+        self.memory.set_number_at(name, first, second, value)
+    }
+
+    /// Stores a text to an element, or error 55.
+    pub fn set_text_at(
+        &mut self,
+        name: Name,
+        first: Int,
+        second: Option<Int>,
+        value: Text,
+    ) -> Result<(), Stop>
+        ensures memory { StoresAt name first second (content.Own value) self.old.memory self.new.memory result }
+        ensures buffers { self.new.buffers ≡ self.old.buffers }
+    {
+        self.memory.set_text_at(name, first, second, value)
+    }
+
+    /// A call begins: the variables of these names are kept aside, and hold 0 or the empty text.
+    pub fn enter(&mut self, names: &[Name]) -> Result<(), Trouble<Halt>>
+        ensures memory { Changes self.old.memory self.new.memory (enter names.now self.old.memory) result }
+        ensures buffers { self.new.buffers ≡ self.old.buffers }
+    {
+        self.memory.enter(names)
+    }
+
+    /// The last call that has not ended ends: its variables hold again what they held before it. It
+    /// takes no memory.
+    pub fn leave(&mut self)
+        ensures { self.new ≡ record self.old { memory = leave self.old.memory } }
+    {
+        self.memory.leave();
+    }
+}
