@@ -1,0 +1,427 @@
+//! The items of statements without others inside, their parts last to first.
+
+ghost use Rattle.std.specs.Prelude.{◌≡◌, [], ◌∷◌, map, length, option_map, IfOk, OnOk};
+ghost use Rattle.basic_tree.specs.StatementViews.{statement_of};
+ghost use Rattle.basic_tree.specs.TreeViews.{tree_of, target_of, printed_of, item_of, prompt_of};
+ghost use Rattle.program_model.specs.Input.{prompt_text};
+ghost use Rattle.program_model.specs.Targets.{wants_text};
+ghost use Rattle.program_model.specs.Traps.{line_named};
+ghost use Rattle.polish_code.specs.declared.items.Item.TheVariants as item;
+ghost use Rattle.polish_code.specs.Code.{It, places_of, def_pieces, target_pieces, targets_pieces, judged_pieces, input_pieces, read_pieces, printed_pieces, separator_pieces, print_pieces, end_pieces, step_piece};
+ghost use Rattle.lowering.specs.Texts.{with_pieces, with_simple};
+
+use crate::emitted::Emitted;
+use crate::expressions::emit_expr;
+use crate::lookups::Lookups;
+use crate::sizes::{add, count_expr, counted};
+use basic_tree::{Expr, PrintItem, Printed, Prompt, Separator, Series, Statement, Target};
+use basic_values::{NoMemory, Text};
+use monitor_calls::copy_of;
+use polish_code::Item;
+use std::alloc::Global;
+
+/// Puts the items behind the start of the m-th statement in front, which has i FORs before it.
+pub fn emit_simple<L: Lookups>(
+    alloc: Global,
+    code: &mut Emitted,
+    tables: &L,
+    m: usize,
+    i: u32,
+    statement: &Statement,
+) -> Result<(), NoMemory>
+    ensures { OnOk result (code.new
+        ≡ with_simple (L.program tables.now) m i (statement_of statement.now) code.old) }
+{
+    match statement {
+        Statement::For {
+            variable,
+            from,
+            to,
+            step,
+        } => {
+            code.put(Item::Open {
+                variable: *variable,
+                place: i,
+                to: tables.past_next(m),
+            })?;
+            emit_step(alloc, code, tables, step)?;
+            emit_expr(alloc, code, tables, to)?;
+            emit_expr(alloc, code, tables, from)
+        }
+        Statement::Next(variable) => code.put(Item::Step {
+            variable: *variable,
+            place: tables.loop_place(m),
+            to: tables.past_for(m),
+        }),
+        Statement::FnEnd => code.put(Item::Leave),
+        Statement::Def { value, .. } => emit_def(alloc, code, tables, m, value),
+        Statement::Let { targets, value, .. } => {
+            emit_stores(alloc, code, tables, targets.as_slice())?;
+            emit_expr(alloc, code, tables, value)
+        }
+        Statement::Result { value, .. } => {
+            code.put(Item::Answer)?;
+            emit_expr(alloc, code, tables, value)
+        }
+        Statement::Print {
+            channel,
+            items,
+            last,
+        } => match channel {
+            None => emit_print(alloc, code, tables, items.as_slice(), last),
+            Some(_) => Ok(()),
+        },
+        Statement::Input {
+            channel,
+            prompt,
+            targets,
+        } => match channel {
+            None => emit_input(alloc, code, tables, prompt, targets.as_slice()),
+            Some(_) => Ok(()),
+        },
+        Statement::InputLine { channel, variable } => match channel {
+            None => {
+                code.put(Item::Discard)?;
+                code.put(Item::Store(*variable))?;
+                code.put(Item::AskLine)
+            }
+            Some(_) => Ok(()),
+        },
+        Statement::Read(targets) => emit_read(alloc, code, tables, targets.as_slice()),
+        Statement::Restore => code.put(Item::Restore),
+        Statement::Goto { line, .. } => code.put(Item::Jump(tables.line_place(*line))),
+        Statement::Gosub { line, .. } => code.put(Item::Gosub {
+            home: tables.home(m),
+            to: tables.line_place(*line),
+        }),
+        Statement::Return => code.put(Item::Return),
+        Statement::OnGoto { selector, lines } => {
+            code.put(Item::OnGoto(line_places(alloc, tables, lines.as_slice())?))?;
+            emit_expr(alloc, code, tables, selector)
+        }
+        Statement::OnGosub { selector, lines } => {
+            code.put(Item::OnGosub {
+                home: tables.home(m),
+                places: line_places(alloc, tables, lines.as_slice())?,
+            })?;
+            emit_expr(alloc, code, tables, selector)
+        }
+        Statement::OnErrorGoto(line) => code.put(Item::OnError(named_line(*line))),
+        Statement::Resume(line) => emit_resume(code, tables, *line),
+        Statement::Stop => code.put(Item::Stop(tables.home(m))),
+        Statement::End => code.put(Item::End),
+        Statement::IfThen { .. } => Ok(()),
+        Statement::IfGoto { .. } => Ok(()),
+        Statement::Modified { .. } => Ok(()),
+        Statement::Data(_) => Ok(()),
+        Statement::Dim(_) => Ok(()),
+        Statement::DimFile { .. } => Ok(()),
+        Statement::Chain { .. } => Ok(()),
+        Statement::Sleep(_) => Ok(()),
+        Statement::Open { .. } => Ok(()),
+        Statement::Close(_) => Ok(()),
+        Statement::Get { .. } => Ok(()),
+        Statement::Put { .. } => Ok(()),
+        Statement::Unlock(_) => Ok(()),
+        Statement::Field { .. } => Ok(()),
+        Statement::Lset { .. } => Ok(()),
+        Statement::Rset { .. } => Ok(()),
+        Statement::Kill(_) => Ok(()),
+        Statement::Rename { .. } => Ok(()),
+    }
+}
+
+/// The step of a FOR, 1 where none is given.
+pub fn emit_step<L: Lookups>(
+    alloc: Global,
+    code: &mut Emitted,
+    tables: &L,
+    step: &Option<Expr>,
+) -> Result<(), NoMemory>
+    ensures { OnOk result (code.new
+        ≡ with_pieces (L.program tables.now)
+        (step_piece (option_map tree_of step.now) ∷ []) code.old) }
+{
+    match step {
+        None => code.put(Item::Number(1)),
+        Some(step) => emit_expr(alloc, code, tables, step),
+    }
+}
+
+fn emit_def<L: Lookups>(
+    alloc: Global,
+    code: &mut Emitted,
+    tables: &L,
+    m: usize,
+    value: &Option<Expr>,
+) -> Result<(), NoMemory>
+    ensures { OnOk result (code.new
+        ≡ with_pieces (L.program tables.now)
+        (def_pieces (L.program tables.now) (places_of (L.program tables.now)) m
+        (option_map tree_of value.now)) code.old) }
+{
+    match value {
+        None => code.put(Item::Jump(tables.past_body(m))),
+        Some(value) => {
+            let mut size = 3;
+            count_expr(&mut size, value)?;
+            code.put(Item::Leave)?;
+            code.put(Item::Answer)?;
+            emit_expr(alloc, code, tables, value)?;
+            code.put(Item::Arrive(tables.home(m)))?;
+            code.put(Item::Skip(size))
+        }
+    }
+}
+
+// Targets
+
+/// The store to a target.
+fn emit_target<L: Lookups>(
+    alloc: Global,
+    code: &mut Emitted,
+    tables: &L,
+    target: &Target,
+) -> Result<(), NoMemory>
+    ensures { OnOk result (code.new
+        ≡ with_pieces (L.program tables.now) (target_pieces (target_of target.now) []) code.old) }
+{
+    match target {
+        Target::Variable(name) => code.put(Item::Store(*name)),
+        Target::Element {
+            name,
+            first,
+            second,
+        } => match second {
+            None => {
+                code.put(Item::StoreElement {
+                    name: *name,
+                    count: 1,
+                })?;
+                emit_expr(alloc, code, tables, first)
+            }
+            Some(second) => {
+                code.put(Item::StoreElement {
+                    name: *name,
+                    count: 2,
+                })?;
+                emit_expr(alloc, code, tables, second)?;
+                emit_expr(alloc, code, tables, first)
+            }
+        },
+    }
+}
+
+/// The stores of one value.
+fn emit_stores<L: Lookups>(
+    alloc: Global,
+    code: &mut Emitted,
+    tables: &L,
+    targets: &[Target],
+) -> Result<(), NoMemory>
+    ensures { OnOk result (code.new
+        ≡ with_pieces (L.program tables.now)
+        (targets_pieces (map target_of targets.now) (It item.Discard ∷ [])) code.old) }
+{
+    code.put(Item::Discard)?;
+    for place in (0..targets.len()).rev() {
+        emit_target(alloc, code, tables, &targets[place])?;
+    }
+    Ok(())
+}
+
+/// An item that becomes a value and is stored.
+fn emit_judged<L: Lookups>(
+    alloc: Global,
+    code: &mut Emitted,
+    tables: &L,
+    target: &Target,
+) -> Result<(), NoMemory>
+    ensures { OnOk result (code.new
+        ≡ with_pieces (L.program tables.now) (judged_pieces (target_of target.now) []) code.old) }
+{
+    code.put(Item::Discard)?;
+    emit_target(alloc, code, tables, target)?;
+    code.put(Item::Judge(takes_text(target)))
+}
+
+fn takes_text(target: &Target) -> bool
+    ensures { result ≡ wants_text (target_of target.now) }
+{
+    match target {
+        Target::Variable(name) => name.text,
+        Target::Element { name, .. } => name.text,
+    }
+}
+
+fn emit_input<L: Lookups>(
+    alloc: Global,
+    code: &mut Emitted,
+    tables: &L,
+    prompt: &Option<Prompt>,
+    targets: &[Target],
+) -> Result<(), NoMemory>
+    ensures { OnOk result (code.new
+        ≡ with_pieces (L.program tables.now)
+        (It (item.AskItems (prompt_text (option_map prompt_of prompt.now))
+        (length targets.now)) ∷ input_pieces (map target_of targets.now)) code.old) }
+{
+    for place in (0..targets.len()).rev() {
+        emit_judged(alloc, code, tables, &targets[place])?;
+    }
+    code.put(Item::AskItems {
+        prompt: prompt_copy(alloc, prompt)?,
+        count: counted(targets.len())?,
+    })
+}
+
+fn prompt_copy(alloc: Global, prompt: &Option<Prompt>) -> Result<Text, NoMemory>
+    ensures { IfOk result (λ text. text ≡ prompt_text (option_map prompt_of prompt.now)) }
+{
+    match prompt {
+        None => Ok(Text::empty(alloc)),
+        Some(prompt) => copy_of(alloc, &prompt.text),
+    }
+}
+
+fn emit_read<L: Lookups>(
+    alloc: Global,
+    code: &mut Emitted,
+    tables: &L,
+    targets: &[Target],
+) -> Result<(), NoMemory>
+    ensures { OnOk result (code.new
+        ≡ with_pieces (L.program tables.now) (read_pieces (map target_of targets.now)) code.old) }
+{
+    for place in (0..targets.len()).rev() {
+        emit_judged(alloc, code, tables, &targets[place])?;
+        code.put(Item::TakeItem)?;
+    }
+    Ok(())
+}
+
+// PRINT
+
+fn emit_print<L: Lookups>(
+    alloc: Global,
+    code: &mut Emitted,
+    tables: &L,
+    items: &[PrintItem],
+    last: &Option<Printed>,
+) -> Result<(), NoMemory>
+    ensures { OnOk result (code.new
+        ≡ with_pieces (L.program tables.now)
+        (print_pieces (map item_of items.now) (end_pieces (map item_of items.now)
+        (option_map printed_of last.now))) code.old) }
+{
+    emit_print_end(alloc, code, tables, items, last)?;
+    for place in (0..items.len()).rev() {
+        emit_print_item(alloc, code, tables, &items[place])?;
+    }
+    Ok(())
+}
+
+fn emit_print_end<L: Lookups>(
+    alloc: Global,
+    code: &mut Emitted,
+    tables: &L,
+    items: &[PrintItem],
+    last: &Option<Printed>,
+) -> Result<(), NoMemory>
+    ensures { OnOk result (code.new
+        ≡ with_pieces (L.program tables.now)
+        (end_pieces (map item_of items.now) (option_map printed_of last.now)) code.old) }
+{
+    match last {
+        Some(last) => {
+            code.put(Item::EndLine)?;
+            emit_printed(alloc, code, tables, last)
+        }
+        None => match items {
+            [] => code.put(Item::EndLine),
+            [_, ..] => Ok(()),
+        },
+    }
+}
+
+fn emit_print_item<L: Lookups>(
+    alloc: Global,
+    code: &mut Emitted,
+    tables: &L,
+    item: &PrintItem,
+) -> Result<(), NoMemory>
+    ensures { OnOk result (code.new
+        ≡ with_pieces (L.program tables.now)
+        (printed_pieces (printed_of item.now.printed)
+        (separator_pieces item.now.separator [])) code.old) }
+{
+    match item.separator {
+        Separator::Comma => code.put(Item::Zone)?,
+        Separator::Semicolon => {}
+    }
+    emit_printed(alloc, code, tables, &item.printed)
+}
+
+fn emit_printed<L: Lookups>(
+    alloc: Global,
+    code: &mut Emitted,
+    tables: &L,
+    printed: &Printed,
+) -> Result<(), NoMemory>
+    ensures { OnOk result (code.new
+        ≡ with_pieces (L.program tables.now)
+        (printed_pieces (printed_of printed.now) []) code.old) }
+{
+    match printed {
+        Printed::Value(e) => {
+            code.put(Item::PrintValue)?;
+            emit_expr(alloc, code, tables, e)
+        }
+        Printed::Tab(e) => {
+            code.put(Item::PrintTab)?;
+            emit_expr(alloc, code, tables, e)
+        }
+    }
+}
+
+// Lines
+
+fn line_places<L: Lookups>(
+    alloc: Global,
+    tables: &L,
+    lines: &[u16],
+) -> Result<Series<u32>, NoMemory>
+    ensures { IfOk result (λ places. places
+        ≡ map (places_of (L.program tables.now)).line lines.now) }
+{
+    let mut places = Vec::new(alloc);
+    for line in lines {
+        places.push(tables.line_place(*line))?;
+    }
+    Ok(Series::from_vec(places))
+}
+
+/// Line 0 is none.
+pub fn named_line(line: Option<u16>) -> Option<u16>
+    ensures { result ≡ line_named line }
+{
+    match line {
+        Some(0) => None,
+        other => other,
+    }
+}
+
+fn emit_resume<L: Lookups>(
+    code: &mut Emitted,
+    tables: &L,
+    line: Option<u16>,
+) -> Result<(), NoMemory>
+    ensures { OnOk result (code.new
+        ≡ item.Resume (option_map (places_of (L.program tables.now)).line
+        (line_named line)) ∷ code.old) }
+{
+    match named_line(line) {
+        None => code.put(Item::Resume(None)),
+        Some(line) => code.put(Item::Resume(Some(tables.line_place(line)))),
+    }
+}
