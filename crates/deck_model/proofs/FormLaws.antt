@@ -1,6 +1,6 @@
 -- The form that a line is found to have is one that it has, and a form is found in its line.
 use Rattle.std.proofs.Common.{◌≡◌, ℕ, ◌^◌, ◌<◌, ◌≤◌, Bool, true, false, cond, eqb, List, [], ◌∷◌, ◌++◌, length, get_or, Option, Some, None, refl, sym, ap, subst, ◌∙◌, append_assoc, arith, ◌⊎◌, inl, inr, ⊎_elim}
-use Rattle.std.specs.Prelude.{◌&&◌, ◌||◌, not, nat_le, bytes_eq, codes}
+use Rattle.std.specs.Prelude.{◌&&◌, ◌||◌, not, nat_le, bytes_eq, unwrap_or, codes}
 use Rattle.std.specs.List.{list_all}
 use Rattle.std.specs.Char.{is_ascii_digit}
 use Rattle.std.specs.Fmt.{decimal}
@@ -9,14 +9,15 @@ use Rattle.std.specs.Str.Parse.{AllDigits}
 use Rattle.std.specs.Cmp.Lexicographic.{bytes_decides}
 use Rattle.std.proofs.lemmas.Bool.{ne_eqb, le-leb, cases_lt}
 use Rattle.std.proofs.lemmas.Fmt.{decimal_is_IsNumeral, first_decimal, decimal_digit}
+use Rattle.std.proofs.lemmas.List.{append-nil}
 use Rattle.std.proofs.lemmas.Str.Parse.{digit_from_value}
 use Rattle.monitor_calls.specs.Names.{is_capital_or_digit}
-use Rattle.deck_model.specs.Forms.{Form, Version, Disk, Account, File, Terminal, Keys, End, AccountTexts, account_text, line_of, is_numeral, is_name, is_formed}
-use Rattle.deck_model.specs.Fronts.{Front, Nothing, Versioned, InAccounts, InTerminal, Whole, May}
+use Rattle.deck_model.specs.Forms.{Form, Version, Disk, Account, File, Terminal, Keys, End, AccountTexts, FileTexts, account_text, extension_text, file_text, line_of, is_numeral, is_name, is_formed}
+use Rattle.deck_model.specs.Fronts.{Front, Nothing, Versioned, InAccounts, InFile, InTerminal, Whole, May}
 use Rattle.deck_model.specs.Refusals.{HasForm}
 use Rattle.text_cuts.specs.Cuts.{◌>>=◌, behind, cut}
-use Rattle.deck_model.specs.Reading.{or_else, version_in, disk_in, texts_in, account_in, file_in, terminal_in, keys_in, end_in, groups_in, session_in, form_at}
-use Rattle.text_cuts.proofs.CutLaws.{bind_some, guard_some, and_left, and_right, and_both, behind_takes, Lacks, cut_takes, cut_again}
+use Rattle.deck_model.specs.Reading.{or_else, version_in, disk_in, texts_in, account_in, stem_before, extension_behind, file_texts_in, are_file_texts, file_in, terminal_in, keys_in, end_in, groups_in, contents_in, session_in, form_at}
+use Rattle.text_cuts.proofs.CutLaws.{bind_some, guard_some, and_left, and_right, and_both, behind_takes, Lacks, lacks_both, cut_takes, cut_again, cut_nowhere}
 
 -- ---- numerals and names
 
@@ -102,6 +103,105 @@ unfolding texts_in
 texts_again t p n w =
     ap texts_in (text_is t) ∙ rw (cut_again 44 t.project (t.programmer ++ 32 ∷ (t.password ++ 32 ∷ t.limit)) p, cut_again 32 t.programmer (t.password ++ 32 ∷ t.limit) n, cut_again 32 t.password t.limit w) refl
 
+-- ---- the fields of a file
+
+-- a name is its stem, and its extension behind the first point
+name_take : (name : List ℕ) (o : Option (List ℕ × List ℕ)) → cut 46 name ≡ o → name ≡ stem_before name o ++ extension_text (extension_behind o)
+name_take name None e = sym (append-nil name)
+name_take name (Some parts) e = cut_takes 46 name parts e
+
+stem_again : (stem : List ℕ) (extension : Option (List ℕ)) → Lacks 46 stem → stem_before (stem ++ extension_text extension) (cut 46 (stem ++ extension_text extension)) ≡ stem
+stem_again stem None lacks = ap (stem_before (stem ++ [])) (ap (cut 46) (append-nil stem) ∙ cut_nowhere 46 stem lacks) ∙ append-nil stem
+stem_again stem (Some extension) lacks = ap (stem_before (stem ++ 46 ∷ extension)) (cut_again 46 stem extension lacks)
+
+extension_again : (stem : List ℕ) (extension : Option (List ℕ)) → Lacks 46 stem → extension_behind (cut 46 (stem ++ extension_text extension)) ≡ extension
+extension_again stem None lacks = ap extension_behind (ap (cut 46) (append-nil stem) ∙ cut_nowhere 46 stem lacks)
+extension_again stem (Some extension) lacks = ap extension_behind (cut_again 46 stem extension lacks)
+
+abbrev name_of : FileTexts → List ℕ
+name_of t = t.stem ++ extension_text t.extension
+
+abbrev plain_file : FileTexts → List ℕ
+plain_file t = codes "FILE [" ++ (t.project ++ 44 ∷ (t.programmer ++ 93 ∷ (name_of t ++ 60 ∷ (t.code ++ 62 ∷ 32 ∷ t.blocks))))
+
+file_is : (t : FileTexts) → file_text t ≡ plain_file t
+file_is t = simp append_assoc
+
+abbrev fields : List ℕ → List ℕ → List ℕ → List ℕ → List ℕ → FileTexts
+fields project programmer name code blocks =
+    record {
+      project = project;
+      programmer = programmer;
+      stem = stem_before name (cut 46 name);
+      extension = extension_behind (cut 46 name);
+      code = code;
+      blocks = blocks;
+    }
+
+file_texts_take : (line : List ℕ) (t : FileTexts) → file_texts_in line ≡ Some t → line ≡ file_text t
+unfolding file_texts_in
+file_texts_take line t e =
+    let a = bind_some (behind (codes "FILE [") line) (λ f. cut 44 f >>= λ p. cut 93 p.1 >>= λ n. cut 60 n.1 >>= λ m. cut 62 m.1 >>= λ c. behind (codes " ") c.1 >>= λ k. Some (fields p.0 n.0 m.0 c.0 k)) t e in
+    let b = bind_some (cut 44 a.0) (λ p. cut 93 p.1 >>= λ n. cut 60 n.1 >>= λ m. cut 62 m.1 >>= λ c. behind (codes " ") c.1 >>= λ k. Some (fields p.0 n.0 m.0 c.0 k)) t a.2 in
+    let c = bind_some (cut 93 b.0.1) (λ n. cut 60 n.1 >>= λ m. cut 62 m.1 >>= λ c. behind (codes " ") c.1 >>= λ k. Some (fields b.0.0 n.0 m.0 c.0 k)) t b.2 in
+    let d = bind_some (cut 60 c.0.1) (λ m. cut 62 m.1 >>= λ x. behind (codes " ") x.1 >>= λ k. Some (fields b.0.0 c.0.0 m.0 x.0 k)) t c.2 in
+    let f = bind_some (cut 62 d.0.1) (λ x. behind (codes " ") x.1 >>= λ k. Some (fields b.0.0 c.0.0 d.0.0 x.0 k)) t d.2 in
+    let g = bind_some (behind (codes " ") f.0.1) (λ k. Some (fields b.0.0 c.0.0 d.0.0 f.0.0 k)) t f.2 in
+    let made : FileTexts = fields b.0.0 c.0.0 d.0.0 f.0.0 g.0 in
+    let fifth : d.0.1 ≡ f.0.0 ++ 62 ∷ 32 ∷ g.0 = cut_takes 62 d.0.1 f.0 f.1 ∙ ap (λ t. f.0.0 ++ 62 ∷ t) (behind_takes (codes " ") f.0.1 g.0 g.1) in
+    let name : d.0.0 ≡ name_of made = name_take d.0.0 (cut 46 d.0.0) refl in
+    let fourth : c.0.1 ≡ name_of made ++ 60 ∷ (f.0.0 ++ 62 ∷ 32 ∷ g.0) = cut_takes 60 c.0.1 d.0 d.1 ∙ (λ i. name i ++ 60 ∷ fifth i) in
+    let third : b.0.1 ≡ c.0.0 ++ 93 ∷ (name_of made ++ 60 ∷ (f.0.0 ++ 62 ∷ 32 ∷ g.0)) = cut_takes 93 b.0.1 c.0 c.1 ∙ ap (λ t. c.0.0 ++ 93 ∷ t) fourth in
+    let second : a.0 ≡ b.0.0 ++ 44 ∷ (c.0.0 ++ 93 ∷ (name_of made ++ 60 ∷ (f.0.0 ++ 62 ∷ 32 ∷ g.0))) = cut_takes 44 a.0 b.0 b.1 ∙ ap (λ t. b.0.0 ++ 44 ∷ t) third in
+    subst (λ (x : FileTexts). line ≡ plain_file x) (some_is made t g.2) (behind_takes (codes "FILE [") line a.0 a.1 ∙ ap (λ t. codes "FILE [" ++ t) second)
+    ∙ sym (file_is t)
+
+-- no field has a byte at which the line is cut behind it
+record IsPlainFile (t : FileTexts) : Type 0 where
+  project : Lacks 44 t.project
+  programmer : Lacks 93 t.programmer
+  stem : Lacks 46 t.stem
+  name : Lacks 60 (name_of t)
+  code : Lacks 62 t.code
+
+file_texts_again : (t : FileTexts) → IsPlainFile t → file_texts_in (file_text t) ≡ Some t
+unfolding file_texts_in
+file_texts_again t plain =
+    ap file_texts_in (file_is t)
+    ∙ rw (cut_again 44 t.project (t.programmer ++ 93 ∷ (name_of t ++ 60 ∷ (t.code ++ 62 ∷ 32 ∷ t.blocks))) plain.project, cut_again 93 t.programmer (name_of t ++ 60 ∷ (t.code ++ 62 ∷ 32 ∷ t.blocks)) plain.programmer, cut_again 60 (name_of t) (t.code ++ 62 ∷ 32 ∷ t.blocks) plain.name, cut_again 62 t.code (32 ∷ t.blocks) plain.code)
+    (λ i. Some (record {
+      project = t.project;
+      programmer = t.programmer;
+      stem = stem_again t.stem t.extension plain.stem i;
+      extension = extension_again t.stem t.extension plain.stem i;
+      code = t.code;
+      blocks = t.blocks;
+    }))
+
+extension_lacks : (extension : Option (List ℕ)) → is_name (unwrap_or extension []) ≡ true → Lacks 60 (extension_text extension)
+extension_lacks None name = tt
+extension_lacks (Some extension) name = (refl, lacks_unlike is_capital_or_digit 60 refl extension name)
+
+plain_texts : (t : FileTexts) → are_file_texts t ≡ true → IsPlainFile t
+plain_texts t formed =
+    let p = is_numeral t.project in
+    let n = is_numeral t.programmer in
+    let s = is_name t.stem in
+    let x = is_name (unwrap_or t.extension []) in
+    let c = is_numeral t.code in
+    let e5 = and_left (p && n && s && x && c) (is_numeral t.blocks) formed in
+    let e4 = and_left (p && n && s && x) c e5 in
+    let e3 = and_left (p && n && s) x e4 in
+    let e2 = and_left (p && n) s e3 in
+    let stem : s ≡ true = and_right (p && n) s e3 in
+    record {
+      project = numeral_lacks 44 refl t.project (and_left p n e2);
+      programmer = numeral_lacks 93 refl t.programmer (and_right p n e2);
+      stem = lacks_unlike is_capital_or_digit 46 refl t.stem stem;
+      name = lacks_both 60 t.stem (extension_text t.extension) (lacks_unlike is_capital_or_digit 60 refl t.stem stem) (extension_lacks t.extension (and_right (p && n && s) x e4));
+      code = numeral_lacks 62 refl t.code (and_right (p && n && s && x) c e5);
+    }
+
 -- ---- what is found
 
 -- the form is well formed, and the line is its line
@@ -142,11 +242,12 @@ account_take line form e =
     let g = guard_some (are_texts a.0) (Account a.0) form a.2 in
     (a.0, record { formed = g.0; line_is = texts_take line a.0 a.1 }, g.1)
 
-file_take : (line : List ℕ) (form : Form) → file_in line ≡ Some form → (rest : List ℕ) × Took line (File rest) × (File rest ≡ form)
+file_take : (line : List ℕ) (form : Form) → file_in line ≡ Some form → (t : FileTexts) × Took line (File t) × (File t ≡ form)
 unfolding file_in
 file_take line form e =
-    let a = bind_some (behind (codes "FILE ") line) (λ rest. Some (File rest)) form e in
-    (a.0, record { formed = refl; line_is = behind_takes (codes "FILE ") line a.0 a.1 }, some_is (File a.0) form a.2)
+    let a = bind_some (file_texts_in line) (λ t. cond (are_file_texts t) (Some (File t)) None) form e in
+    let g = guard_some (are_file_texts a.0) (File a.0) form a.2 in
+    (a.0, record { formed = g.0; line_is = file_texts_take line a.0 a.1 }, g.1)
 
 terminal_take : (line : List ℕ) (form : Form) → terminal_in line ≡ Some form → (name : List ℕ) × Took line (Terminal name) × (Terminal name ≡ form)
 unfolding terminal_in
@@ -167,7 +268,7 @@ else_some (Some a) b y e = inl e
 
 -- what is found is a form that the line has
 pub form_takes : (front : Front) (line : List ℕ) (form : Form) → form_at front line ≡ Some form → HasForm front line form
-unfolding form_at groups_in session_in
+unfolding form_at groups_in contents_in session_in
 form_takes Nothing line form e =
     let v = version_take line form e in
     took_has Nothing line Version form tt v.0 v.1
@@ -195,6 +296,27 @@ form_takes (InAccounts deck) line form e =
     (else_some (terminal_in line) (end_in line) form i))
     (else_some (file_in line) (or_else (terminal_in line) (end_in line)) form h))
     (else_some (account_in line) (or_else (file_in line) (or_else (terminal_in line) (end_in line))) form e)
+form_takes (InFile deck file) line form e =
+    ⊎_elim
+    (λ h.
+    let k = keys_take line form h in
+    took_has (InFile deck file) line (Keys k.0) form tt k.1 k.2)
+    (λ h.
+    ⊎_elim
+    (λ i.
+    let f = file_take line form i in
+    took_has (InFile deck file) line (File f.0) form tt f.1 f.2)
+    (λ i.
+    ⊎_elim
+    (λ j.
+    let t = terminal_take line form j in
+    took_has (InFile deck file) line (Terminal t.0) form tt t.1 t.2)
+    (λ j.
+    let v = end_take line form j in
+    took_has (InFile deck file) line End form tt v.0 v.1)
+    (else_some (terminal_in line) (end_in line) form i))
+    (else_some (file_in line) (or_else (terminal_in line) (end_in line)) form h))
+    (else_some (keys_in line) (or_else (file_in line) (or_else (terminal_in line) (end_in line))) form e)
 form_takes (InTerminal deck terminal) line form e =
     ⊎_elim
     (λ h.
@@ -224,14 +346,22 @@ account_found t formed =
     let w = lacks_unlike is_capital_or_digit 32 refl t.password (and_right (is_numeral t.project && is_numeral t.programmer) (is_name t.password) b) in
     rw (texts_again t p n w, formed) refl
 
+file_found : (t : FileTexts) → are_file_texts t ≡ true → file_in (file_text t) ≡ Some (File t)
+unfolding file_in
+file_found t formed = rw (file_texts_again t (plain_texts t formed), formed) refl
+
 pub form_again : (front : Front) (form : Form) → May front form → is_formed form ≡ true → form_at front (line_of form) ≡ Some form
-unfolding form_at groups_in session_in version_in disk_in account_in texts_in file_in terminal_in keys_in end_in
+unfolding form_at groups_in contents_in session_in version_in disk_in account_in texts_in file_in file_texts_in terminal_in keys_in end_in
 form_again Nothing Version may formed = refl
 form_again Versioned (Disk blocks) may formed = rw formed refl
 form_again (InAccounts deck) (Account texts) may formed = rw (account_found texts formed) refl
-form_again (InAccounts deck) (File rest) may formed = refl
+form_again (InAccounts deck) (File texts) may formed = rw (file_found texts formed) refl
 form_again (InAccounts deck) (Terminal name) may formed = rw formed refl
 form_again (InAccounts deck) End may formed = refl
+form_again (InFile deck file) (Keys text) may formed = refl
+form_again (InFile deck file) (File texts) may formed = rw (file_found texts formed) refl
+form_again (InFile deck file) (Terminal name) may formed = rw formed refl
+form_again (InFile deck file) End may formed = refl
 form_again (InTerminal deck terminal) (Keys keys) may formed = refl
 form_again (InTerminal deck terminal) (Terminal name) may formed = rw formed refl
 form_again (InTerminal deck terminal) End may formed = refl

@@ -1,29 +1,32 @@
 -- A line for which no cause applies makes of a front another one, and it is found so.
 use Rattle.std.proofs.Common.{◌≡◌, ℕ, ◌^◌, ◌<◌, Bool, true, false, cond, List, [], ◌∷◌, ◌++◌, length, map, Option, Some, None, Ok, Err, refl, sym, ap, subst, ◌∙◌, append_assoc, arith, inl, inr, ⊎_elim}
-use Rattle.std.specs.Prelude.{Result, ◌&&◌, not, nat_le, nat_lt, bytes_eq}
-use Rattle.std.specs.List.{flat_map}
+use Rattle.std.specs.Prelude.{Result, ◌+◌, ◌*◌, ◌≤◌, ◌&&◌, not, nat_le, nat_lt, bytes_eq, unwrap_or}
+use Rattle.std.specs.List.{list_all, flat_map}
 use Rattle.std.specs.Fmt.{decimal}
 use Rattle.std.specs.Str.Parse.{digits_value}
 use Rattle.std.specs.Cmp.Lexicographic.{bytes_decides}
-use Rattle.std.proofs.lemmas.Bool.{leb-true, le-leb, leb-false, lt-leb, ltb-false}
+use Rattle.std.proofs.lemmas.Bool.{leb-true, le-leb, leb-false, lt-leb, ltb-false, le-ltb}
 use Rattle.std.proofs.lemmas.Fmt.{decimal_is_IsNumeral}
 use Rattle.std.proofs.lemmas.List.{append-nil, map-append}
 use Rattle.std.proofs.lemmas.List.Concat.{flat_map-append}
 use Rattle.basic_values.specs.Decimals.{is_number_between}
 use Rattle.monitor_calls.specs.declared.volumes.AccountEntry.{AccountEntry}
-use Rattle.monitor_calls.specs.Names.{is_password, is_terminal_name}
-use Rattle.monitor_calls.specs.Volumes.{has_account, is_between, is_good_entry}
+use Rattle.monitor_calls.specs.declared.files.FileName.{FileName}
+use Rattle.monitor_calls.specs.Names.{is_capital_or_digit, is_text_of, is_password, is_terminal_name}
+use Rattle.monitor_calls.specs.Volumes.{has_account, is_between, is_good_entry, is_good_name, is_good_file, are_good_files}
 use Rattle.deck_model.specs.declared.faults.DeckCause.{DeckCause}
+use Rattle.deck_model.specs.Files.{text_of, FitsText, file_entry, has_file, blocks_in}
 use Rattle.deck_model.specs.Deck as model
 use Rattle.deck_model.specs.Deck.{Deck, IsDeck, IsTerminal, IsKeyLine, has_terminal}
-use Rattle.deck_model.specs.Forms.{Form, Version, Disk, Account, File, Terminal, Keys, End, AccountTexts, line_of, is_name, is_formed}
-use Rattle.deck_model.specs.Spelling.{texts_of, account_line, key_line, terminal_lines, group_lines}
-use Rattle.deck_model.specs.Fronts.{Front, Nothing, Versioned, InAccounts, InTerminal, with_account, with_terminal, with_keys, front_lines, IsFront, May, entry_of, new_terminal, adds}
-use Rattle.deck_model.specs.Refusals.{is_in_range, first_cause, account_causes, terminal_causes, causes, shape_cause, HasForm, IsRefused}
+use Rattle.deck_model.specs.Forms.{Form, Version, Disk, Account, File, Terminal, Keys, End, AccountTexts, FileTexts, line_of, is_name, is_formed}
+use Rattle.deck_model.specs.Spelling.{texts_of, account_line, extension_of, file_texts, file_lines, key_line, terminal_lines, group_lines}
+use Rattle.deck_model.specs.Fronts.{Front, Nothing, Versioned, InAccounts, InFile, InTerminal, with_account, with_file, with_text, with_terminal, with_keys, bare_deck, front_lines, IsFront, May, entry_of, new_file, new_terminal, adds}
+use Rattle.deck_model.specs.Refusals.{is_in_range, is_extension, is_file_in_range, first_cause, account_causes, file_causes, text_causes, terminal_causes, causes, shape_cause, HasForm, IsRefused}
 use Rattle.deck_model.specs.Reading.{form_at, unless_refused, behind_form, behind_line}
 use Rattle.text_cuts.proofs.CutLaws.{and_left, and_right, and_both, same_bytes}
 use Rattle.deck_model.proofs.FormLaws.{form_takes, form_again, decimal_numeral}
-use Rattle.deck_model.proofs.VolumeLaws.{volume_parts, volume_whole, volume_push, FitsIn, FitsAmong, terminals_push, terminals_last, terminals_front, all_append}
+use Rattle.deck_model.proofs.VolumeLaws.{GoodVolume, volume_parts, no_files, volume_whole, volume_push, owner_ranges, FitsIn, FitsAmong, terminals_push, terminals_last, terminals_front, all_append, all_front, all_back}
+use Rattle.deck_model.proofs.FileLaws.{files_parts, files_whole, files_front, files_push, files_last, FitsFile}
 
 -- ---- where no cause applies
 
@@ -142,6 +145,157 @@ account_none deck e fits =
     let room : nat_le 512 (length deck.accounts) ≡ false = lt-leb 512 (length deck.accounts) fits.room in
     rw (w.in_range, new, room) refl
 
+-- ---- the fields of a file
+
+extension_short : (extension : Option (List ℕ)) → is_extension extension ≡ true → is_text_of is_capital_or_digit 0 3 (unwrap_or extension []) ≡ true
+extension_short None e = refl
+extension_short (Some text) e =
+    let all = list_all is_capital_or_digit text in
+    let lengths = and_left (nat_le 1 (length text) && nat_le (length text) 3) all e in
+    and_both (nat_le 0 (length text) && nat_le (length text) 3) all
+    (and_both (nat_le 0 (length text)) (nat_le (length text) 3) (le-leb 0 (length text) (omega arith)) (and_right (nat_le 1 (length text)) (nat_le (length text) 3) lengths))
+    (and_right (nat_le 1 (length text) && nat_le (length text) 3) all e)
+
+extension_told : (extension : Option (List ℕ)) → is_extension extension ≡ true → extension_of (unwrap_or extension []) ≡ extension
+extension_told None e = refl
+extension_told (Some []) e = absurd (cc)
+extension_told (Some (b ∷ bs)) e = refl
+
+extension_there : (text : List ℕ) → is_text_of is_capital_or_digit 0 3 text ≡ true → is_extension (extension_of text) ≡ true
+extension_there [] e = refl
+extension_there (b ∷ bs) e =
+    let all = list_all is_capital_or_digit (b ∷ bs) in
+    let lengths = and_left (nat_le 0 (length (b ∷ bs)) && nat_le (length (b ∷ bs)) 3) all e in
+    and_both (nat_le 1 (length (b ∷ bs)) && nat_le (length (b ∷ bs)) 3) all
+    (and_both (nat_le 1 (length (b ∷ bs))) (nat_le (length (b ∷ bs)) 3) (le-leb 1 (length (b ∷ bs)) (omega arith)) (and_right (nat_le 0 (length (b ∷ bs))) (nat_le (length (b ∷ bs)) 3) lengths))
+    (and_right (nat_le 0 (length (b ∷ bs)) && nat_le (length (b ∷ bs)) 3) all e)
+
+extension_back : (text : List ℕ) → unwrap_or (extension_of text) [] ≡ text
+extension_back [] = refl
+extension_back (b ∷ bs) = refl
+
+record IsSoundFile (texts : FileTexts) : Type 0 where
+  named : is_good_name (new_file texts).name ≡ true
+  code : nat_le (new_file texts).code 63 ≡ true
+  texts_are : file_texts (new_file texts) ≡ texts
+
+sound_file : (texts : FileTexts) → is_file_in_range texts ≡ true → IsSoundFile texts
+sound_file t e =
+    let p : Bool = is_number_between 1 254 t.project in
+    let n : Bool = is_number_between 0 254 t.programmer in
+    let s : Bool = is_password t.stem in
+    let x : Bool = is_extension t.extension in
+    let c : Bool = is_number_between 0 63 t.code in
+    let b : Bool = is_number_between 0 16384 t.blocks in
+    let e5 = and_left (p && n && s && x && c) b e in
+    let e4 = and_left (p && n && s && x) c e5 in
+    let e3 = and_left (p && n && s) x e4 in
+    let e2 = and_left (p && n) s e3 in
+    let project = number_parts 1 254 t.project (and_left p n e2) in
+    let programmer = number_parts 0 254 t.programmer (and_right p n e2) in
+    let stem : s ≡ true = and_right (p && n) s e3 in
+    let short : x ≡ true = and_right (p && n && s) x e4 in
+    let code = number_parts 0 63 t.code (and_right (p && n && s && x) c e5) in
+    let blocks = number_parts 0 16384 t.blocks (and_right (p && n && s && x && c) b e) in
+    record {
+      named = and_both (is_text_of is_capital_or_digit 1 6 t.stem) (is_text_of is_capital_or_digit 0 3 (unwrap_or t.extension [])) stem (extension_short t.extension short);
+      code = code.most;
+      texts_are = λ i. record {
+        project = sym project.text_is i;
+        programmer = sym programmer.text_is i;
+        stem = t.stem;
+        extension = extension_told t.extension short i;
+        code = sym code.text_is i;
+        blocks = sym blocks.text_is i;
+      };
+    }
+
+abbrev untexted : model.File → model.File
+untexted file = record file { texts = [] }
+
+record WrittenFile (f : model.File) : Type 0 where
+  in_range : is_file_in_range (file_texts f) ≡ true
+  file_is : new_file (file_texts f) ≡ untexted f
+  formed : is_formed (File (file_texts f)) ≡ true
+
+short_name : (text : List ℕ) → is_text_of is_capital_or_digit 0 3 text ≡ true → is_name text ≡ true
+short_name text e = and_right (nat_le 0 (length text) && nat_le (length text) 3) (is_name text) e
+
+written_file : (accounts : List AccountEntry) (f : model.File) → list_all is_good_entry accounts ≡ true → is_good_file accounts (file_entry f) ≡ true → f.blocks ≤ 16384 → WrittenFile f
+written_file accounts f each good most =
+    let name : FileName = f.name in
+    let has : Bool = has_account accounts name.owner in
+    let few : Bool = nat_le f.code 63 in
+    let a = and_left (is_good_name name && few) has good in
+    let named = and_left (is_good_name name) few a in
+    let code : few ≡ true = and_right (is_good_name name) few a in
+    let stem = and_left (is_text_of is_capital_or_digit 1 6 name.stem) (is_text_of is_capital_or_digit 0 3 name.extension) named in
+    let short = and_right (is_text_of is_capital_or_digit 1 6 name.stem) (is_text_of is_capital_or_digit 0 3 name.extension) named in
+    let owner = owner_ranges accounts name.owner each (and_right (is_good_name name && few) has good) in
+    let small_p : name.owner.project < 2 ^ 32 = omega (arith, leb-true _ _ owner.project) in
+    let small_n : name.owner.programmer < 2 ^ 32 = omega (arith, leb-true _ _ owner.programmer) in
+    let small_c : f.code < 2 ^ 32 = omega (arith, leb-true _ _ code) in
+    let small_b : f.blocks < 2 ^ 32 = omega (arith, most) in
+    let least_n : nat_le 0 name.owner.programmer ≡ true = le-leb 0 name.owner.programmer (omega arith) in
+    let least_c : nat_le 0 f.code ≡ true = le-leb 0 f.code (omega arith) in
+    let least_b : nat_le 0 f.blocks ≡ true = le-leb 0 f.blocks (omega arith) in
+    record {
+      in_range = rw (number_is 1 254 name.owner.project small_p owner.least owner.project, number_is 0 254 name.owner.programmer small_n least_n owner.programmer, stem, extension_there name.extension short, number_is 0 63 f.code small_c least_c code, number_is 0 16384 f.blocks small_b least_b (le-leb _ _ most)) refl;
+      file_is = λ i. record {
+        name = record {
+          owner = record { project = value_is name.owner.project small_p i; programmer = value_is name.owner.programmer small_n i };
+          stem = name.stem;
+          extension = extension_back name.extension i;
+        };
+        code = value_is f.code small_c i;
+        blocks = value_is f.blocks small_b i;
+        texts = [];
+      };
+      formed = rw (decimal_numeral name.owner.project small_p, decimal_numeral name.owner.programmer small_n, capitals name.stem stem, extension_back name.extension, short_name name.extension short, decimal_numeral f.code small_c, decimal_numeral f.blocks small_b) refl;
+    }
+
+file_fits : (deck : Deck) (texts : FileTexts) → first_cause (file_causes deck texts) ≡ None → FitsFile deck.blocks deck.accounts deck.files (new_file texts) × (file_texts (new_file texts) ≡ texts)
+file_fits deck texts e =
+    let file : model.File = new_file texts in
+    let a = no_cause (not (is_file_in_range texts)) _ _ e in
+    let b = no_cause (has_file deck.files file.name) _ _ a.1 in
+    let c = no_cause (not (has_account deck.accounts file.name.owner)) _ _ b.1 in
+    let d = no_cause (nat_le 512 (length deck.files)) _ _ c.1 in
+    let f = no_cause (nat_lt deck.blocks (blocks_in deck.files + file.blocks)) _ _ d.1 in
+    let s = sound_file texts (not_false (is_file_in_range texts) a.0) in
+    let named = and_both (is_good_name file.name) (nat_le file.code 63) s.named s.code in (
+      record {
+        good = and_both (is_good_name file.name && nat_le file.code 63) (has_account deck.accounts file.name.owner) named (not_false _ c.0);
+        new = b.0;
+        room = leb-false 512 (length deck.files) d.0;
+        fit = ltb-false deck.blocks (blocks_in deck.files + file.blocks) f.0;
+      },
+      s.texts_are,
+    )
+
+-- what is known of a file that fits in a good deck
+pub record TakenFile (deck : Deck) (f : model.File) : Type 0 where
+  pub formed : is_formed (File (file_texts f)) ≡ true
+  pub none : first_cause (file_causes deck (file_texts f)) ≡ None
+  pub file_is : new_file (file_texts f) ≡ untexted f
+
+pub file_taken : (deck : Deck) (f : model.File) → GoodVolume deck.blocks deck.accounts → FitsFile deck.blocks deck.accounts deck.files f → TakenFile deck f
+file_taken deck f good fits =
+    let size : deck.blocks ≤ 16384 = leb-true _ _ (and_right (nat_le 1 deck.blocks) (nat_le deck.blocks 16384) good.size) in
+    let most : f.blocks ≤ 16384 = omega (arith, size, fits.fit) in
+    let w = written_file deck.accounts f good.each fits.good most in
+    let g : model.File = new_file (file_texts f) in
+    let new : has_file deck.files g.name ≡ false = ap (λ (x : model.File). has_file deck.files x.name) w.file_is ∙ fits.new in
+    let owner : has_account deck.accounts g.name.owner ≡ true =
+    ap (λ (x : model.File). has_account deck.accounts x.name.owner) w.file_is
+    ∙ and_right (is_good_name f.name && nat_le f.code 63) (has_account deck.accounts f.name.owner) fits.good in
+    let room : nat_le 512 (length deck.files) ≡ false = lt-leb 512 (length deck.files) fits.room in
+    let fit : nat_lt deck.blocks (blocks_in deck.files + g.blocks) ≡ false =
+    ap (λ (x : model.File). nat_lt deck.blocks (blocks_in deck.files + x.blocks)) w.file_is ∙ le-ltb deck.blocks (blocks_in deck.files + f.blocks) fits.fit in
+    record { formed = w.formed; none = rw (w.in_range, new, owner, room, fit) refl; file_is = w.file_is }
+
+-- ---- terminals
+
 terminal_fits : (terminals : List model.Terminal) (name : List ℕ) → first_cause (terminal_causes terminals name) ≡ None → FitsAmong terminals (new_terminal name)
 terminal_fits terminals name e =
     let a = no_cause (not (is_terminal_name name)) _ _ e in
@@ -156,73 +310,180 @@ terminal_none terminals t fits =
     let room : nat_le 63 (length terminals) ≡ false = lt-leb 63 (length terminals) fits.room in
     rw (good, new, room) refl
 
+-- ---- decks with one file or terminal more
+
+pub deck_file : (deck : Deck) (f : model.File) → IsDeck deck → FitsFile deck.blocks deck.accounts deck.files f → FitsText f → IsDeck (with_file deck f)
+deck_file deck f is fits short =
+    let parts = volume_parts deck.blocks deck.accounts (model.volume_files deck) is.volume in
+    let files = files_push deck.blocks deck.accounts deck.files f (files_parts deck.blocks deck.accounts deck.files parts.1) fits in
+    record {
+      volume = volume_whole deck.blocks deck.accounts (model.volume_files (with_file deck f)) parts.0 (files_whole deck.blocks deck.accounts (deck.files ++ f ∷ []) files);
+      texts = all_append FitsText deck.files (f ∷ []) is.texts (short, tt);
+      terminals = is.terminals;
+    }
+
+-- what is known of a deck whose last file is this one
+pub record LastFile (deck : Deck) (f : model.File) : Type 0 where
+  pub before : IsDeck deck
+  pub fits : FitsFile deck.blocks deck.accounts deck.files f
+  pub short : FitsText f
+
+pub deck_last : (deck : Deck) (f : model.File) → IsDeck (with_file deck f) → LastFile deck f
+deck_last deck f is =
+    let parts = volume_parts deck.blocks deck.accounts (model.volume_files (with_file deck f)) is.volume in
+    let files = files_parts deck.blocks deck.accounts (deck.files ++ f ∷ []) parts.1 in
+    record {
+      before = record {
+        volume = volume_whole deck.blocks deck.accounts (model.volume_files deck) parts.0 (files_whole deck.blocks deck.accounts deck.files (files_front deck.blocks deck.accounts deck.files (f ∷ []) files));
+        texts = all_front FitsText deck.files (f ∷ []) is.texts;
+        terminals = is.terminals;
+      };
+      fits = files_last deck.blocks deck.accounts deck.files f files;
+      short = (all_back FitsText deck.files (f ∷ []) is.texts).0;
+    }
+
+pub deck_terminal : (deck : Deck) (t : model.Terminal) → IsDeck deck → FitsAmong deck.terminals t → IsDeck (with_terminal deck t)
+deck_terminal deck t is fits = record { volume = is.volume; texts = is.texts; terminals = terminals_push deck.terminals t is.terminals fits }
+
 -- ---- the front behind a line
 
-pub group_bare : (deck : Deck) → deck.terminals ≡ [] → group_lines deck ≡ line_of Version ∷ line_of (Disk (decimal deck.blocks)) ∷ map account_line deck.accounts
-group_bare deck none =
-    ap (λ (ts : List model.Terminal). line_of Version ∷ line_of (Disk (decimal deck.blocks)) ∷ (map account_line deck.accounts ++ flat_map terminal_lines ts)) none
-    ∙ ap (λ (ls : List (List ℕ)). line_of Version ∷ line_of (Disk (decimal deck.blocks)) ∷ ls) (append-nil (map account_line deck.accounts))
+abbrev head_of : Deck → List (List ℕ) → List (List ℕ)
+head_of deck lines = line_of Version ∷ line_of (Disk (decimal deck.blocks)) ∷ lines
+
+-- the lines of a deck without terminals
+group_files : (deck : Deck) → deck.terminals ≡ [] → group_lines deck ≡ head_of deck (map account_line deck.accounts ++ flat_map file_lines deck.files)
+group_files deck none =
+    ap (λ (ts : List model.Terminal). head_of deck (map account_line deck.accounts ++ (flat_map file_lines deck.files ++ flat_map terminal_lines ts))) none
+    ∙ ap (λ (ls : List (List ℕ)). head_of deck (map account_line deck.accounts ++ ls)) (append-nil (flat_map file_lines deck.files))
+
+-- and of one without files
+group_bare : (deck : Deck) → deck.files ≡ [] → deck.terminals ≡ [] → group_lines deck ≡ head_of deck (map account_line deck.accounts)
+group_bare deck no_file none =
+    group_files deck none
+    ∙ ap (λ (fs : List model.File). head_of deck (map account_line deck.accounts ++ flat_map file_lines fs)) no_file
+    ∙ ap (head_of deck) (append-nil (map account_line deck.accounts))
+
+pub group_file : (deck : Deck) (f : model.File) → deck.terminals ≡ [] → group_lines (with_file deck f) ≡ group_lines deck ++ file_lines f
+group_file deck f none =
+    group_files (with_file deck f) none
+    ∙ ap (λ (ls : List (List ℕ)). head_of deck (map account_line deck.accounts ++ ls)) (flat_map-append file_lines deck.files (f ∷ []) ∙ ap (λ (ls : List (List ℕ)). flat_map file_lines deck.files ++ ls) (append-nil (file_lines f)))
+    ∙ ap (head_of deck) (sym (append_assoc (map account_line deck.accounts) (flat_map file_lines deck.files) (file_lines f)))
+    ∙ ap (λ (ls : List (List ℕ)). ls ++ file_lines f) (sym (group_files deck none))
 
 pub group_more : (deck : Deck) (t : model.Terminal) → group_lines (with_terminal deck t) ≡ group_lines deck ++ terminal_lines t
 group_more deck t =
-    ap (λ (ls : List (List ℕ)). line_of Version ∷ line_of (Disk (decimal deck.blocks)) ∷ ls)
-    (ap (λ (ls : List (List ℕ)). map account_line deck.accounts ++ ls) (flat_map-append terminal_lines deck.terminals (t ∷ []) ∙ ap (λ (ls : List (List ℕ)). flat_map terminal_lines deck.terminals ++ ls) (append-nil (terminal_lines t)))
-    ∙ sym (append_assoc (map account_line deck.accounts) (flat_map terminal_lines deck.terminals) (terminal_lines t)))
+    let accounts : List (List ℕ) = map account_line deck.accounts in
+    let files : List (List ℕ) = flat_map file_lines deck.files in
+    let terminals : List (List ℕ) = flat_map terminal_lines deck.terminals in
+    let more : flat_map terminal_lines (deck.terminals ++ t ∷ []) ≡ terminals ++ terminal_lines t =
+    flat_map-append terminal_lines deck.terminals (t ∷ []) ∙ ap (λ (ls : List (List ℕ)). terminals ++ ls) (append-nil (terminal_lines t)) in
+    ap (λ (ls : List (List ℕ)). head_of deck (accounts ++ (files ++ ls))) more
+    ∙ ap (λ (ls : List (List ℕ)). head_of deck (accounts ++ ls)) (sym (append_assoc files terminals (terminal_lines t)))
+    ∙ ap (head_of deck) (sym (append_assoc accounts (files ++ terminals) (terminal_lines t)))
 
-account_more : (deck : Deck) (texts : AccountTexts) → deck.terminals ≡ [] → texts_of (entry_of texts) ≡ texts → group_lines (with_account deck (entry_of texts)) ≡ group_lines deck ++ line_of (Account texts) ∷ []
-account_more deck texts none same =
-    group_bare (with_account deck (entry_of texts)) none
-    ∙ ap (λ (ls : List (List ℕ)). line_of Version ∷ line_of (Disk (decimal deck.blocks)) ∷ ls) (map-append account_line deck.accounts (entry_of texts ∷ []))
-    ∙ ap (λ (t : AccountTexts). line_of Version ∷ line_of (Disk (decimal deck.blocks)) ∷ (map account_line deck.accounts ++ line_of (Account t) ∷ [])) same
-    ∙ ap (λ (ls : List (List ℕ)). ls ++ line_of (Account texts) ∷ []) (sym (group_bare deck none))
+account_more : (deck : Deck) (texts : AccountTexts) → deck.files ≡ [] → deck.terminals ≡ [] → texts_of (entry_of texts) ≡ texts → group_lines (with_account deck (entry_of texts)) ≡ group_lines deck ++ line_of (Account texts) ∷ []
+account_more deck texts no_file none same =
+    group_bare (with_account deck (entry_of texts)) no_file none
+    ∙ ap (head_of deck) (map-append account_line deck.accounts (entry_of texts ∷ []))
+    ∙ ap (λ (t : AccountTexts). head_of deck (map account_line deck.accounts ++ line_of (Account t) ∷ [])) same
+    ∙ ap (λ (ls : List (List ℕ)). ls ++ line_of (Account texts) ∷ []) (sym (group_bare deck no_file none))
 
-keys_more : (deck : Deck) (t : model.Terminal) (keys : List ℕ) → group_lines deck ++ terminal_lines (with_keys t keys) ≡ (group_lines deck ++ terminal_lines t) ++ line_of (Keys keys) ∷ []
-keys_more deck t keys =
-    ap (λ (ls : List (List ℕ)). group_lines deck ++ line_of (Terminal t.name) ∷ ls) (map-append key_line t.keys (keys ∷ []))
-    ∙ sym (append_assoc (group_lines deck) (terminal_lines t) (line_of (Keys keys) ∷ []))
+new_lines : (lines : List (List ℕ)) (texts : FileTexts) → file_texts (new_file texts) ≡ texts → lines ++ file_lines (new_file texts) ≡ lines ++ line_of (File texts) ∷ []
+new_lines lines texts same = ap (λ (t : FileTexts). lines ++ line_of (File t) ∷ []) same
+
+-- one line of a file's text, or of a terminal's keys, behind the lines of a group
+keyed_more : (lines : List (List ℕ)) (head : List ℕ) (keyed : List (List ℕ)) (keys : List ℕ) → lines ++ head ∷ map key_line (keyed ++ keys ∷ []) ≡ (lines ++ head ∷ map key_line keyed) ++ line_of (Keys keys) ∷ []
+keyed_more lines head keyed keys =
+    ap (λ (ls : List (List ℕ)). lines ++ head ∷ ls) (map-append key_line keyed (keys ∷ []))
+    ∙ sym (append_assoc lines (head ∷ map key_line keyed) (line_of (Keys keys) ∷ []))
 
 -- a front, whose lines are those of another and one more
 pub record Follows (next front : Front) (line : List ℕ) : Type 0 where
   pub is_front : IsFront next
   pub lines_are : front_lines next ≡ front_lines front ++ line ∷ []
 
-pub adds_front : (front : Front) (form : Form) → IsFront front → May front form → first_cause (causes front form) ≡ None → Follows (adds front form) front (line_of form)
-adds_front Nothing Version is may e = record { is_front = tt; lines_are = refl }
-adds_front Versioned (Disk blocks) is may e =
-    let a = no_cause (not (is_number_between 1 16384 blocks)) _ _ e in
-    let n = number_parts 1 16384 blocks (not_false (is_number_between 1 16384 blocks) a.0) in
-    let size : is_between 1 16384 (digits_value 10 blocks) ≡ true = and_both _ _ n.least n.most in
+bare_is : (blocks : List ℕ) → is_number_between 1 16384 blocks ≡ true → IsDeck (bare_deck (digits_value 10 blocks))
+bare_is blocks e =
+    let n = number_parts 1 16384 blocks e in
+    let value : ℕ = digits_value 10 blocks in
+    let size : is_between 1 16384 value ≡ true = and_both _ _ n.least n.most in
     record {
-      is_front = (record { volume = volume_whole (digits_value 10 blocks) [] (record { size = size; few = omega arith; each = refl; apart = refl }); terminals = record { each = tt; apart = refl; few = omega arith } }, refl);
-      lines_are = ap (λ (text : List ℕ). line_of Version ∷ line_of (Disk text) ∷ []) (sym n.text_is);
+      volume = volume_whole value [] [] (record { size = size; few = omega arith; each = refl; apart = refl }) (no_files value []);
+      texts = tt;
+      terminals = record { each = tt; apart = refl; few = omega arith };
     }
-adds_front (InAccounts deck) (Account texts) is may e =
-    let fits = account_fits deck texts e in
+
+deck_account : (deck : Deck) (e : AccountEntry) → IsDeck deck → deck.files ≡ [] → FitsIn deck.accounts e → IsDeck (with_account deck e)
+deck_account deck e is no_file fits =
+    let parts = volume_parts deck.blocks deck.accounts (model.volume_files deck) is.volume in
+    let accounts : List AccountEntry = deck.accounts ++ e ∷ [] in
     record {
-      is_front = (record { volume = volume_whole deck.blocks (deck.accounts ++ entry_of texts ∷ []) (volume_push deck.blocks deck.accounts (entry_of texts) (volume_parts deck.blocks deck.accounts is.0.volume) fits.0); terminals = is.0.terminals }, is.1);
-      lines_are = account_more deck texts is.1 fits.1;
+      volume = volume_whole deck.blocks accounts (model.volume_files deck) (volume_push deck.blocks deck.accounts e parts.0 fits)
+          (subst (λ (fs : List model.File). are_good_files deck.blocks accounts (map file_entry fs) ≡ true) (sym no_file) (no_files deck.blocks accounts));
+      texts = is.texts;
+      terminals = is.terminals;
     }
-adds_front (InAccounts deck) (File rest) is may e = absurd (cc)
-adds_front (InAccounts deck) (Terminal name) is may e =
-    let none : deck.terminals ≡ [] = is.1 in
-    let fits : FitsAmong deck.terminals (new_terminal name) = subst (λ (ts : List model.Terminal). FitsAmong ts (new_terminal name)) (sym none) (terminal_fits [] name e) in
-    record {
-      is_front = record { volume = is.0.volume; terminals = terminals_push deck.terminals (new_terminal name) is.0.terminals fits };
-      lines_are = refl;
-    }
-adds_front (InAccounts deck) End is may e = record { is_front = is.0; lines_are = refl }
-adds_front (InTerminal deck terminal) (Keys keys) is may e =
+
+text_more : (deck : Deck) (file : model.File) (text : List ℕ) → IsDeck (with_file deck file) → first_cause (text_causes file text) ≡ None → IsDeck (with_file deck (with_text file text))
+text_more deck file text is e =
+    let last = deck_last deck file is in
+    let a = no_cause (nat_lt (512 * file.blocks) (length (text_of (with_text file text).texts))) _ _ e in
+    let fits : FitsFile deck.blocks deck.accounts deck.files (with_text file text) = record { good = last.fits.good; new = last.fits.new; room = last.fits.room; fit = last.fits.fit } in
+    deck_file deck (with_text file text) last.before fits (ltb-false (512 * file.blocks) (length (text_of (with_text file text).texts)) a.0)
+
+keys_more : (deck : Deck) (terminal : model.Terminal) (keys : List ℕ) → IsDeck (with_terminal deck terminal) → first_cause (causes (InTerminal deck terminal) (Keys keys)) ≡ None → IsDeck (with_terminal deck (with_keys terminal keys))
+keys_more deck terminal keys is e =
     let a = no_cause (nat_lt 255 (length keys)) _ _ e in
     let short : IsKeyLine keys = ltb-false 255 (length keys) a.0 in
     let last = terminals_last deck.terminals terminal is.terminals in
     let good : IsTerminal (with_keys terminal keys) = record { name = last.good.name; keys = all_append IsKeyLine terminal.keys (keys ∷ []) last.good.keys (short, tt) } in
     record {
-      is_front = record { volume = is.volume; terminals = terminals_push deck.terminals (with_keys terminal keys) (terminals_front deck.terminals (terminal ∷ []) is.terminals) (record { good = good; new = last.new; room = last.room }) };
-      lines_are = keys_more deck terminal keys;
+      volume = is.volume;
+      texts = is.texts;
+      terminals = terminals_push deck.terminals (with_keys terminal keys) (terminals_front deck.terminals (terminal ∷ []) is.terminals) (record { good = good; new = last.new; room = last.room });
     }
+
+-- an empty file fits
+empty_fits : (texts : FileTexts) → FitsText (new_file texts)
+empty_fits texts = omega arith
+
+pub adds_front : (front : Front) (form : Form) → IsFront front → May front form → first_cause (causes front form) ≡ None → Follows (adds front form) front (line_of form)
+adds_front Nothing Version is may e = record { is_front = tt; lines_are = refl }
+adds_front Versioned (Disk blocks) is may e =
+    let a = no_cause (not (is_number_between 1 16384 blocks)) _ _ e in
+    let range = not_false (is_number_between 1 16384 blocks) a.0 in
+    record {
+      is_front = (bare_is blocks range, refl, refl);
+      lines_are = ap (λ (text : List ℕ). line_of Version ∷ line_of (Disk text) ∷ []) (sym (number_parts 1 16384 blocks range).text_is);
+    }
+adds_front (InAccounts deck) (Account texts) is may e =
+    let fits = account_fits deck texts e in
+    record { is_front = (deck_account deck (entry_of texts) is.0 is.1 fits.0, is.1, is.2); lines_are = account_more deck texts is.1 is.2 fits.1 }
+adds_front (InAccounts deck) (File texts) is may e =
+    let fits = file_fits deck texts e in
+    record { is_front = (deck_file deck (new_file texts) is.0 fits.0 (empty_fits texts), is.2); lines_are = new_lines (group_lines deck) texts fits.1 }
+adds_front (InAccounts deck) (Terminal name) is may e =
+    record { is_front = deck_terminal deck (new_terminal name) is.0 (terminal_fits deck.terminals name e); lines_are = refl }
+adds_front (InAccounts deck) End is may e = record { is_front = is.0; lines_are = refl }
+adds_front (InFile deck file) (Keys text) is may e =
+    record { is_front = (text_more deck file text is.0 e, is.1); lines_are = keyed_more (group_lines deck) (line_of (File (file_texts file))) file.texts text }
+adds_front (InFile deck file) (File texts) is may e =
+    let fits = file_fits (with_file deck file) texts e in
+    record {
+      is_front = (deck_file (with_file deck file) (new_file texts) is.0 fits.0 (empty_fits texts), is.1);
+      lines_are = new_lines (group_lines (with_file deck file)) texts fits.1 ∙ ap (λ (ls : List (List ℕ)). ls ++ line_of (File texts) ∷ []) (group_file deck file is.1);
+    }
+adds_front (InFile deck file) (Terminal name) is may e =
+    record {
+      is_front = deck_terminal (with_file deck file) (new_terminal name) is.0 (terminal_fits deck.terminals name e);
+      lines_are = ap (λ (ls : List (List ℕ)). ls ++ line_of (Terminal name) ∷ []) (group_file deck file is.1);
+    }
+adds_front (InFile deck file) End is may e = record { is_front = is.0; lines_are = ap (λ (ls : List (List ℕ)). ls ++ line_of End ∷ []) (group_file deck file is.1) }
+adds_front (InTerminal deck terminal) (Keys keys) is may e =
+    record { is_front = keys_more deck terminal keys is e; lines_are = keyed_more (group_lines deck) (line_of (Terminal terminal.name)) terminal.keys keys }
 adds_front (InTerminal deck terminal) (Terminal name) is may e =
     record {
-      is_front = record { volume = is.volume; terminals = terminals_push (deck.terminals ++ terminal ∷ []) (new_terminal name) is.terminals (terminal_fits (deck.terminals ++ terminal ∷ []) name e) };
+      is_front = deck_terminal (with_terminal deck terminal) (new_terminal name) is (terminal_fits (deck.terminals ++ terminal ∷ []) name e);
       lines_are = ap (λ (ls : List (List ℕ)). ls ++ line_of (Terminal name) ∷ []) (group_more deck terminal);
     }
 adds_front (InTerminal deck terminal) End is may e = record { is_front = is; lines_are = ap (λ (ls : List (List ℕ)). ls ++ line_of End ∷ []) (group_more deck terminal) }
@@ -234,14 +495,14 @@ pub line_behind : (front : Front) (form : Form) → May front form → is_formed
 unfolding behind_line behind_form
 line_behind front form may formed none = rw (form_again front form may formed, none) refl
 
-pub disk_behind : (blocks : ℕ) → is_between 1 16384 blocks ≡ true → behind_line Versioned (line_of (Disk (decimal blocks))) ≡ Ok (InAccounts (record { blocks = blocks; accounts = []; terminals = [] }))
+pub disk_behind : (blocks : ℕ) → is_between 1 16384 blocks ≡ true → behind_line Versioned (line_of (Disk (decimal blocks))) ≡ Ok (InAccounts (bare_deck blocks))
 disk_behind blocks size =
     let least = and_left (nat_le 1 blocks) (nat_le blocks 16384) size in
     let most = and_right (nat_le 1 blocks) (nat_le blocks 16384) size in
     let small : blocks < 2 ^ 32 = omega (arith, leb-true _ _ most) in
     let in_range : is_number_between 1 16384 (decimal blocks) ≡ true = number_is 1 16384 blocks small least most in
     line_behind Versioned (Disk (decimal blocks)) tt (decimal_numeral blocks small) (rw in_range refl)
-    ∙ ap (λ (n : ℕ). Ok (InAccounts (record { blocks = n; accounts = []; terminals = [] }))) (value_is blocks small)
+    ∙ ap (λ (n : ℕ). Ok (InAccounts (bare_deck n))) (value_is blocks small)
 
 -- a line that is taken has a form for which no cause applies
 pub record Takes (front : Front) (line : List ℕ) (next : Front) : Type 0 where

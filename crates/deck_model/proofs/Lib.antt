@@ -1,3 +1,5 @@
+pub mod DeckRows
+pub mod FileLaws
 pub mod FormLaws
 pub mod FrontLaws
 pub mod ReadingLaws

@@ -1,23 +1,26 @@
 -- The two laws: what is told of bytes is so, and what is so is told.
-use Rattle.std.proofs.Common.{◌≡◌, ℕ, ◌+◌, List, [], ◌∷◌, ◌++◌, length, map, Ok, Err, refl, sym, ap, subst, ◌∙◌, append_assoc, arith}
-use Rattle.std.specs.Prelude.{Result, ◌&&◌, nat_le, true}
+use Rattle.std.proofs.Common.{◌≡◌, ℕ, ◌+◌, ◌≤◌, List, [], ◌∷◌, ◌++◌, length, map, Ok, Err, refl, sym, ap, subst, ◌∙◌, append_assoc, arith}
+use Rattle.std.specs.Prelude.{Result, ◌*◌, ◌&&◌, nat_le, true, codes}
 use Rattle.std.specs.List.{flat_map, AllByRecursion}
 use Rattle.std.specs.Fmt.{decimal}
 use Rattle.std.proofs.lemmas.Bool.{le-ltb}
 use Rattle.std.proofs.lemmas.List.{append-nil, length-append}
+use Rattle.std.proofs.lemmas.List.Concat.{flat_map-append}
 use Rattle.monitor_calls.specs.declared.volumes.AccountEntry.{AccountEntry}
 use Rattle.deck_model.specs.declared.faults.DeckCause.{DeckCause}
+use Rattle.deck_model.specs.Files.{text_of, FitsText}
 use Rattle.deck_model.specs.Deck as model
 use Rattle.deck_model.specs.Deck.{Deck, IsDeck, IsKeyLine, AreTerminals}
 use Rattle.deck_model.specs.Lines.{whole_lines, cut_line}
-use Rattle.deck_model.specs.Forms.{Form, Version, Disk, Account, Terminal, Keys, End, line_of, is_name}
-use Rattle.deck_model.specs.Spelling.{texts_of, account_line, key_line, terminal_lines, group_lines, deck_lines, Spelled}
-use Rattle.deck_model.specs.Fronts.{Front, Nothing, Versioned, InAccounts, InTerminal, Whole, front_lines, IsFront, new_terminal, adds}
-use Rattle.deck_model.specs.Refusals.{StopsAt, Refused}
+use Rattle.deck_model.specs.Forms.{Form, Version, Disk, Account, File, Terminal, Keys, End, line_of, is_name}
+use Rattle.deck_model.specs.Spelling.{texts_of, account_line, file_texts, file_lines, key_line, terminal_lines, group_lines, deck_lines, Spelled}
+use Rattle.deck_model.specs.Fronts.{Front, Nothing, Versioned, InAccounts, InFile, InTerminal, Whole, with_file, with_terminal, front_lines, IsFront, May, new_file, new_terminal, adds}
+use Rattle.deck_model.specs.Refusals.{first_cause, file_causes, causes, StopsAt, Refused}
 use Rattle.deck_model.specs.Reading.{behind_line, Verdict, Spells, Refuses, at_end, onwards, reading, verdict}
 use Rattle.text_cuts.proofs.CutLaws.{and_right}
-use Rattle.deck_model.proofs.VolumeLaws.{GoodVolume, volume_parts, volume_front, volume_last, FitsAmong, terminals_front, terminals_last}
-use Rattle.deck_model.proofs.FrontLaws.{Follows, adds_front, Takes, line_behind, line_takes, line_refuses, refused_behind, account_none, terminal_none, written, disk_behind}
+use Rattle.deck_model.proofs.VolumeLaws.{GoodVolume, volume_parts, volume_whole, volume_front, volume_last, FitsAmong, terminals_front, terminals_last, all_front}
+use Rattle.deck_model.proofs.FileLaws.{files_parts, files_whole, files_front}
+use Rattle.deck_model.proofs.FrontLaws.{Follows, adds_front, Takes, line_behind, line_takes, line_refuses, refused_behind, account_none, terminal_none, written, TakenFile, file_taken, deck_last, disk_behind}
 
 -- ---- what is so is told
 
@@ -46,23 +49,45 @@ leads_both a xs b ys c first second =
 leads_form : (from : Front) (form : Form) (to : Front) → behind_line from (line_of form) ≡ Ok (adds from form) → adds from form ≡ to → Leads from (line_of form ∷ []) to
 leads_form from form to e same = leads_line from (line_of form) to (e ∙ ap (λ (f : Front). Ok f) same)
 
-abbrev bare : ℕ → List AccountEntry → Deck
-bare blocks accounts = record { blocks = blocks; accounts = accounts; terminals = [] }
+abbrev with_accounts : ℕ → List AccountEntry → Deck
+with_accounts blocks accounts = record { blocks = blocks; accounts = accounts; files = []; terminals = [] }
 
-accounts_lead : (blocks : ℕ) (done entries : List AccountEntry) → GoodVolume blocks (done ++ entries) → Leads (InAccounts (bare blocks done)) (map account_line entries) (InAccounts (bare blocks (done ++ entries)))
-accounts_lead blocks done [] good = leads_none _ _ (ap (λ (es : List AccountEntry). InAccounts (bare blocks es)) (sym (append-nil done)))
+accounts_lead : (blocks : ℕ) (done entries : List AccountEntry) → GoodVolume blocks (done ++ entries) → Leads (InAccounts (with_accounts blocks done)) (map account_line entries) (InAccounts (with_accounts blocks (done ++ entries)))
+accounts_lead blocks done [] good = leads_none _ _ (ap (λ (es : List AccountEntry). InAccounts (with_accounts blocks es)) (sym (append-nil done)))
 accounts_lead blocks done (e ∷ entries) good =
     let regroup : (done ++ e ∷ []) ++ entries ≡ done ++ e ∷ entries = append_assoc done (e ∷ []) entries in
     let front : GoodVolume blocks ((done ++ e ∷ []) ++ entries) = subst (GoodVolume blocks) (sym regroup) good in
     let fits = volume_last blocks done e (volume_front blocks (done ++ e ∷ []) entries front) in
     let w = written e fits.good in
-    let from : Front = InAccounts (bare blocks done) in
-    let to : Front = InAccounts (bare blocks (done ++ e ∷ [])) in
+    let from : Front = InAccounts (with_accounts blocks done) in
+    let to : Front = InAccounts (with_accounts blocks (done ++ e ∷ [])) in
     let one : Leads from (line_of (Account (texts_of e)) ∷ []) to =
-    leads_form from (Account (texts_of e)) to (line_behind from (Account (texts_of e)) tt w.formed (account_none (bare blocks done) e fits))
-    (ap (λ (x : AccountEntry). InAccounts (bare blocks (done ++ x ∷ []))) w.entry_is) in
-    leads_both from (account_line e ∷ []) to (map account_line entries) (InAccounts (bare blocks (done ++ e ∷ entries))) one
-    (subst (λ (es : List AccountEntry). Leads to (map account_line entries) (InAccounts (bare blocks es))) regroup (accounts_lead blocks (done ++ e ∷ []) entries front))
+    leads_form from (Account (texts_of e)) to (line_behind from (Account (texts_of e)) tt w.formed (account_none (with_accounts blocks done) e fits))
+    (ap (λ (x : AccountEntry). InAccounts (with_accounts blocks (done ++ x ∷ []))) w.entry_is) in
+    leads_both from (account_line e ∷ []) to (map account_line entries) (InAccounts (with_accounts blocks (done ++ e ∷ entries))) one
+    (subst (λ (es : List AccountEntry). Leads to (map account_line entries) (InAccounts (with_accounts blocks es))) regroup (accounts_lead blocks (done ++ e ∷ []) entries front))
+
+-- ---- the lines of one group
+
+abbrev texted : model.File → List (List ℕ) → model.File
+texted file texts = record file { texts = texts }
+
+text_no_longer : (xs ys : List (List ℕ)) → length (text_of xs) ≤ length (text_of (xs ++ ys))
+text_no_longer xs ys =
+    let split : length (text_of (xs ++ ys)) ≡ length (text_of xs ++ text_of ys) = ap length (flat_map-append (λ (text : List ℕ). text ++ codes "\r\n") xs ys) in
+    omega (arith, split, length-append (text_of xs) (text_of ys))
+
+texts_lead : (deck : Deck) (file : model.File) (done texts : List (List ℕ)) → FitsText (texted file (done ++ texts)) → Leads (InFile deck (texted file done)) (map key_line texts) (InFile deck (texted file (done ++ texts)))
+texts_lead deck file done [] fits = leads_none _ _ (ap (λ (ts : List (List ℕ)). InFile deck (texted file ts)) (sym (append-nil done)))
+texts_lead deck file done (t ∷ texts) fits =
+    let regroup : (done ++ t ∷ []) ++ texts ≡ done ++ t ∷ texts = append_assoc done (t ∷ []) texts in
+    let more : FitsText (texted file ((done ++ t ∷ []) ++ texts)) = subst (λ (ts : List (List ℕ)). FitsText (texted file ts)) (sym regroup) fits in
+    let short : length (text_of (done ++ t ∷ [])) ≤ 512 * file.blocks = omega (arith, more, text_no_longer (done ++ t ∷ []) texts) in
+    let from : Front = InFile deck (texted file done) in
+    let to : Front = InFile deck (texted file (done ++ t ∷ [])) in
+    let one : Leads from (line_of (Keys t) ∷ []) to = leads_form from (Keys t) to (line_behind from (Keys t) tt refl (rw (le-ltb (512 * file.blocks) (length (text_of (done ++ t ∷ []))) short) refl)) refl in
+    leads_both from (key_line t ∷ []) to (map key_line texts) (InFile deck (texted file (done ++ t ∷ texts))) one
+    (subst (λ (ts : List (List ℕ)). Leads to (map key_line texts) (InFile deck (texted file ts))) regroup (texts_lead deck file (done ++ t ∷ []) texts more))
 
 abbrev named : List ℕ → List (List ℕ) → model.Terminal
 named name keys = record { name = name; keys = keys }
@@ -76,113 +101,202 @@ keys_lead deck name done (k ∷ keys) short =
     leads_both from (key_line k ∷ []) to (map key_line keys) (InTerminal deck (named name (done ++ k ∷ keys))) one
     (subst (λ (ks : List (List ℕ)). Leads to (map key_line keys) (InTerminal deck (named name ks))) (append_assoc done (k ∷ []) keys) (keys_lead deck name (done ++ k ∷ []) keys short.1))
 
-abbrev with_all : ℕ → List AccountEntry → List model.Terminal → Deck
-with_all blocks accounts terminals = record { blocks = blocks; accounts = accounts; terminals = terminals }
+-- ---- fronts behind whole groups
 
--- the front behind the groups: its last terminal may still get keys
-open_behind : ℕ → List AccountEntry → List model.Terminal → model.Terminal → List model.Terminal → Front
-open_behind blocks accounts done t [] = InTerminal (with_all blocks accounts done) t
-open_behind blocks accounts done t (u ∷ us) = open_behind blocks accounts (done ++ t ∷ []) u us
+-- the groups of the deck are read, and its last one may go on
+abbrev IsAt : Front → Deck → Type 0
+IsAt (InAccounts deck) whole = deck ≡ whole
+IsAt (InFile deck file) whole = with_file deck file ≡ whole
+IsAt (InTerminal deck terminal) whole = with_terminal deck terminal ≡ whole
+IsAt front whole = ⊥
 
-open_front : ℕ → List AccountEntry → List model.Terminal → Front
-open_front blocks accounts [] = InAccounts (bare blocks accounts)
-open_front blocks accounts (t ∷ ts) = open_behind blocks accounts [] t ts
-
--- behind an open front come END, or another terminal
-open_takes : (blocks : ℕ) (accounts : List AccountEntry) (done : List model.Terminal) (t : model.Terminal) (ts : List model.Terminal) → behind_line (open_behind blocks accounts done t ts) (line_of End) ≡ Ok (Whole (with_all blocks accounts (done ++ t ∷ ts)))
-unfolding open_behind
-open_takes blocks accounts done t [] = line_behind (InTerminal (with_all blocks accounts done) t) End tt refl refl
-open_takes blocks accounts done t (u ∷ us) =
-    open_takes blocks accounts (done ++ t ∷ []) u us ∙ ap (λ (all : List model.Terminal). Ok (Whole (with_all blocks accounts all))) (append_assoc done (t ∷ []) (u ∷ us))
-
-end_takes : (blocks : ℕ) (accounts : List AccountEntry) (ts : List model.Terminal) → behind_line (open_front blocks accounts ts) (line_of End) ≡ Ok (Whole (with_all blocks accounts ts))
-unfolding open_front
-end_takes blocks accounts [] = line_behind (InAccounts (bare blocks accounts)) End tt refl refl
-end_takes blocks accounts (t ∷ ts) = open_takes blocks accounts [] t ts
+end_taken : (front : Front) (whole : Deck) → IsAt front whole → behind_line front (line_of End) ≡ Ok (Whole whole)
+end_taken (InAccounts deck) whole at = line_behind (InAccounts deck) End tt refl refl ∙ ap (λ (d : Deck). Ok (Whole d)) at
+end_taken (InFile deck file) whole at = line_behind (InFile deck file) End tt refl refl ∙ ap (λ (d : Deck). Ok (Whole d)) at
+end_taken (InTerminal deck terminal) whole at = line_behind (InTerminal deck terminal) End tt refl refl ∙ ap (λ (d : Deck). Ok (Whole d)) at
+end_taken front whole at = absurd at
 
 capitals_formed : (t : model.Terminal) → model.IsTerminal t → is_name t.name ≡ true
 capitals_formed t good = and_right (nat_le 1 (length t.name) && nat_le (length t.name) 8) (is_name t.name) good.name
 
-open_opens : (blocks : ℕ) (accounts : List AccountEntry) (done : List model.Terminal) (t : model.Terminal) (ts : List model.Terminal) (next : model.Terminal) → FitsAmong (done ++ t ∷ ts) next
-    → behind_line (open_behind blocks accounts done t ts) (line_of (Terminal next.name)) ≡ Ok (InTerminal (with_all blocks accounts (done ++ t ∷ ts)) (new_terminal next.name))
-unfolding open_behind
-open_opens blocks accounts done t [] next fits =
-    line_behind (InTerminal (with_all blocks accounts done) t) (Terminal next.name) tt (capitals_formed next fits.good) (terminal_none (done ++ t ∷ []) next fits)
-open_opens blocks accounts done t (u ∷ us) next fits =
-    let same = append_assoc done (t ∷ []) (u ∷ us) in
-    open_opens blocks accounts (done ++ t ∷ []) u us next (subst (λ (all : List model.Terminal). FitsAmong all next) (sym same) fits)
-    ∙ ap (λ (all : List model.Terminal). Ok (InTerminal (with_all blocks accounts all) (new_terminal next.name))) same
+-- the front behind the line of a terminal
+abbrev opened : Deck → model.Terminal → Result Front DeckCause
+opened deck t = Ok (InTerminal deck (new_terminal t.name))
 
-front_opens : (blocks : ℕ) (accounts : List AccountEntry) (ts : List model.Terminal) (next : model.Terminal) → FitsAmong ts next → behind_line (open_front blocks accounts ts) (line_of (Terminal next.name)) ≡ Ok (InTerminal (with_all blocks accounts ts) (new_terminal next.name))
-unfolding open_front
-front_opens blocks accounts [] next fits =
-    line_behind (InAccounts (bare blocks accounts)) (Terminal next.name) tt (capitals_formed next fits.good) (terminal_none [] next fits)
-front_opens blocks accounts (t ∷ ts) next fits = open_opens blocks accounts [] t ts next fits
+terminal_taken : (front : Front) (whole : Deck) (t : model.Terminal) → IsAt front whole → FitsAmong whole.terminals t → behind_line front (line_of (Terminal t.name)) ≡ opened whole t
+terminal_taken (InAccounts deck) whole t at fits =
+    let own : FitsAmong deck.terminals t = subst (λ (d : Deck). FitsAmong d.terminals t) (sym at) fits in
+    line_behind (InAccounts deck) (Terminal t.name) tt (capitals_formed t fits.good) (terminal_none deck.terminals t own) ∙ ap (λ (d : Deck). opened d t) at
+terminal_taken (InFile deck file) whole t at fits =
+    let own : FitsAmong deck.terminals t = subst (λ (d : Deck). FitsAmong d.terminals t) (sym at) fits in
+    line_behind (InFile deck file) (Terminal t.name) tt (capitals_formed t fits.good) (terminal_none deck.terminals t own) ∙ ap (λ (d : Deck). opened d t) at
+terminal_taken (InTerminal deck terminal) whole t at fits =
+    let own : FitsAmong (deck.terminals ++ terminal ∷ []) t = subst (λ (d : Deck). FitsAmong d.terminals t) (sym at) fits in
+    line_behind (InTerminal deck terminal) (Terminal t.name) tt (capitals_formed t fits.good) (terminal_none (deck.terminals ++ terminal ∷ []) t own) ∙ ap (λ (d : Deck). opened d t) at
+terminal_taken front whole t at fits = absurd at
 
--- the lines of one terminal, behind an open front
-terminal_leads : (from : Front) (deck : Deck) (t : model.Terminal) → behind_line from (line_of (Terminal t.name)) ≡ Ok (InTerminal deck (new_terminal t.name)) → AllByRecursion IsKeyLine t.keys → Leads from (terminal_lines t) (InTerminal deck t)
+-- the front behind the line of a file, whose text is not there yet
+abbrev filed : Deck → model.File → Result Front DeckCause
+filed deck f = Ok (InFile deck (texted f []))
+
+-- one more is not none
+one_more : {A : Type 0} (xs : List A) (x : A) → (xs ++ x ∷ []) ≡ [] → ⊥
+one_more [] x e = absurd (cc)
+one_more (y ∷ xs) x e = absurd (cc)
+
+file_opens : (front : Front) (deck : Deck) (f : model.File) → May front (File (file_texts f)) → adds front (File (file_texts f)) ≡ InFile deck (new_file (file_texts f)) → causes front (File (file_texts f)) ≡ file_causes deck (file_texts f) → TakenFile deck f → behind_line front (line_of (File (file_texts f))) ≡ filed deck f
+file_opens front deck f may next why taken =
+    line_behind front (File (file_texts f)) may taken.formed (ap first_cause why ∙ taken.none)
+    ∙ ap (λ (n : Front). Ok n) (next ∙ ap (InFile deck) taken.file_is)
+
+file_line_taken : (front : Front) (whole : Deck) (f : model.File) → IsAt front whole → whole.terminals ≡ [] → TakenFile whole f → behind_line front (line_of (File (file_texts f))) ≡ filed whole f
+file_line_taken (InAccounts deck) whole f at none taken =
+    let own : TakenFile deck f = subst (λ (d : Deck). TakenFile d f) (sym at) taken in
+    file_opens (InAccounts deck) deck f tt refl refl own ∙ ap (λ (d : Deck). filed d f) at
+file_line_taken (InFile deck file) whole f at none taken =
+    let own : TakenFile (with_file deck file) f = subst (λ (d : Deck). TakenFile d f) (sym at) taken in
+    file_opens (InFile deck file) (with_file deck file) f tt refl refl own ∙ ap (λ (d : Deck). filed d f) at
+file_line_taken (InTerminal deck terminal) whole f at none taken =
+    absurd (one_more deck.terminals terminal (ap (λ (d : Deck). d.terminals) at ∙ none))
+file_line_taken front whole f at none taken = absurd at
+
+file_leads : (from : Front) (deck : Deck) (f : model.File) → behind_line from (line_of (File (file_texts f))) ≡ filed deck f → FitsText f → Leads from (file_lines f) (InFile deck f)
+file_leads from deck f e fits =
+    leads_both from (line_of (File (file_texts f)) ∷ []) (InFile deck (texted f [])) (map key_line f.texts) (InFile deck f) (leads_line from (line_of (File (file_texts f))) (InFile deck (texted f [])) e) (texts_lead deck f [] f.texts fits)
+
+terminal_leads : (from : Front) (deck : Deck) (t : model.Terminal) → behind_line from (line_of (Terminal t.name)) ≡ opened deck t → AllByRecursion IsKeyLine t.keys → Leads from (terminal_lines t) (InTerminal deck t)
 terminal_leads from deck t e short =
     leads_both from (line_of (Terminal t.name) ∷ []) (InTerminal deck (new_terminal t.name)) (map key_line t.keys) (InTerminal deck t) (leads_line from (line_of (Terminal t.name)) (InTerminal deck (new_terminal t.name)) e) (keys_lead deck t.name [] t.keys short)
 
-terminals_lead : (blocks : ℕ) (accounts : List AccountEntry) (done : List model.Terminal) (t : model.Terminal) (ts : List model.Terminal) → AreTerminals (done ++ t ∷ ts)
-    → Leads (InTerminal (with_all blocks accounts done) t) (flat_map terminal_lines ts) (open_behind blocks accounts done t ts)
-unfolding open_behind
-terminals_lead blocks accounts done t [] good = leads_none _ _ refl
-terminals_lead blocks accounts done t (u ∷ us) good =
-    let regroup : (done ++ t ∷ []) ++ u ∷ us ≡ done ++ t ∷ u ∷ us = append_assoc done (t ∷ []) (u ∷ us) in
-    let all : AreTerminals ((done ++ t ∷ []) ++ u ∷ us) = subst AreTerminals (sym regroup) good in
-    let again : ((done ++ t ∷ []) ++ u ∷ []) ++ us ≡ (done ++ t ∷ []) ++ u ∷ us = append_assoc (done ++ t ∷ []) (u ∷ []) us in
-    let fits = terminals_last (done ++ t ∷ []) u (terminals_front ((done ++ t ∷ []) ++ u ∷ []) us (subst AreTerminals (sym again) all)) in
-    let from : Front = InTerminal (with_all blocks accounts done) t in
-    let mid : Front = InTerminal (with_all blocks accounts (done ++ t ∷ [])) u in
-    leads_both from (terminal_lines u) mid (flat_map terminal_lines us) (open_behind blocks accounts (done ++ t ∷ []) u us)
-    (terminal_leads from (with_all blocks accounts (done ++ t ∷ [])) u (open_opens blocks accounts done t [] u fits) fits.good.keys)
-    (terminals_lead blocks accounts (done ++ t ∷ []) u us all)
+-- ---- the lines of all groups
 
-all_lead : (blocks : ℕ) (accounts : List AccountEntry) (ts : List model.Terminal) → AreTerminals ts → Leads (InAccounts (bare blocks accounts)) (flat_map terminal_lines ts) (open_front blocks accounts ts)
-unfolding open_front
-all_lead blocks accounts [] good = leads_none _ _ refl
-all_lead blocks accounts (t ∷ ts) good =
-    let fits = terminals_last [] t (terminals_front (t ∷ []) ts good) in
-    leads_both (InAccounts (bare blocks accounts)) (terminal_lines t) (InTerminal (bare blocks accounts) t) (flat_map terminal_lines ts) (open_behind blocks accounts [] t ts)
-    (terminal_leads (InAccounts (bare blocks accounts)) (bare blocks accounts) t (front_opens blocks accounts [] t fits) fits.good.keys)
-    (terminals_lead blocks accounts [] t ts good)
+-- these lines lead to a front at which the groups of the deck are read
+record Reaches (lines : List (List ℕ)) (deck : Deck) : Type 0 where
+  front : Front
+  at : IsAt front deck
+  leads : Leads Nothing lines front
 
-head_leads : (blocks : ℕ) → GoodVolume blocks [] → Leads Nothing (line_of Version ∷ line_of (Disk (decimal blocks)) ∷ []) (InAccounts (bare blocks []))
-head_leads blocks good =
-    leads_both Nothing (line_of Version ∷ []) Versioned (line_of (Disk (decimal blocks)) ∷ []) (InAccounts (bare blocks []))
+reach_file : (lines : List (List ℕ)) (deck : Deck) (f : model.File) → Reaches lines deck → deck.terminals ≡ [] → IsDeck (with_file deck f) → Reaches (lines ++ file_lines f) (with_file deck f)
+reach_file lines deck f reached none good =
+    let last = deck_last deck f good in
+    let volume = volume_parts deck.blocks deck.accounts (model.volume_files deck) last.before.volume in
+    let taken = file_taken deck f volume.0 last.fits in
+    record {
+      front = InFile deck f;
+      at = refl;
+      leads = leads_both Nothing lines reached.front (file_lines f) (InFile deck f) reached.leads
+          (file_leads reached.front deck f (file_line_taken reached.front deck f reached.at none taken) last.short);
+    }
+
+abbrev with_files : Deck → List model.File → Deck
+with_files deck files = record deck { files = files }
+
+-- the first of the files are good where all are
+deck_front : (deck : Deck) (fs gs : List model.File) → IsDeck (with_files deck (fs ++ gs)) → IsDeck (with_files deck fs)
+deck_front deck fs gs good =
+    let parts = volume_parts deck.blocks deck.accounts (model.volume_files (with_files deck (fs ++ gs))) good.volume in
+    let files = files_front deck.blocks deck.accounts fs gs (files_parts deck.blocks deck.accounts (fs ++ gs) parts.1) in
+    record {
+      volume = volume_whole deck.blocks deck.accounts (model.volume_files (with_files deck fs)) parts.0 (files_whole deck.blocks deck.accounts fs files);
+      texts = all_front FitsText fs gs good.texts;
+      terminals = good.terminals;
+    }
+
+reach_files : (lines : List (List ℕ)) (deck : Deck) (fs : List model.File) → Reaches lines deck → deck.terminals ≡ [] → IsDeck (with_files deck (deck.files ++ fs)) → Reaches (lines ++ flat_map file_lines fs) (with_files deck (deck.files ++ fs))
+reach_files lines deck [] reached none good =
+    let at : deck.files ≡ deck.files ++ [] = sym (append-nil deck.files) in
+    let no_more : lines ≡ lines ++ [] = sym (append-nil lines) in
+    subst (λ (x : List (List ℕ) × List model.File). Reaches x.0 (with_files deck x.1)) (λ i. (no_more i, at i)) reached
+reach_files lines deck (f ∷ fs) reached none good =
+    let regroup : (deck.files ++ f ∷ []) ++ fs ≡ deck.files ++ f ∷ fs = append_assoc deck.files (f ∷ []) fs in
+    let again : (lines ++ file_lines f) ++ flat_map file_lines fs ≡ lines ++ (file_lines f ++ flat_map file_lines fs) = append_assoc lines (file_lines f) (flat_map file_lines fs) in
+    let all : IsDeck (with_files deck ((deck.files ++ f ∷ []) ++ fs)) = subst (λ (x : List model.File). IsDeck (with_files deck x)) (sym regroup) good in
+    let one = reach_file lines deck f reached none (deck_front deck (deck.files ++ f ∷ []) fs all) in
+    subst (λ (x : List (List ℕ) × List model.File). Reaches x.0 (with_files deck x.1)) (λ i. (again i, regroup i)) (reach_files (lines ++ file_lines f) (with_file deck f) fs one none all)
+
+reach_terminal : (lines : List (List ℕ)) (deck : Deck) (t : model.Terminal) → Reaches lines deck → AreTerminals (deck.terminals ++ t ∷ []) → Reaches (lines ++ terminal_lines t) (with_terminal deck t)
+reach_terminal lines deck t reached good =
+    let fits = terminals_last deck.terminals t good in
+    record {
+      front = InTerminal deck t;
+      at = refl;
+      leads = leads_both Nothing lines reached.front (terminal_lines t) (InTerminal deck t) reached.leads
+          (terminal_leads reached.front deck t (terminal_taken reached.front deck t reached.at fits) fits.good.keys);
+    }
+
+abbrev with_terminals : Deck → List model.Terminal → Deck
+with_terminals deck terminals = record deck { terminals = terminals }
+
+reach_terminals : (lines : List (List ℕ)) (deck : Deck) (ts : List model.Terminal) → Reaches lines deck → AreTerminals (deck.terminals ++ ts) → Reaches (lines ++ flat_map terminal_lines ts) (with_terminals deck (deck.terminals ++ ts))
+reach_terminals lines deck [] reached good =
+    let at : deck.terminals ≡ deck.terminals ++ [] = sym (append-nil deck.terminals) in
+    let no_more : lines ≡ lines ++ [] = sym (append-nil lines) in
+    subst (λ (x : List (List ℕ) × List model.Terminal). Reaches x.0 (with_terminals deck x.1)) (λ i. (no_more i, at i)) reached
+reach_terminals lines deck (t ∷ ts) reached good =
+    let regroup : (deck.terminals ++ t ∷ []) ++ ts ≡ deck.terminals ++ t ∷ ts = append_assoc deck.terminals (t ∷ []) ts in
+    let again : (lines ++ terminal_lines t) ++ flat_map terminal_lines ts ≡ lines ++ (terminal_lines t ++ flat_map terminal_lines ts) = append_assoc lines (terminal_lines t) (flat_map terminal_lines ts) in
+    let all : AreTerminals ((deck.terminals ++ t ∷ []) ++ ts) = subst AreTerminals (sym regroup) good in
+    let one = reach_terminal lines deck t reached (terminals_front (deck.terminals ++ t ∷ []) ts all) in
+    subst (λ (x : List (List ℕ) × List model.Terminal). Reaches x.0 (with_terminals deck x.1)) (λ i. (again i, regroup i)) (reach_terminals (lines ++ terminal_lines t) (with_terminal deck t) ts one all)
+
+abbrev head : ℕ → List (List ℕ)
+head blocks = line_of Version ∷ line_of (Disk (decimal blocks)) ∷ []
+
+head_leads : (blocks : ℕ) (accounts : List AccountEntry) → GoodVolume blocks accounts → Leads Nothing (head blocks) (InAccounts (with_accounts blocks []))
+head_leads blocks accounts good =
+    leads_both Nothing (line_of Version ∷ []) Versioned (line_of (Disk (decimal blocks)) ∷ []) (InAccounts (with_accounts blocks []))
     (leads_line Nothing (line_of Version) Versioned (line_behind Nothing Version tt refl refl))
-    (leads_line Versioned (line_of (Disk (decimal blocks))) (InAccounts (bare blocks [])) (disk_behind blocks good.size))
+    (leads_line Versioned (line_of (Disk (decimal blocks))) (InAccounts (with_accounts blocks [])) (disk_behind blocks good.size))
 
-groups_lead : (deck : Deck) → IsDeck deck → Leads Nothing (group_lines deck) (open_front deck.blocks deck.accounts deck.terminals)
-groups_lead deck good =
-    let volume = volume_parts deck.blocks deck.accounts good.volume in
-    let head : List (List ℕ) = line_of Version ∷ line_of (Disk (decimal deck.blocks)) ∷ [] in
-    let lines : List (List ℕ) = map account_line deck.accounts ++ flat_map terminal_lines deck.terminals in
-    leads_both Nothing head (InAccounts (bare deck.blocks [])) lines (open_front deck.blocks deck.accounts deck.terminals)
-    (head_leads deck.blocks (volume_front deck.blocks [] deck.accounts volume))
-    (leads_both (InAccounts (bare deck.blocks [])) (map account_line deck.accounts) (InAccounts (bare deck.blocks deck.accounts)) (flat_map terminal_lines deck.terminals) (open_front deck.blocks deck.accounts deck.terminals)
-    (accounts_lead deck.blocks [] deck.accounts volume) (all_lead deck.blocks deck.accounts deck.terminals good.terminals))
+groups_reach : (deck : Deck) → IsDeck deck → Reaches (group_lines deck) deck
+groups_reach deck good =
+    let volume = volume_parts deck.blocks deck.accounts (model.volume_files deck) good.volume in
+    let accounts : List (List ℕ) = map account_line deck.accounts in
+    let files : List (List ℕ) = flat_map file_lines deck.files in
+    let terminals : List (List ℕ) = flat_map terminal_lines deck.terminals in
+    let base : Deck = with_accounts deck.blocks deck.accounts in
+    let start : Reaches (head deck.blocks ++ accounts) base =
+    record {
+      front = InAccounts base;
+      at = refl;
+      leads = leads_both Nothing (head deck.blocks) (InAccounts (with_accounts deck.blocks [])) accounts (InAccounts base) (head_leads deck.blocks deck.accounts volume.0) (accounts_lead deck.blocks [] deck.accounts volume.0);
+    } in
+    let no_terminals : IsDeck (with_files base deck.files) = record { volume = good.volume; texts = good.texts; terminals = terminals_front [] deck.terminals good.terminals } in
+    let filed = reach_files (head deck.blocks ++ accounts) base deck.files start refl no_terminals in
+    let all = reach_terminals ((head deck.blocks ++ accounts) ++ files) (with_files base deck.files) deck.terminals filed good.terminals in
+    subst (λ (lines : List (List ℕ)). Reaches lines deck) (append_assoc (head deck.blocks ++ accounts) files terminals ∙ append_assoc (head deck.blocks) accounts (files ++ terminals)) all
+
+-- a front at which there are no files and no terminals is that of the accounts
+at_accounts : (front : Front) (deck : Deck) → IsAt front deck → deck.files ≡ [] → deck.terminals ≡ [] → front ≡ InAccounts deck
+at_accounts (InAccounts own) deck at no_file none = ap InAccounts at
+at_accounts (InFile own file) deck at no_file none = absurd (one_more own.files file (ap (λ (d : Deck). d.files) at ∙ no_file))
+at_accounts (InTerminal own terminal) deck at no_file none = absurd (one_more own.terminals terminal (ap (λ (d : Deck). d.terminals) at ∙ none))
+at_accounts front deck at no_file none = absurd at
 
 -- the lines of a front lead to it
 front_leads : (front : Front) → IsFront front → Leads Nothing (front_lines front) front
-unfolding open_front
 front_leads Nothing is = leads_none _ _ refl
 front_leads Versioned is = leads_line Nothing (line_of Version) Versioned (line_behind Nothing Version tt refl refl)
 front_leads (InAccounts deck) is =
-    let behind : Front = open_front deck.blocks deck.accounts deck.terminals in
-    let same : behind ≡ InAccounts deck = (λ i. open_front deck.blocks deck.accounts (is.1 i)) ∙ (λ i. InAccounts (with_all deck.blocks deck.accounts (sym is.1 i))) in
-    subst (λ (f : Front). Leads Nothing (group_lines deck) f) same (groups_lead deck is.0)
+    let reached = groups_reach deck is.0 in
+    subst (λ (f : Front). Leads Nothing (group_lines deck) f) (at_accounts reached.front deck reached.at is.1 is.2) reached.leads
+front_leads (InFile deck file) is =
+    let last = deck_last deck file is.0 in
+    let volume = volume_parts deck.blocks deck.accounts (model.volume_files deck) last.before.volume in
+    let taken = file_taken deck file volume.0 last.fits in
+    let reached = groups_reach deck last.before in
+    leads_both Nothing (group_lines deck) reached.front (file_lines file) (InFile deck file) reached.leads
+    (file_leads reached.front deck file (file_line_taken reached.front deck file reached.at is.1 taken) last.short)
 front_leads (InTerminal deck terminal) is =
     let fits = terminals_last deck.terminals terminal is.terminals in
-    let good : IsDeck deck = record { volume = is.volume; terminals = terminals_front deck.terminals (terminal ∷ []) is.terminals } in
-    let behind : Front = open_front deck.blocks deck.accounts deck.terminals in
-    leads_both Nothing (group_lines deck) behind (terminal_lines terminal) (InTerminal deck terminal) (groups_lead deck good)
-    (terminal_leads behind deck terminal (front_opens deck.blocks deck.accounts deck.terminals terminal fits) fits.good.keys)
+    let good : IsDeck deck = record { volume = is.volume; texts = is.texts; terminals = terminals_front deck.terminals (terminal ∷ []) is.terminals } in
+    let reached = groups_reach deck good in
+    leads_both Nothing (group_lines deck) reached.front (terminal_lines terminal) (InTerminal deck terminal) reached.leads
+    (terminal_leads reached.front deck terminal (terminal_taken reached.front deck terminal reached.at fits) fits.good.keys)
 front_leads (Whole deck) is =
-    let behind : Front = open_front deck.blocks deck.accounts deck.terminals in
-    leads_both Nothing (group_lines deck) behind (line_of End ∷ []) (Whole deck) (groups_lead deck is)
-    (leads_line behind (line_of End) (Whole deck) (end_takes deck.blocks deck.accounts deck.terminals))
+    let reached = groups_reach deck is in
+    leads_both Nothing (group_lines deck) reached.front (line_of End ∷ []) (Whole deck) reached.leads
+    (leads_line reached.front (line_of End) (Whole deck) (end_taken reached.front deck reached.at))
 
 -- what is told of bytes whose lines begin by those of a front
 verdict_behind : (bytes : List ℕ) (front : Front) (rest : List (List ℕ)) → IsFront front → whole_lines bytes ≡ front_lines front ++ rest → verdict bytes ≡ reading front (length (front_lines front) + 1) rest (cut_line bytes)
@@ -206,6 +320,7 @@ stops_told (Whole deck) number [] (b ∷ cut) why stops = ap (Refuses number) (s
 stops_told Nothing number [] cut why stops = ap (Refuses number) (sym stops)
 stops_told Versioned number [] cut why stops = ap (Refuses number) (sym stops)
 stops_told (InAccounts deck) number [] cut why stops = ap (Refuses number) (sym stops)
+stops_told (InFile deck file) number [] cut why stops = ap (Refuses number) (sym stops)
 stops_told (InTerminal deck terminal) number [] cut why stops = ap (Refuses number) (sym stops)
 stops_told front number (line ∷ lines) cut why stops =
     ap (λ (r : Result Front DeckCause). onwards r number (λ next. reading next (number + 1) lines cut)) (refused_behind front line why stops)
@@ -237,6 +352,7 @@ module _ (all : List (List ℕ)) where
   end_so Nothing number cut is place lines = record { front = Nothing; rest = []; is_front = is; lines_are = lines; line_is = place; stops = refl }
   end_so Versioned number cut is place lines = record { front = Versioned; rest = []; is_front = is; lines_are = lines; line_is = place; stops = refl }
   end_so (InAccounts deck) number cut is place lines = record { front = InAccounts deck; rest = []; is_front = is; lines_are = lines; line_is = place; stops = refl }
+  end_so (InFile deck file) number cut is place lines = record { front = InFile deck file; rest = []; is_front = is; lines_are = lines; line_is = place; stops = refl }
   end_so (InTerminal deck terminal) number cut is place lines = record { front = InTerminal deck terminal; rest = []; is_front = is; lines_are = lines; line_is = place; stops = refl }
 
   -- the front behind a line that is taken, and what the lines are then

@@ -8,21 +8,23 @@ use Rattle.std.proofs.lemmas.List.{length-append}
 use Rattle.std.proofs.lemmas.List.Folds.{list_any-append, list_all-append}
 use Rattle.monitor_calls.specs.declared.names.Account.{Account}
 use Rattle.monitor_calls.specs.declared.volumes.AccountEntry.{AccountEntry}
+use Rattle.monitor_calls.specs.declared.files.FileEntry.{FileEntry}
+use Rattle.monitor_calls.specs.Names.{is_password}
 use Rattle.monitor_calls.specs.Volumes.{same_account, has_account, are_apart, is_between, is_good_entry, are_good_accounts, are_good_files, is_good_volume}
 use Rattle.deck_model.specs.Deck.{Terminal, IsTerminal, AreTerminals, has_terminal, are_named_apart}
 use Rattle.text_cuts.proofs.CutLaws.{and_left, and_right, and_both}
 
 -- ---- tests
 
-or_false : (b : Bool) → (b || false) ≡ b
+pub or_false : (b : Bool) → (b || false) ≡ b
 or_false true = refl
 or_false false = refl
 
-and_true : (b : Bool) → (b && true) ≡ b
+pub and_true : (b : Bool) → (b && true) ≡ b
 and_true true = refl
 and_true false = refl
 
-not_or : (a b : Bool) → not (a || b) ≡ (not a && not b)
+pub not_or : (a b : Bool) → not (a || b) ≡ (not a && not b)
 not_or true b = refl
 not_or false b = refl
 
@@ -33,7 +35,7 @@ not_true false e = refl
 pub false_not : (b : Bool) → b ≡ false → not b ≡ true
 false_not b e = rw e refl
 
-and_swap : (a b c d : Bool) → ((a && b) && (c && d)) ≡ ((a && c) && (b && d))
+pub and_swap : (a b c d : Bool) → ((a && b) && (c && d)) ≡ ((a && c) && (b && d))
 and_swap true true c d = refl
 and_swap true false true d = refl
 and_swap true false false d = refl
@@ -47,10 +49,10 @@ same_sides false false f g = refl
 
 -- ---- accounts
 
-eq_turned : (a b : ℕ) → eqb a b ≡ eqb b a
+pub eq_turned : (a b : ℕ) → eqb a b ≡ eqb b a
 eq_turned a b = same_sides (eqb a b) (eqb b a) (λ e. eq-eqb b a (sym (eqb-true a b e))) (λ e. eq-eqb a b (sym (eqb-true b a e)))
 
-account_turned : (a b : Account) → same_account a b ≡ same_account b a
+pub account_turned : (a b : Account) → same_account a b ≡ same_account b a
 account_turned a b = λ i. eq_turned a.project b.project i && eq_turned a.programmer b.programmer i
 
 apart_push : (xs : List AccountEntry) (e : AccountEntry) → are_apart (xs ++ e ∷ []) ≡ (are_apart xs && not (has_account xs e.account))
@@ -73,6 +75,44 @@ apart_front (x ∷ xs) ys e =
     (and_left (not (has_account xs x.account)) (not (has_account ys x.account)) (sym (not_or (has_account xs x.account) (has_account ys x.account)) ∙ none))
     (apart_front xs ys (and_right (not (has_account (xs ++ ys) x.account)) (are_apart (xs ++ ys)) e))
 
+-- the ranges of an account
+pub record IsOwner (a : Account) : Type 0 where
+  pub least : nat_le 1 a.project ≡ true
+  pub project : nat_le a.project 254 ≡ true
+  pub programmer : nat_le a.programmer 254 ≡ true
+
+entry_owner : (e : AccountEntry) → is_good_entry e ≡ true → IsOwner e.account
+entry_owner e good =
+    let p : Bool = is_between 1 254 e.account.project in
+    let n : Bool = nat_le e.account.programmer 254 in
+    let w : Bool = is_password e.password in
+    let b = and_left (p && n) w (and_left (p && n && w) (is_between 1 16384 e.limit) good) in
+    record {
+      least = and_left (nat_le 1 e.account.project) (nat_le e.account.project 254) (and_left p n b);
+      project = and_right (nat_le 1 e.account.project) (nat_le e.account.project 254) (and_left p n b);
+      programmer = and_right p n b;
+    }
+
+same_owner : (a b : Account) → same_account a b ≡ true → IsOwner a → IsOwner b
+same_owner a b same owner =
+    let project : a.project ≡ b.project = eqb-true _ _ (and_left (eqb a.project b.project) (eqb a.programmer b.programmer) same) in
+    let programmer : a.programmer ≡ b.programmer = eqb-true _ _ (and_right (eqb a.project b.project) (eqb a.programmer b.programmer) same) in
+    record {
+      least = subst (λ n. nat_le 1 n ≡ true) project owner.least;
+      project = subst (λ n. nat_le n 254 ≡ true) project owner.project;
+      programmer = subst (λ n. nat_le n 254 ≡ true) programmer owner.programmer;
+    }
+
+-- an account among good ones is in its ranges
+pub owner_ranges : (accounts : List AccountEntry) (a : Account) → list_all is_good_entry accounts ≡ true → has_account accounts a ≡ true → IsOwner a
+owner_ranges [] a each has = absurd (cc)
+owner_ranges (e ∷ es) a each has =
+    go (same_account e.account a) refl (λ other. owner_ranges es a (and_right (is_good_entry e) (list_all is_good_entry es) each) (ap (λ (b : Bool). b || has_account es a) (sym other) ∙ has))
+  where
+    go : (b : Bool) → same_account e.account a ≡ b → (same_account e.account a ≡ false → IsOwner a) → IsOwner a
+    go true same among = same_owner e.account a same (entry_owner e (and_left (is_good_entry e) (list_all is_good_entry es) each))
+    go false other among = among other
+
 -- the parts of a good volume
 pub record GoodVolume (blocks : ℕ) (accounts : List AccountEntry) : Type 0 where
   pub size : is_between 1 16384 blocks ≡ true
@@ -80,26 +120,28 @@ pub record GoodVolume (blocks : ℕ) (accounts : List AccountEntry) : Type 0 whe
   pub each : list_all is_good_entry accounts ≡ true
   pub apart : are_apart accounts ≡ true
 
-pub volume_parts : (blocks : ℕ) (accounts : List AccountEntry) → is_good_volume blocks accounts [] ≡ true → GoodVolume blocks accounts
-volume_parts blocks accounts good =
+pub volume_parts : (blocks : ℕ) (accounts : List AccountEntry) (files : List FileEntry) → is_good_volume blocks accounts files ≡ true → GoodVolume blocks accounts × (are_good_files blocks accounts files ≡ true)
+volume_parts blocks accounts files good =
     let size = is_between 1 16384 blocks in
     let few = nat_le (length accounts) 512 in
     let each = list_all is_good_entry accounts in
-    let lead = and_left (size && are_good_accounts accounts) (are_good_files blocks accounts []) good in
+    let lead = and_left (size && are_good_accounts accounts) (are_good_files blocks accounts files) good in
     let all = and_right size (are_good_accounts accounts) lead in
-    let a = and_left (few && each) (are_apart accounts) all in
-    record {
-      size = and_left size (are_good_accounts accounts) lead;
-      few = leb-true _ _ (and_left few each a);
-      each = and_right few each a;
-      apart = and_right (few && each) (are_apart accounts) all;
-    }
+    let a = and_left (few && each) (are_apart accounts) all in (
+      record {
+        size = and_left size (are_good_accounts accounts) lead;
+        few = leb-true _ _ (and_left few each a);
+        each = and_right few each a;
+        apart = and_right (few && each) (are_apart accounts) all;
+      },
+      and_right (size && are_good_accounts accounts) (are_good_files blocks accounts files) good,
+    )
 
-no_files : (blocks : ℕ) (accounts : List AccountEntry) → are_good_files blocks accounts [] ≡ true
+pub no_files : (blocks : ℕ) (accounts : List AccountEntry) → are_good_files blocks accounts [] ≡ true
 no_files blocks accounts = le-leb 0 blocks (omega arith)
 
-pub volume_whole : (blocks : ℕ) (accounts : List AccountEntry) → GoodVolume blocks accounts → is_good_volume blocks accounts [] ≡ true
-volume_whole blocks accounts v = rw (v.size, le-leb (length accounts) 512 v.few, v.each, v.apart) (no_files blocks accounts)
+pub volume_whole : (blocks : ℕ) (accounts : List AccountEntry) (files : List FileEntry) → GoodVolume blocks accounts → are_good_files blocks accounts files ≡ true → is_good_volume blocks accounts files ≡ true
+volume_whole blocks accounts files v good = rw (v.size, le-leb (length accounts) 512 v.few, v.each, v.apart) good
 
 pub volume_front : (blocks : ℕ) (xs ys : List AccountEntry) → GoodVolume blocks (xs ++ ys) → GoodVolume blocks xs
 volume_front blocks xs ys v =
@@ -147,7 +189,7 @@ pub all_back : {X : Type 0} (P : X → Type 0) (xs ys : List X) → AllByRecursi
 all_back P [] ys a = a
 all_back P (x ∷ xs) ys a = all_back P xs ys a.1
 
-bytes_turned : (a b : List ℕ) → bytes_eq a b ≡ bytes_eq b a
+pub bytes_turned : (a b : List ℕ) → bytes_eq a b ≡ bytes_eq b a
 bytes_turned a b = same_sides (bytes_eq a b) (bytes_eq b a) (λ e. (bytes_decides b a).1 (sym ((bytes_decides a b).0 e))) (λ e. (bytes_decides a b).1 (sym ((bytes_decides b a).0 e)))
 
 named_push : (ts : List Terminal) (t : Terminal) → are_named_apart (ts ++ t ∷ []) ≡ (are_named_apart ts && not (has_terminal ts t.name))

@@ -1,10 +1,13 @@
--- A deck: the disk's blocks, the accounts, and the terminals with their keys.
-use Rattle.std.specs.Prelude.{◌≡◌, ℕ, ◌≤◌, ◌&&◌, Bool, true, not, List, [], ◌∷◌, length, bytes_eq}
+-- A deck: the disk's blocks, the accounts, the files with their texts, and the terminals with their keys.
+use Rattle.std.specs.Prelude.{◌≡◌, ℕ, ◌≤◌, ◌&&◌, Bool, true, not, List, [], ◌∷◌, length, bytes_eq, map}
 use Rattle.std.specs.List.{AllByRecursion, list_any}
 use Rattle.basic_values.specs.declared.lists.TheConstants.{LINE_LENGTH}
 use Rattle.monitor_calls.specs.declared.volumes.AccountEntry.{AccountEntry}
+use Rattle.monitor_calls.specs.declared.files.FileEntry.{FileEntry}
 use Rattle.monitor_calls.specs.Names.{is_terminal_name}
 use Rattle.monitor_calls.specs.Volumes.{is_good_volume}
+use Rattle.deck_model.specs.Files.{FitsText, file_entry}
+pub use Rattle.deck_model.specs.Files.{File}
 
 -- a terminal's name, and the keys of each line behind which RETURN is pressed
 pub record Terminal : Type 0 where
@@ -14,6 +17,7 @@ pub record Terminal : Type 0 where
 pub record Deck : Type 0 where
   pub blocks : ℕ
   pub accounts : List AccountEntry
+  pub files : List File
   pub terminals : List Terminal
 
 abbrev pub IsKeyLine : List ℕ → Type 0
@@ -40,7 +44,13 @@ pub record AreTerminals (terminals : List Terminal) : Type 0 where
   pub apart : are_named_apart terminals ≡ true
   pub few : length terminals ≤ 63
 
--- a deck that can be run: its volume is good, and so are its terminals
+-- the files as the deck's volume has them
+abbrev pub volume_files : Deck → List FileEntry
+volume_files deck = map file_entry deck.files
+
+-- a deck that can be run: its volume is good, the texts of its files fit in their blocks, and its
+-- terminals are good
 pub record IsDeck (deck : Deck) : Type 0 where
-  pub volume : is_good_volume deck.blocks deck.accounts [] ≡ true
+  pub volume : is_good_volume deck.blocks deck.accounts (volume_files deck) ≡ true
+  pub texts : AllByRecursion FitsText deck.files
   pub terminals : AreTerminals deck.terminals

@@ -1,5 +1,5 @@
 -- The forms of the lines of a deck, with numbers and names of any size.
-use Rattle.std.specs.Prelude.{ℕ, Bool, true, false, ◌&&◌, ◌||◌, not, ◌==◌, List, [], ◌∷◌, ◌++◌, length, codes}
+use Rattle.std.specs.Prelude.{ℕ, Bool, true, false, ◌&&◌, ◌||◌, not, ◌==◌, List, [], ◌∷◌, ◌++◌, length, Option, Some, None, unwrap_or, codes}
 use Rattle.std.specs.List.{list_all}
 use Rattle.std.specs.Char.{is_ascii_digit}
 use Rattle.monitor_calls.specs.Names.{is_capital_or_digit}
@@ -11,13 +11,22 @@ pub record AccountTexts : Type 0 where
   pub password : List ℕ
   pub limit : List ℕ
 
--- RSTS-DECK 1; DISK and blocks; ACCOUNT and its fields; FILE and what stands behind it; TERMINAL and
--- a name; the keys of a line; END
+-- the texts of a file's fields; an extension where a point stands
+pub record FileTexts : Type 0 where
+  pub project : List ℕ
+  pub programmer : List ℕ
+  pub stem : List ℕ
+  pub extension : Option (List ℕ)
+  pub code : List ℕ
+  pub blocks : List ℕ
+
+-- RSTS-DECK 1; DISK and blocks; ACCOUNT and its fields; FILE and its fields; TERMINAL and a name; the
+-- keys of a line, or a line of a file's text; END
 pub data Form : Type 0 where
   Version : Form
   Disk : List ℕ → Form
   Account : AccountTexts → Form
-  File : List ℕ → Form
+  File : FileTexts → Form
   Terminal : List ℕ → Form
   Keys : List ℕ → Form
   End : Form
@@ -27,12 +36,22 @@ account_text texts =
     codes "ACCOUNT " ++ (texts.project ++ codes "," ++ texts.programmer ++ codes " "
     ++ texts.password ++ codes " " ++ texts.limit)
 
+-- a point and what stands behind it, or nothing
+abbrev pub extension_text : Option (List ℕ) → List ℕ
+extension_text None = []
+extension_text (Some extension) = codes "." ++ extension
+
+abbrev pub file_text : FileTexts → List ℕ
+file_text texts =
+    codes "FILE [" ++ (texts.project ++ codes "," ++ texts.programmer ++ codes "]" ++ texts.stem
+    ++ extension_text texts.extension ++ codes "<" ++ texts.code ++ codes "> " ++ texts.blocks)
+
 -- the line of a form
 abbrev pub line_of : Form → List ℕ
 line_of Version = codes "RSTS-DECK 1"
 line_of (Disk blocks) = codes "DISK " ++ blocks
 line_of (Account texts) = account_text texts
-line_of (File rest) = codes "FILE " ++ rest
+line_of (File texts) = file_text texts
 line_of (Terminal name) = codes "TERMINAL " ++ name
 line_of (Keys keys) = codes ">" ++ keys
 line_of End = codes "END"
@@ -54,7 +73,9 @@ is_formed (Disk blocks) = is_numeral blocks
 is_formed (Account texts) =
     is_numeral texts.project && is_numeral texts.programmer && is_name texts.password
     && is_numeral texts.limit
-is_formed (File rest) = true
+is_formed (File texts) =
+    is_numeral texts.project && is_numeral texts.programmer && is_name texts.stem
+    && is_name (unwrap_or texts.extension []) && is_numeral texts.code && is_numeral texts.blocks
 is_formed (Terminal name) = is_name name
 is_formed (Keys keys) = true
 is_formed End = true

@@ -1,4 +1,5 @@
 pub mod Deck
+pub mod Files
 pub mod Forms
 pub mod Fronts
 pub mod Histories

@@ -1,12 +1,12 @@
 -- Reading the lines of a deck in their order. No promise of the program speaks of it.
-use Rattle.std.specs.Prelude.{ℕ, ◌+◌, ◌&&◌, if◌then◌else◌, List, [], ◌∷◌, Option, Some, None, Result, Ok, Err, bytes_eq, codes}
+use Rattle.std.specs.Prelude.{ℕ, ◌+◌, Bool, ◌&&◌, if◌then◌else◌, List, [], ◌∷◌, Option, Some, None, Result, Ok, Err, unwrap_or, bytes_eq, codes}
 use Rattle.text_cuts.specs.Cuts.{◌>>=◌, behind, cut}
 use Rattle.deck_model.specs.declared.faults.DeckCause.{DeckCause}
 use Rattle.deck_model.specs.declared.faults.DeckCause.TheVariants as cause
 use Rattle.deck_model.specs.Deck.{Deck}
 use Rattle.deck_model.specs.Lines.{whole_lines, cut_line}
-use Rattle.deck_model.specs.Forms.{Form, Version, Disk, Account, File, Terminal, Keys, End, AccountTexts, is_numeral, is_name}
-use Rattle.deck_model.specs.Fronts.{Front, Nothing, Versioned, InAccounts, InTerminal, Whole, adds}
+use Rattle.deck_model.specs.Forms.{Form, Version, Disk, Account, File, Terminal, Keys, End, AccountTexts, FileTexts, is_numeral, is_name}
+use Rattle.deck_model.specs.Fronts.{Front, Nothing, Versioned, InAccounts, InFile, InTerminal, Whole, adds}
 use Rattle.deck_model.specs.Refusals.{causes, first_cause, shape_cause}
 
 -- the first of two that is there
@@ -45,10 +45,42 @@ account_in line = do
       && is_numeral texts.limit
       then Some (Account texts) else None
 
+-- the stem of a file's name, and its extension behind the first point
+abbrev pub stem_before : List ℕ → Option (List ℕ × List ℕ) → List ℕ
+stem_before name None = name
+stem_before name (Some parts) = parts.0
+
+abbrev pub extension_behind : Option (List ℕ × List ℕ) → Option (List ℕ)
+extension_behind None = None
+extension_behind (Some parts) = Some parts.1
+
+-- the texts of the fields of a file
+unfoldable pub file_texts_in : List ℕ → Option FileTexts
+file_texts_in line = do
+  fields ← behind (codes "FILE [") line
+  project ← cut 44 fields
+  programmer ← cut 93 project.1
+  name ← cut 60 programmer.1
+  code ← cut 62 name.1
+  blocks ← behind (codes " ") code.1
+  Some (record {
+    project = project.0;
+    programmer = programmer.0;
+    stem = stem_before name.0 (cut 46 name.0);
+    extension = extension_behind (cut 46 name.0);
+    code = code.0;
+    blocks = blocks;
+  })
+
+abbrev pub are_file_texts : FileTexts → Bool
+are_file_texts texts =
+    is_numeral texts.project && is_numeral texts.programmer && is_name texts.stem
+    && is_name (unwrap_or texts.extension []) && is_numeral texts.code && is_numeral texts.blocks
+
 unfoldable pub file_in : List ℕ → Option Form
 file_in line = do
-  rest ← behind (codes "FILE ") line
-  Some (File rest)
+  texts ← file_texts_in line
+  if are_file_texts texts then Some (File texts) else None
 
 unfoldable pub terminal_in : List ℕ → Option Form
 terminal_in line = do
@@ -68,6 +100,11 @@ unfoldable pub groups_in : List ℕ → Option Form
 groups_in line =
     or_else (account_in line) (or_else (file_in line) (or_else (terminal_in line) (end_in line)))
 
+-- a form behind a file
+unfoldable pub contents_in : List ℕ → Option Form
+contents_in line =
+    or_else (keys_in line) (or_else (file_in line) (or_else (terminal_in line) (end_in line)))
+
 -- a form behind a terminal
 unfoldable pub session_in : List ℕ → Option Form
 session_in line = or_else (keys_in line) (or_else (terminal_in line) (end_in line))
@@ -77,6 +114,7 @@ unfoldable pub form_at : Front → List ℕ → Option Form
 form_at Nothing line = version_in line
 form_at Versioned line = disk_in line
 form_at (InAccounts deck) line = groups_in line
+form_at (InFile deck file) line = contents_in line
 form_at (InTerminal deck terminal) line = session_in line
 form_at (Whole deck) line = None
 

@@ -1,15 +1,16 @@
 -- At which line, and for which cause, bytes that spell no deck are refused.
-use Rattle.std.specs.Prelude.{◌≡◌, ◌<◌, ◌+◌, ◌⊎◌, ℕ, Bool, true, ◌&&◌, not, nat_le, nat_lt, if◌then◌else◌, List, [], ◌∷◌, ◌++◌, length, Option, Some, None}
+use Rattle.std.specs.Prelude.{◌≡◌, ◌<◌, ◌+◌, ◌⊎◌, ℕ, ◌*◌, Bool, true, ◌&&◌, not, nat_le, nat_lt, if◌then◌else◌, List, [], ◌∷◌, ◌++◌, length, Option, Some, None}
 use Rattle.basic_values.specs.Decimals.{is_number_between}
 use Rattle.basic_values.specs.declared.lists.TheConstants.{LINE_LENGTH}
-use Rattle.monitor_calls.specs.Names.{is_password, is_terminal_name}
+use Rattle.monitor_calls.specs.Names.{is_capital_or_digit, is_text_of, is_password, is_terminal_name}
 use Rattle.monitor_calls.specs.Volumes.{has_account}
 use Rattle.deck_model.specs.declared.faults.DeckCause.{DeckCause}
 use Rattle.deck_model.specs.declared.faults.DeckCause.TheVariants as cause
+use Rattle.deck_model.specs.Files.{text_of, has_file, blocks_in}
 use Rattle.deck_model.specs.Deck as model
 use Rattle.deck_model.specs.Deck.{Deck, has_terminal}
-use Rattle.deck_model.specs.Forms.{Form, Disk, Account, File, Terminal, Keys, AccountTexts, line_of, is_formed}
-use Rattle.deck_model.specs.Fronts.{Front, Nothing, InAccounts, InTerminal, Whole, front_lines, IsFront, May, entry_of}
+use Rattle.deck_model.specs.Forms.{Form, Disk, Account, File, Terminal, Keys, AccountTexts, FileTexts, line_of, is_formed}
+use Rattle.deck_model.specs.Fronts.{Front, Nothing, InAccounts, InFile, Whole, with_text, deck_at, front_lines, IsFront, May, entry_of, new_file}
 use Rattle.deck_model.specs.Lines.{whole_lines, cut_line}
 
 -- CAUSES OF A LINE
@@ -20,9 +21,17 @@ is_in_range texts =
     is_number_between 1 254 texts.project && is_number_between 0 254 texts.programmer
     && is_password texts.password && is_number_between 1 16384 texts.limit
 
-abbrev pub terminals_in : Front → List model.Terminal
-terminals_in (InTerminal deck terminal) = deck.terminals ++ terminal ∷ []
-terminals_in front = []
+-- an extension has 1 to 3 capital letters and digits, where a point stands
+abbrev pub is_extension : Option (List ℕ) → Bool
+is_extension None = true
+is_extension (Some text) = is_text_of is_capital_or_digit 1 3 text
+
+-- the numbers, the stem and the extension of a file are in their ranges
+abbrev pub is_file_in_range : FileTexts → Bool
+is_file_in_range texts =
+    is_number_between 1 254 texts.project && is_number_between 0 254 texts.programmer
+    && is_password texts.stem && is_extension texts.extension
+    && is_number_between 0 63 texts.code && is_number_between 0 16384 texts.blocks
 
 -- the first of the causes whose test holds
 abbrev pub first_cause : List (Bool × DeckCause) → Option DeckCause
@@ -34,6 +43,23 @@ account_causes deck texts =
     (not (is_in_range texts), cause.Range)
     ∷ (has_account deck.accounts (entry_of texts).account, cause.Double)
     ∷ (nat_le 512 (length deck.accounts), cause.Space) ∷ []
+
+-- an account has to stand before its files, and the disk has to have their blocks
+abbrev pub filing_causes : Deck → model.File → List (Bool × DeckCause)
+filing_causes deck file =
+    (has_file deck.files file.name, cause.Double)
+    ∷ (not (has_account deck.accounts file.name.owner), cause.Owner)
+    ∷ (nat_le 512 (length deck.files), cause.Space)
+    ∷ (nat_lt deck.blocks (blocks_in deck.files + file.blocks), cause.Space) ∷ []
+
+abbrev pub file_causes : Deck → FileTexts → List (Bool × DeckCause)
+file_causes deck texts =
+    (not (is_file_in_range texts), cause.Range) ∷ filing_causes deck (new_file texts)
+
+-- the text has to fit in its file's blocks
+abbrev pub text_causes : model.File → List ℕ → List (Bool × DeckCause)
+text_causes file text =
+    (nat_lt (512 * file.blocks) (length (text_of (with_text file text).texts)), cause.Space) ∷ []
 
 abbrev pub terminal_causes : List model.Terminal → List ℕ → List (Bool × DeckCause)
 terminal_causes terminals name =
@@ -48,8 +74,9 @@ keys_causes keys = (nat_lt LINE_LENGTH (length keys), cause.Range) ∷ []
 abbrev pub causes : Front → Form → List (Bool × DeckCause)
 causes front (Disk blocks) = (not (is_number_between 1 16384 blocks), cause.Range) ∷ []
 causes (InAccounts deck) (Account texts) = account_causes deck texts
-causes front (File rest) = (true, cause.Stage) ∷ []
-causes front (Terminal name) = terminal_causes (terminals_in front) name
+causes front (File texts) = file_causes (deck_at front) texts
+causes front (Terminal name) = terminal_causes (deck_at front).terminals name
+causes (InFile deck file) (Keys text) = text_causes file text
 causes front (Keys keys) = keys_causes keys
 causes front form = []
 

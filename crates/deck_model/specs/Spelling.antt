@@ -1,11 +1,13 @@
 -- Which bytes spell a deck, version 1.
-use Rattle.std.specs.Prelude.{◌≡◌, ℕ, List, [], ◌∷◌, ◌++◌, map}
+use Rattle.std.specs.Prelude.{◌≡◌, ℕ, List, [], ◌∷◌, ◌++◌, Option, Some, None, map}
 use Rattle.std.specs.List.{flat_map}
 use Rattle.std.specs.Fmt.{decimal}
 use Rattle.monitor_calls.specs.declared.volumes.AccountEntry.{AccountEntry}
 use Rattle.deck_model.specs.Deck as model
 use Rattle.deck_model.specs.Deck.{Deck, IsDeck}
-use Rattle.deck_model.specs.Forms.{Version, Disk, Account, Terminal, Keys, End, AccountTexts, line_of}
+use Rattle.deck_model.specs.Files.{File}
+use Rattle.deck_model.specs.Forms as forms
+use Rattle.deck_model.specs.Forms.{Version, Disk, Account, Terminal, Keys, End, AccountTexts, FileTexts, line_of}
 use Rattle.deck_model.specs.Lines.{whole_lines, cut_line}
 
 -- the fields of an account, its numbers in digits
@@ -21,9 +23,29 @@ texts_of entry = record {
 abbrev pub account_line : AccountEntry → List ℕ
 account_line entry = line_of (Account (texts_of entry))
 
--- the keys of one line behind a greater-than sign
+-- no point where there is no extension
+abbrev pub extension_of : List ℕ → Option (List ℕ)
+extension_of [] = None
+extension_of (byte ∷ bytes) = Some (byte ∷ bytes)
+
+-- the fields of a file, its numbers in digits
+abbrev pub file_texts : File → FileTexts
+file_texts file = record {
+  project = decimal file.name.owner.project;
+  programmer = decimal file.name.owner.programmer;
+  stem = file.name.stem;
+  extension = extension_of file.name.extension;
+  code = decimal file.code;
+  blocks = decimal file.blocks;
+}
+
+-- the keys of one line, or a line of a text, behind a greater-than sign
 abbrev pub key_line : List ℕ → List ℕ
 key_line keys = line_of (Keys keys)
+
+-- FILE [p,n]STEM.EXT<code> blocks, and the lines of its text
+abbrev pub file_lines : File → List (List ℕ)
+file_lines file = line_of (forms.File (file_texts file)) ∷ map key_line file.texts
 
 -- TERMINAL name, and its key lines
 abbrev pub terminal_lines : model.Terminal → List (List ℕ)
@@ -33,7 +55,8 @@ terminal_lines terminal = line_of (Terminal terminal.name) ∷ map key_line term
 abbrev pub group_lines : Deck → List (List ℕ)
 group_lines deck =
     line_of Version ∷ line_of (Disk (decimal deck.blocks))
-    ∷ (map account_line deck.accounts ++ flat_map terminal_lines deck.terminals)
+    ∷ (map account_line deck.accounts
+    ++ (flat_map file_lines deck.files ++ flat_map terminal_lines deck.terminals))
 
 -- the lines of a deck, of which END is the last
 abbrev pub deck_lines : Deck → List (List ℕ)

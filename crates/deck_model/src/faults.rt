@@ -9,13 +9,15 @@ pub enum DeckCause {
     Version,
     /// The line has none of the forms that may stand there.
     Shape,
-    /// It begins a group that is not read yet.
-    Stage,
-    /// A number, or the length of a name, a password or a key line, is outside its range.
+    /// A number, or the length of a name, a password, an extension or a key line, is outside its
+    /// range.
     Range,
-    /// The account or the terminal was given before.
+    /// The account, the file or the terminal was given before.
     Double,
-    /// There are already as many as there may be.
+    /// The account of the file was not given.
+    Owner,
+    /// There are already as many as there may be, the disk has not that many blocks left, or the
+    /// text goes beyond the blocks of its file.
     Space,
 }
 

@@ -1,8 +1,12 @@
 -- What was read, as the definitions have it, and what reading answers.
 use Rattle.std.specs.Prelude.{◌≡◌, ℕ, Bool, bytes_eq, List, [], ◌∷◌, Option, Some, None, Result, Ok, Err, map, ⊤}
 use Rattle.std.specs.List.{list_any}
+use Rattle.std.specs.Borrow.{Bor}
 use Rattle.basic_values.specs.declared.failures.Trouble.{Trouble}
 use Rattle.basic_values.specs.declared.failures.Trouble.TheVariants as trouble
+use Rattle.monitor_calls.specs.declared.files.FileName.{FileName}
+use Rattle.monitor_calls.specs.declared.files.FileEntry.{FileEntry}
+use Rattle.monitor_calls.specs.FileNames.{same_name}
 use Rattle.deck_model.specs.declared.faults.DeckCause.{DeckCause}
 use Rattle.deck_model.specs.declared.faults.DeckFault.{DeckFault}
 use Rattle.deck_model.specs.Deck as model
@@ -10,18 +14,22 @@ use Rattle.deck_model.specs.Forms as forms
 use Rattle.deck_model.specs.Fronts as fronts
 use Rattle.deck_model.specs.Lines.{whole_lines, cut_line}
 use Rattle.deck_model.specs.Reading.{Verdict, Spells, Refuses}
-use Rattle.deck_reader.specs.declared.decks.BareVolume.{BareVolume}
 use Rattle.deck_reader.specs.declared.decks.Deck.{Deck}
+use Rattle.deck_reader.specs.declared.decks.OpenFile.{OpenFile}
 use Rattle.deck_reader.specs.declared.decks.Terminal.{Terminal}
 use Rattle.deck_reader.specs.declared.failures.ReadError.{ReadError}
 use Rattle.deck_reader.specs.declared.failures.ReadError.TheVariants as errors
 use Rattle.deck_reader.specs.declared.forms.AccountTexts.{AccountTexts}
+use Rattle.deck_reader.specs.declared.forms.FileTexts.{FileTexts}
+use Rattle.deck_reader.specs.declared.forms.ContentsForm.{ContentsForm}
+use Rattle.deck_reader.specs.declared.forms.ContentsForm.TheVariants as contents
 use Rattle.deck_reader.specs.declared.forms.GroupForm.{GroupForm}
 use Rattle.deck_reader.specs.declared.forms.GroupForm.TheVariants as group
 use Rattle.deck_reader.specs.declared.forms.SessionForm.{SessionForm}
 use Rattle.deck_reader.specs.declared.forms.SessionForm.TheVariants as session
 use Rattle.deck_reader.specs.declared.fronts.Front.{Front}
 use Rattle.deck_reader.specs.declared.fronts.Front.TheVariants as code
+use Rattle.deck_reader.specs.Filed.{file_of}
 
 abbrev pub terminal_of : Terminal → model.Terminal
 terminal_of terminal = record { name = terminal.name; keys = terminal.keys.items }
@@ -30,23 +38,33 @@ terminal_of terminal = record { name = terminal.name; keys = terminal.keys.items
 unfoldable pub is_named : List Terminal → List ℕ → Bool
 is_named terminals name = list_any (λ (terminal : Terminal). bytes_eq terminal.name name) terminals
 
+-- whether a file has this name
+unfoldable pub is_filed : List FileEntry → FileName → Bool
+is_filed files name = list_any (λ (file : FileEntry). same_name file.name name) files
+
 -- a deck without where it lies in memory
 abbrev pub deck_of : Deck → model.Deck
 deck_of deck = record {
   blocks = deck.volume.blocks;
   accounts = deck.volume.accounts.items;
+  files = map file_of deck.volume.files.items;
   terminals = map terminal_of deck.terminals.items;
 }
 
--- a deck of which only the disk and the accounts were read
-abbrev pub accounts_of : BareVolume → model.Deck
-accounts_of bare =
-    record { blocks = bare.volume.blocks; accounts = bare.volume.accounts.items; terminals = [] }
+-- a file whose text may go on
+abbrev pub open_of : OpenFile → model.File
+open_of file = record {
+  name = file.name;
+  code = file.code;
+  blocks = file.blocks;
+  texts = whole_lines file.text.items;
+}
 
 abbrev pub front_of : Front → fronts.Front
 front_of code.Nothing = fronts.Nothing
 front_of code.Versioned = fronts.Versioned
-front_of (code.InAccounts bare) = fronts.InAccounts (accounts_of bare)
+front_of (code.InAccounts deck) = fronts.InAccounts (deck_of deck)
+front_of (code.InFile deck file) = fronts.InFile (deck_of deck) (open_of file)
 front_of (code.InTerminal deck terminal) = fronts.InTerminal (deck_of deck) (terminal_of terminal)
 front_of (code.Whole deck) = fronts.Whole (deck_of deck)
 
@@ -58,11 +76,31 @@ texts_seen texts = record {
   limit = texts.limit.now;
 }
 
+abbrev pub extension_seen : Option (Bor (List ℕ)) → Option (List ℕ)
+extension_seen None = None
+extension_seen (Some text) = Some text.now
+
+abbrev pub file_texts_seen : FileTexts → forms.FileTexts
+file_texts_seen texts = record {
+  project = texts.project.now;
+  programmer = texts.programmer.now;
+  stem = texts.stem.now;
+  extension = extension_seen texts.extension;
+  code = texts.code.now;
+  blocks = texts.blocks.now;
+}
+
 abbrev pub group_seen : GroupForm → forms.Form
 group_seen (group.Account texts) = forms.Account (texts_seen texts)
-group_seen (group.File rest) = forms.File rest.now
+group_seen (group.File texts) = forms.File (file_texts_seen texts)
 group_seen (group.Terminal name) = forms.Terminal name.now
 group_seen group.End = forms.End
+
+abbrev pub contents_seen : ContentsForm → forms.Form
+contents_seen (contents.Text text) = forms.Keys text.now
+contents_seen (contents.File texts) = forms.File (file_texts_seen texts)
+contents_seen (contents.Terminal name) = forms.Terminal name.now
+contents_seen contents.End = forms.End
 
 abbrev pub session_seen : SessionForm → forms.Form
 session_seen (session.Keys keys) = forms.Keys keys.now

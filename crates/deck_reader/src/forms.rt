@@ -3,10 +3,10 @@
 ghost use Rattle.std.specs.Prelude.{◌≡◌};
 ghost use Rattle.std.specs.List.{list_all};
 ghost use Rattle.std.specs.Char.{is_ascii_digit};
-ghost use Rattle.deck_model.specs.Forms.{Disk, Account, Terminal, is_numeral, is_name};
-ghost use Rattle.deck_model.specs.Reading.{disk_in, texts_in, account_in, terminal_in, groups_in, session_in};
-ghost use Rattle.text_cuts.specs.Cuts.{Finds};
-ghost use Rattle.deck_reader.specs.Seen.{texts_seen, group_seen, session_seen};
+ghost use Rattle.deck_model.specs.Forms.{Disk, Account, File, Terminal, is_numeral, is_name};
+ghost use Rattle.deck_model.specs.Reading.{disk_in, texts_in, account_in, stem_before, extension_behind, file_texts_in, are_file_texts, file_in, terminal_in, groups_in, contents_in, session_in};
+ghost use Rattle.text_cuts.specs.Cuts.{Finds, cut};
+ghost use Rattle.deck_reader.specs.Seen.{texts_seen, extension_seen, file_texts_seen, group_seen, contents_seen, session_seen};
 
 use text_cuts::{behind, cut};
 
@@ -19,11 +19,31 @@ pub(crate) struct AccountTexts<'a> {
     pub(crate) limit: &'a [u8],
 }
 
+/// The texts of a file's fields; its extension where a point stands.
+#[derive(Clone, Copy)]
+pub(crate) struct FileTexts<'a> {
+    pub(crate) project: &'a [u8],
+    pub(crate) programmer: &'a [u8],
+    pub(crate) stem: &'a [u8],
+    pub(crate) extension: Option<&'a [u8]>,
+    pub(crate) code: &'a [u8],
+    pub(crate) blocks: &'a [u8],
+}
+
 /// The form of a line among those of accounts.
 #[derive(Clone, Copy)]
 pub(crate) enum GroupForm<'a> {
     Account(AccountTexts<'a>),
-    File(&'a [u8]),
+    File(FileTexts<'a>),
+    Terminal(&'a [u8]),
+    End,
+}
+
+/// The form of a line behind a file.
+#[derive(Clone, Copy)]
+pub(crate) enum ContentsForm<'a> {
+    Text(&'a [u8]),
+    File(FileTexts<'a>),
     Terminal(&'a [u8]),
     End,
 }
@@ -50,21 +70,42 @@ pub(crate) fn disk_blocks(line: &[u8]) -> Option<&[u8]>
 }
 
 /// The form that a line has where accounts may stand.
-#[tactic(auto, unfolding(deck_model::specs::Reading::groups_in, deck_model::specs::Reading::file_in, deck_model::specs::Reading::end_in))]
+#[tactic(auto, unfolding(deck_model::specs::Reading::groups_in, deck_model::specs::Reading::end_in))]
 pub(crate) fn group_form(line: &[u8]) -> Option<GroupForm<'_>>
     ensures { Finds group_seen result (groups_in line.now) }
 {
     if let Some(texts) = account_texts(line) {
         return Some(GroupForm::Account(texts));
     }
-    if let Some(rest) = behind(b"FILE ", line) {
-        return Some(GroupForm::File(rest));
+    if let Some(texts) = file_texts(line) {
+        return Some(GroupForm::File(texts));
     }
     if let Some(name) = terminal_name(line) {
         return Some(GroupForm::Terminal(name));
     }
     if line == b"END".as_slice() {
         Some(GroupForm::End)
+    } else {
+        None
+    }
+}
+
+/// The form that a line has where the text of a file may go on.
+#[tactic(auto, unfolding(deck_model::specs::Reading::contents_in, deck_model::specs::Reading::keys_in, deck_model::specs::Reading::end_in))]
+pub(crate) fn contents_form(line: &[u8]) -> Option<ContentsForm<'_>>
+    ensures { Finds contents_seen result (contents_in line.now) }
+{
+    if let Some(text) = behind(b">", line) {
+        return Some(ContentsForm::Text(text));
+    }
+    if let Some(texts) = file_texts(line) {
+        return Some(ContentsForm::File(texts));
+    }
+    if let Some(name) = terminal_name(line) {
+        return Some(ContentsForm::Terminal(name));
+    }
+    if line == b"END".as_slice() {
+        Some(ContentsForm::End)
     } else {
         None
     }
@@ -114,6 +155,52 @@ fn fields_of(line: &[u8]) -> Option<AccountTexts<'_>>
         password,
         limit,
     })
+}
+
+/// The fields of a FILE line.
+#[tactic(auto, unfolding(deck_model::specs::Reading::file_in))]
+fn file_texts(line: &[u8]) -> Option<FileTexts<'_>>
+    ensures { Finds (λ texts. File (file_texts_seen texts)) result (file_in line.now) }
+{
+    let texts = file_fields(line)?;
+    let is_formed = is_numeral(texts.project)
+        && is_numeral(texts.programmer)
+        && is_name(texts.stem)
+        && is_name(texts.extension.unwrap_or(&[]))
+        && is_numeral(texts.code)
+        && is_numeral(texts.blocks);
+    if is_formed { Some(texts) } else { None }
+}
+
+#[tactic(auto, unfolding(deck_model::specs::Reading::file_texts_in))]
+fn file_fields(line: &[u8]) -> Option<FileTexts<'_>>
+    ensures { Finds file_texts_seen result (file_texts_in line.now) }
+{
+    let (project, rest) = cut(b',', behind(b"FILE [", line)?)?;
+    let (programmer, rest) = cut(b']', rest)?;
+    let (name, rest) = cut(b'<', rest)?;
+    let (code, rest) = cut(b'>', rest)?;
+    let blocks = behind(b" ", rest)?;
+    let (stem, extension) = name_parts(name);
+    Some(FileTexts {
+        project,
+        programmer,
+        stem,
+        extension,
+        code,
+        blocks,
+    })
+}
+
+/// The stem of a name, and the extension behind its first point.
+fn name_parts(name: &[u8]) -> (&[u8], Option<&[u8]>)
+    ensures stem { result.0.now ≡ stem_before name.now (cut 46 name.now) }
+    ensures extension { extension_seen result.1 ≡ extension_behind (cut 46 name.now) }
+{
+    match cut(b'.', name) {
+        Some((stem, extension)) => (stem, Some(extension)),
+        None => (name, None),
+    }
 }
 
 /// The name in a TERMINAL line.

@@ -1,23 +1,32 @@
 //! The front of a deck: what its lines said so far, and what the next one adds.
 
-ghost use Rattle.std.specs.Prelude.{◌≡◌, ◌==◌, ◌&&◌, if◌then◌else◌, Some, None, length, bytes_eq};
+ghost use Rattle.std.specs.Prelude.{◌≡◌, ◌+◌, ◌==◌, ◌&&◌, false, if◌then◌else◌, Some, None, length, nat_le, nat_lt, bytes_eq, IfOk};
 ghost use Rattle.monitor_calls.specs.Volumes.{same_account, has_account};
+ghost use Rattle.deck_model.specs.Files.{has_file, blocks_in};
 ghost use Rattle.deck_model.specs.Fronts as model;
 ghost use Rattle.deck_model.specs.Fronts.{entry_of};
-ghost use Rattle.deck_model.specs.Refusals.{is_in_range, first_cause, account_causes, terminal_causes, keys_causes};
+ghost use Rattle.deck_model.specs.Refusals.{is_in_range, first_cause, account_causes, filing_causes, file_causes, text_causes, terminal_causes, keys_causes};
 ghost use Rattle.deck_model.specs.Reading.{behind_line, unless_refused, at_end};
-ghost use Rattle.deck_reader.specs.Seen.{Decides, Tells, texts_seen, deck_of, terminal_of, accounts_of, front_of, is_named};
+ghost use Rattle.deck_reader.specs.Filed.{has_line_feed};
+ghost use Rattle.deck_reader.specs.Seen.{Decides, Tells, texts_seen, file_texts_seen, deck_of, open_of, terminal_of, front_of, is_named};
 
-use crate::decks::{BareVolume, Deck, Terminal};
+use crate::decks::{Deck, OpenFile, Terminal};
 use crate::failures::ReadError;
-use crate::forms::{AccountTexts, GroupForm, SessionForm, disk_blocks, group_form, session_form};
-use basic_values::{KeyLine, LINE_LENGTH, Trouble, number_between};
+use crate::files::{fit_in, is_filed, new_file};
+use crate::forms::{
+    AccountTexts, ContentsForm, FileTexts, GroupForm, SessionForm, contents_form, disk_blocks,
+    group_form, session_form,
+};
+use basic_values::{KeyLine, LINE_LENGTH, NoMemory, Trouble, number_between};
 use deck_model::{DeckCause, DeckFault};
-use monitor_calls::{Account, AccountEntry, Short, TerminalName, Volume};
+use monitor_calls::{Account, AccountEntry, FileName, Short, TerminalName, Volume};
 use std::alloc::Global;
 
 /// How many accounts a deck has at the most.
 const MOST_ACCOUNTS: usize = 512;
+
+/// How many files a deck has at the most.
+const MOST_FILES: usize = 512;
 
 /// How many terminals a deck has at the most.
 const MOST_TERMINALS: usize = 63;
@@ -28,7 +37,9 @@ pub(crate) enum Front {
     Nothing,
     Versioned,
     /// The disk and the accounts.
-    InAccounts(BareVolume),
+    InAccounts(Deck),
+    /// A deck without terminals, and its last file, whose text may still go on.
+    InFile(Deck, OpenFile),
     /// A deck, and its last terminal, which may still get keys.
     InTerminal(Deck, Terminal),
     /// A deck with its END.
@@ -38,12 +49,14 @@ pub(crate) enum Front {
 impl Front {
     /// The front behind one line more.
     pub(crate) fn behind(self, alloc: Global, line: &[u8]) -> Result<Front, ReadError>
+        requires { has_line_feed line.now ≡ false }
         ensures { Decides front_of result (behind_line (front_of self) line.now) }
     {
         match self {
             Front::Nothing => behind_nothing(line),
             Front::Versioned => behind_version(alloc, line),
-            Front::InAccounts(bare) => behind_accounts(alloc, bare, line),
+            Front::InAccounts(deck) => behind_accounts(alloc, deck, line),
+            Front::InFile(deck, file) => behind_file(alloc, deck, file, line),
             Front::InTerminal(deck, terminal) => behind_terminal(alloc, deck, terminal, line),
             Front::Whole(deck) => behind_end(deck, line),
         }
@@ -87,26 +100,43 @@ fn behind_version(alloc: Global, line: &[u8]) -> Result<Front, ReadError>
         accounts: Vec::new(alloc),
         files: Vec::new(alloc),
     };
-    Ok(Front::InAccounts(BareVolume { volume }))
+    let terminals = Vec::new(alloc);
+    Ok(Front::InAccounts(Deck { volume, terminals }))
 }
 
 #[tactic(auto, unfolding(deck_model::specs::Reading::behind_line, deck_model::specs::Reading::behind_form, deck_model::specs::Reading::form_at))]
-fn behind_accounts(alloc: Global, bare: BareVolume, line: &[u8]) -> Result<Front, ReadError>
-    ensures { Decides front_of result (behind_line (model.InAccounts (accounts_of bare)) line.now) }
+fn behind_accounts(alloc: Global, deck: Deck, line: &[u8]) -> Result<Front, ReadError>
+    ensures { Decides front_of result (behind_line (model.InAccounts (deck_of deck)) line.now) }
 {
     match group_form(line) {
         None => Err(ReadError::Refused(DeckCause::Shape)),
-        Some(GroupForm::Account(texts)) => with_account(bare, &texts),
-        Some(GroupForm::File(_)) => Err(ReadError::Refused(DeckCause::Stage)),
-        Some(GroupForm::Terminal(name)) => {
-            let terminals = Vec::new(alloc);
-            let volume = bare.volume;
-            with_terminal(alloc, Deck { volume, terminals }, name)
+        Some(GroupForm::Account(texts)) => with_account(deck, &texts),
+        Some(GroupForm::File(texts)) => with_file(alloc, deck, &texts),
+        Some(GroupForm::Terminal(name)) => with_terminal(alloc, deck, name),
+        Some(GroupForm::End) => Ok(Front::Whole(deck)),
+    }
+}
+
+#[tactic(auto, unfolding(deck_model::specs::Reading::behind_line, deck_model::specs::Reading::behind_form, deck_model::specs::Reading::form_at))]
+fn behind_file(alloc: Global, deck: Deck, file: OpenFile, line: &[u8]) -> Result<Front, ReadError>
+    requires { has_line_feed line.now ≡ false }
+    ensures { Decides front_of result
+        (behind_line (model.InFile (deck_of deck) (open_of file)) line.now) }
+{
+    match contents_form(line) {
+        None => Err(ReadError::Refused(DeckCause::Shape)),
+        Some(ContentsForm::Text(text)) => with_text(deck, file, text),
+        Some(ContentsForm::File(texts)) => {
+            let before = filed(alloc, deck, file)?;
+            with_file(alloc, before, &texts)
         }
-        Some(GroupForm::End) => {
-            let terminals = Vec::new(alloc);
-            let volume = bare.volume;
-            Ok(Front::Whole(Deck { volume, terminals }))
+        Some(ContentsForm::Terminal(name)) => {
+            let named = filed(alloc, deck, file)?;
+            with_terminal(alloc, named, name)
+        }
+        Some(ContentsForm::End) => {
+            let whole = filed(alloc, deck, file)?;
+            Ok(Front::Whole(whole))
         }
     }
 }
@@ -146,21 +176,110 @@ fn behind_end(deck: Deck, line: &[u8]) -> Result<Front, ReadError>
 }
 
 /// One account more.
-fn with_account(bare: BareVolume, texts: &AccountTexts<'_>) -> Result<Front, ReadError>
+fn with_account(deck: Deck, texts: &AccountTexts<'_>) -> Result<Front, ReadError>
     ensures { Decides front_of result (unless_refused
-        (model.InAccounts (model.with_account (accounts_of bare) (entry_of (texts_seen texts.now))))
-        (first_cause (account_causes (accounts_of bare) (texts_seen texts.now)))) }
+        (model.InAccounts (model.with_account (deck_of deck) (entry_of (texts_seen texts.now))))
+        (first_cause (account_causes (deck_of deck) (texts_seen texts.now)))) }
 {
-    let mut bare = bare;
+    let mut deck = deck;
     let entry = entry_of(texts).ok_or(DeckCause::Range)?;
-    if has_account(bare.volume.accounts.as_slice(), entry.account) {
+    if has_account(deck.volume.accounts.as_slice(), entry.account) {
         return Err(ReadError::Refused(DeckCause::Double));
     }
-    if bare.volume.accounts.len() >= MOST_ACCOUNTS {
+    if deck.volume.accounts.len() >= MOST_ACCOUNTS {
         return Err(ReadError::Refused(DeckCause::Space));
     }
-    bare.volume.accounts.push(entry)?;
-    Ok(Front::InAccounts(bare))
+    deck.volume.accounts.push(entry)?;
+    Ok(Front::InAccounts(deck))
+}
+
+/// One file more, without its text.
+fn with_file(alloc: Global, deck: Deck, texts: &FileTexts<'_>) -> Result<Front, ReadError>
+    ensures { Decides front_of result (unless_refused
+        (model.InFile (deck_of deck) (model.new_file (file_texts_seen texts.now)))
+        (first_cause (file_causes (deck_of deck) (file_texts_seen texts.now)))) }
+{
+    match new_file(alloc, texts) {
+        None => Err(ReadError::Refused(DeckCause::Range)),
+        Some(file) => with_new_file(deck, file),
+    }
+}
+
+/// One file more, whose numbers and name are in their ranges.
+fn with_new_file(deck: Deck, file: OpenFile) -> Result<Front, ReadError>
+    ensures { Decides front_of result (unless_refused
+        (model.InFile (deck_of deck) (open_of file))
+        (first_cause (filing_causes (deck_of deck) (open_of file)))) }
+{
+    match filing_cause(&deck, &file) {
+        Some(cause) => Err(ReadError::Refused(cause)),
+        None => Ok(Front::InFile(deck, file)),
+    }
+}
+
+/// Why the deck can't have the file, whose numbers and name are in their ranges.
+fn filing_cause(deck: &Deck, file: &OpenFile) -> Option<DeckCause>
+    ensures { result ≡ first_cause (filing_causes (deck_of deck.now) (open_of file.now)) }
+{
+    if has_file(deck, &file.name) {
+        Some(DeckCause::Double)
+    } else if !has_account(deck.volume.accounts.as_slice(), file.name.owner) {
+        Some(DeckCause::Owner)
+    } else if has_all_files(deck) || lacks_blocks(deck, file.blocks) {
+        Some(DeckCause::Space)
+    } else {
+        None
+    }
+}
+
+#[tactic(auto, using(crate::proofs::FileLemmas::filed_is))]
+fn has_file(deck: &Deck, name: &FileName) -> bool
+    ensures { result ≡ has_file (deck_of deck.now).files name.now }
+{
+    is_filed(deck.volume.files.as_slice(), name)
+}
+
+fn has_all_files(deck: &Deck) -> bool
+    ensures { result ≡ nat_le 512 (length (deck_of deck.now).files) }
+{
+    deck.volume.files.len() >= MOST_FILES
+}
+
+/// Whether the disk has not so many blocks beside those of the files.
+#[tactic(auto, using(crate::proofs::FileLemmas::blocks_are))]
+fn lacks_blocks(deck: &Deck, blocks: u16) -> bool
+    ensures { result ≡ nat_lt deck.now.volume.blocks (blocks_in (deck_of deck.now).files + blocks) }
+{
+    let disk = deck.volume.blocks as usize;
+    let wanted = blocks as usize;
+    if wanted > disk {
+        return true;
+    }
+    !fit_in(disk - wanted, deck.volume.files.as_slice())
+}
+
+/// One line more of the text of the last file.
+fn with_text(deck: Deck, file: OpenFile, text: &[u8]) -> Result<Front, ReadError>
+    requires { has_line_feed text.now ≡ false }
+    ensures { Decides front_of result (unless_refused
+        (model.InFile (deck_of deck) (model.with_text (open_of file) text.now))
+        (first_cause (text_causes (open_of file) text.now))) }
+{
+    if file.is_full_at(text) {
+        return Err(ReadError::Refused(DeckCause::Space));
+    }
+    let file = file.with_text(text)?;
+    Ok(Front::InFile(deck, file))
+}
+
+/// The deck with its last file, whose text is whole.
+fn filed(alloc: Global, deck: Deck, file: OpenFile) -> Result<Deck, NoMemory>
+    ensures { IfOk result (λ whole. deck_of whole ≡ model.with_file (deck_of deck) (open_of file)) }
+{
+    let mut deck = deck;
+    let entry = file.into_entry(alloc)?;
+    deck.volume.files.push(entry)?;
+    Ok(deck)
 }
 
 /// One terminal more.

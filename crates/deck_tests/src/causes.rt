@@ -65,7 +65,7 @@ fn each_cause_stands_at_its_line(rt: HostRuntime) -> Result<(), Fail> {
         (
             b"RSTS-DECK 1\nDISK 8\nFILE [100,5]A<60> 1\n",
             3,
-            DeckCause::Stage,
+            DeckCause::Owner,
         ),
         (
             b"RSTS-DECK 1\nDISK 8\nTERMINAL T23456789\n",
@@ -88,6 +88,78 @@ fn each_cause_stands_at_its_line(rt: HostRuntime) -> Result<(), Fail> {
     ];
     for (bytes, line, cause) in rows {
         assert_eq!(rt; refusal(rt.alloc(), bytes)?, (line, cause));
+    }
+    Ok(())
+}
+
+/// A disk of two blocks and an account.
+const FRONT: &[u8] = b"RSTS-DECK 1\nDISK 2\nACCOUNT 100,5 DEMO 9\n";
+
+#[test]
+fn each_cause_of_a_file_stands_at_its_line(rt: HostRuntime) -> Result<(), Fail> {
+    let rows: [(&[u8], u32, DeckCause); 20] = [
+        (b"FILE [100,5]A<60>1\n", 4, DeckCause::Shape),
+        (b"FILE [100,5]A 1\n", 4, DeckCause::Shape),
+        (b"FILE [100,5]a<60> 1\n", 4, DeckCause::Shape),
+        (b"FILE [100,5]A.B.C<60> 1\n", 4, DeckCause::Shape),
+        (b"FILE [100,5]A<060> 1\n", 4, DeckCause::Shape),
+        (b"FILE [100,5]A.<60> 1\n", 4, DeckCause::Range),
+        (b"FILE [100,5].B<60> 1\n", 4, DeckCause::Range),
+        (b"FILE [100,5]ABCDEFG<60> 1\n", 4, DeckCause::Range),
+        (b"FILE [100,5]A.ABCD<60> 1\n", 4, DeckCause::Range),
+        (b"FILE [255,5]A<60> 1\n", 4, DeckCause::Range),
+        (b"FILE [100,5]A<64> 1\n", 4, DeckCause::Range),
+        (b"FILE [100,5]A<60> 16385\n", 4, DeckCause::Range),
+        (b"FILE [100,6]A<60> 9\n", 4, DeckCause::Owner),
+        (b"FILE [100,5]A<60> 3\n", 4, DeckCause::Space),
+        (
+            b"FILE [100,5]A<60> 1\nFILE [100,5]A.B<60> 2\n",
+            5,
+            DeckCause::Space,
+        ),
+        (
+            b"FILE [100,5]A<60> 1\nFILE [100,5]A<0> 9\n",
+            5,
+            DeckCause::Double,
+        ),
+        (b"FILE [100,5]A<60> 0\n>\n", 5, DeckCause::Space),
+        (b">\n", 4, DeckCause::Shape),
+        (
+            b"FILE [100,5]A<60> 1\nACCOUNT 1,2 A 1\n",
+            5,
+            DeckCause::Shape,
+        ),
+        (b"TERMINAL T1\nFILE [100,5]B<60> 1\n", 5, DeckCause::Shape),
+    ];
+    for (lines, line, cause) in rows {
+        let mut deck = FRONT.to_vec(rt.alloc())?;
+        deck.extend_from_slice(lines)?;
+        assert_eq!(rt; refusal(rt.alloc(), deck.as_slice())?, (line, cause));
+    }
+    Ok(())
+}
+
+#[test]
+fn a_text_of_511_bytes_is_beyond_one_block(rt: HostRuntime) -> Result<(), Fail> {
+    let alloc = rt.alloc();
+    let mut deck = FRONT.to_vec(alloc)?;
+    deck.extend_from_slice(b"FILE [100,5]A<60> 1\n>")?;
+    deck.resize(deck.len().saturating_add(511), b'A')?;
+    deck.extend_from_slice(b"\nEND\n")?;
+    assert_eq!(rt; refusal(alloc, deck.as_slice())?, (5, DeckCause::Space));
+    Ok(())
+}
+
+#[test]
+fn a_deck_cut_behind_each_of_its_bytes_ends_early(rt: HostRuntime) -> Result<(), Fail> {
+    let deck = b"RSTS-DECK 1\nDISK 2\nACCOUNT 100,5 DEMO 9\nFILE [100,5]A.B<60> 1\n>10 END\n\
+TERMINAL T1\n>A\nEND\n";
+    let mut line = 1u32;
+    for at in 0..deck.len() {
+        assert_eq!(rt; refusal(rt.alloc(), &deck[..at])?, (line, DeckCause::Cut));
+        if deck[at] == b'\n' {
+            line = line.saturating_add(1);
+        }
     }
     Ok(())
 }

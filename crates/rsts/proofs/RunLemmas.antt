@@ -1,18 +1,21 @@
 -- What each job of a run did is the talk of the terminal at its place.
 use Rattle.std.proofs.Common.{◌≡◌, ℕ, suc, zero, ◌+◌, List, [], ◌∷◌, length, map, Some, Ok, Err, refl, sym, ap, subst, ◌∙◌, add-zero, arith}
-use Rattle.std.specs.Prelude.{slice_get, Result, IfOk}
+use Rattle.std.specs.Prelude.{slice_get, Result, true, IfOk}
 use Rattle.monitor_calls.specs.declared.calls.Entry.{Entry}
+use Rattle.monitor_calls.specs.declared.files.FileEntry.{FileEntry}
+use Rattle.monitor_calls.specs.Volumes.{is_good_volume}
 use Rattle.monitor_calls.specs.Pairs.{Pair}
 use Rattle.monitor_model.specs.State as monitor
 use Rattle.monitor_model.specs.History.{part_of}
 use Rattle.terminal_runner.specs.Runs as runner
 use Rattle.terminal_runner.specs.Runs.{AllDid}
 use Rattle.deck_model.specs.Deck as model
+use Rattle.deck_model.specs.Deck.{IsDeck}
 use Rattle.deck_reader.specs.declared.decks.Deck.{Deck}
 use Rattle.deck_reader.specs.declared.decks.Terminal.{Terminal}
 use Rattle.deck_reader.specs.Seen.{deck_of, terminal_of}
 use Rattle.rsts.specs.Decks.{keys_at}
-use Rattle.rsts.specs.Headline.{Talks, IsRun}
+use Rattle.rsts.specs.Headline.{Talks, opening_of, IsRun}
 
 -- the screen at a place is what the job of that number did
 did_at : (does : ℕ → List Pair → List ℕ → Type 0) (history : List Entry) (from : ℕ) (screens : List (List ℕ)) (j : ℕ) (screen : List ℕ) → AllDid does history from screens → slice_get screens j ≡ Some screen → does (from + j) (part_of (from + j) history) screen
@@ -47,8 +50,8 @@ pub is_run : (deck : Deck) (terminals : List Terminal) (opening : monitor.State)
 is_run deck terminals opening jobs screens history are opened count run =
     let own : (job : ℕ) → keys_at terminals job ≡ keys_at deck.terminals.items job = λ job. ap (λ (ts : List Terminal). keys_at ts job) are in
     let many : jobs ≡ length (map terminal_of deck.terminals.items) = count ∙ sym (as_many deck.terminals.items) in
-    let state : opening ≡ monitor.opening deck.volume.accounts.items deck.volume.blocks [] (length (map terminal_of deck.terminals.items)) =
-    opened ∙ (λ i. monitor.opening deck.volume.accounts.items deck.volume.blocks (deck.no_files i) (many i)) in
+    let state : opening ≡ opening_of (deck_of deck) =
+    opened ∙ (λ i. monitor.opening deck.volume.accounts.items deck.volume.blocks (sym deck.text_files i) (many i)) in
     let legal = run.is_history.legal in
     record {
       legal = rw state at legal;
@@ -63,3 +66,7 @@ is_run deck terminals opening jobs screens history are opened count run =
             subst (λ (keys : List (List ℕ)). Talks keys (part_of j history) screen) (own j ∙ keys_are deck.terminals.items j terminal is_terminal) here;
       };
     }
+
+-- the volume of a deck that can be run is good
+pub good_volume : (deck : Deck) → IsDeck (deck_of deck) → is_good_volume deck.volume.blocks deck.volume.accounts.items deck.volume.files.items ≡ true
+good_volume deck is = subst (λ (files : List FileEntry). is_good_volume deck.volume.blocks deck.volume.accounts.items files ≡ true) deck.text_files is.volume

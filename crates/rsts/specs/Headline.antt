@@ -7,7 +7,7 @@ use Rattle.monitor_calls.specs.Proper.{Proper}
 use Rattle.monitor_model.specs.State as monitor
 use Rattle.monitor_model.specs.History.{Legal, part_of}
 use Rattle.session_model.specs.Talk.{IsTalk}
-use Rattle.deck_model.specs.Deck.{Deck, Terminal}
+use Rattle.deck_model.specs.Deck.{Deck, Terminal, volume_files}
 use Rattle.deck_model.specs.Spelling.{Spelled}
 use Rattle.deck_model.specs.Refusals as refusals
 use Rattle.deck_model.specs.Report.{report, good_line}
@@ -51,10 +51,15 @@ pub record AllTalk (history : List Entry) (terminals : List Terminal) (screens :
   pub each : (j : ℕ) (terminal : Terminal) (screen : List ℕ) → slice_get terminals j ≡ Some terminal
       → slice_get screens j ≡ Some screen → HasTalked history j terminal screen
 
+-- the state of the monitor that the deck gives, with a job for each terminal
+abbrev pub opening_of : Deck → monitor.State
+opening_of deck =
+    monitor.opening deck.accounts deck.blocks (volume_files deck) (length deck.terminals)
+
 -- the monitor answered one call at a time, from the deck's opening state, and each job asked what
 -- its terminal's keys make given the replies
 pub record IsRun (deck : Deck) (history : List Entry) (screens : List (List ℕ)) : Type 0 where
-  pub legal : Legal (monitor.opening deck.accounts deck.blocks [] (length deck.terminals)) history
+  pub legal : Legal (opening_of deck) history
   pub proper : Proper history
   pub talks : AllTalk history deck.terminals screens
 
@@ -80,7 +85,8 @@ IsReport wanted deck output = (history : List Entry) × Reports wanted deck hist
 
 -- what a check of the deck writes
 abbrev pub IsGoodLine : Deck → List ℕ → Type 0
-IsGoodLine deck output = output ≡ good_line (length deck.accounts) 0 (length deck.terminals)
+IsGoodLine deck output =
+    output ≡ good_line (length deck.accounts) (length deck.files) (length deck.terminals)
 
 -- THE HEADLINE
 

@@ -2,7 +2,7 @@
 use Rattle.std.specs.Prelude.{ℕ, List, ◌++◌, codes}
 use Rattle.std.specs.Fmt.{decimal}
 use Rattle.deck_model.specs.declared.faults.DeckCause.{DeckCause}
-use Rattle.deck_model.specs.declared.faults.DeckCause.TheVariants.{Cut, Version, Shape, Stage, Range, Double, Space}
+use Rattle.deck_model.specs.declared.faults.DeckCause.TheVariants.{Cut, Version, Shape, Range, Double, Owner, Space}
 use Rattle.deck_model.specs.declared.faults.DeckFault.{DeckFault}
 use Rattle.rsts.specs.declared.outcomes.Outcome.{Outcome}
 use Rattle.rsts.specs.declared.outcomes.Outcome.TheVariants.{Ok, Checked, Usage, Deck, ReadFault, TooLong, WriteFault, NoMemory}
@@ -21,9 +21,9 @@ abbrev pub cause_text : DeckCause → List ℕ
 cause_text Cut = codes "input ends early"
 cause_text Version = codes "not a version 1 deck"
 cause_text Shape = codes "wrong form"
-cause_text Stage = codes "not a deck of this stage"
 cause_text Range = codes "number or text out of range"
 cause_text Double = codes "name given twice"
+cause_text Owner = codes "unknown account"
 cause_text Space = codes "no room"
 
 abbrev pub fault_line : DeckFault → List ℕ

@@ -91,9 +91,9 @@ fn cause_text(cause: DeckCause) -> &'static [u8]
         DeckCause::Cut => b"input ends early",
         DeckCause::Version => b"not a version 1 deck",
         DeckCause::Shape => b"wrong form",
-        DeckCause::Stage => b"not a deck of this stage",
         DeckCause::Range => b"number or text out of range",
         DeckCause::Double => b"name given twice",
+        DeckCause::Owner => b"unknown account",
         DeckCause::Space => b"no room",
     }
 }

@@ -78,7 +78,9 @@ pub fn check_system<S: Source, K: Sink>(alloc: Global, source: &mut S, sink: &mu
         Ok(deck) => deck,
         Err(stopped) => return stopped.outcome(),
     };
-    let output = match good_line(alloc, deck.volume.accounts.len(), 0, deck.terminals.len()) {
+    let volume = &deck.volume;
+    let (accounts, files) = (volume.accounts.len(), volume.files.len());
+    let output = match good_line(alloc, accounts, files, deck.terminals.len()) {
         Ok(output) => output,
         Err(NoMemory) => return Outcome::NoMemory,
     };

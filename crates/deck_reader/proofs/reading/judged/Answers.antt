@@ -1,11 +1,16 @@
 use Rattle.std.proofs.Common.{arith, sym, subst, ◌∙◌}
 use Rattle.deck_model.specs.Reading.{Verdict, verdict}
 use Rattle.deck_reader.specs.Seen.{front_of, Tells}
+use Rattle.deck_model.specs.Lines.{whole_lines}
+use Rattle.deck_reader.proofs.TextLemmas.{first_lacks}
 use Rattle.deck_reader.proofs.VerdictLemmas.{begins, goes_on, stops, ends}
 use Rattle.deck_reader.proofs.reading.judged.Goals as goal
 
 pub loop-line-init : goal.loop-line-init
 loop-line-init c = record { told = begins c.args.bytes.now; few = omega arith }
+
+pub behind-requires : goal.behind-requires
+behind-requires c = first_lacks c.loop-line.rest.now c.in-Some.line.now (whole_lines c.in-Some.after.now) c.in-Some.ensures.line.0
 
 pub returns-in-Err : goal.returns-in-Err
 returns-in-Err c =

@@ -1,0 +1,64 @@
+-- Small decks, computed: which bytes spell them, and where and why others are refused.
+use Rattle.std.proofs.Common.{◌≡◌, ℕ, List, [], ◌∷◌, ◌++◌, refl, None, Some}
+use Rattle.std.specs.Prelude.{codes}
+use Rattle.std.specs.Fmt.{digits}
+use Rattle.monitor_calls.specs.declared.names.Account.{Account}
+use Rattle.monitor_calls.specs.declared.volumes.AccountEntry.{AccountEntry}
+use Rattle.monitor_calls.specs.FileNames.{same_name}
+use Rattle.deck_model.specs.declared.faults.DeckCause.TheVariants.{Cut, Shape, Range, Double, Owner, Space}
+use Rattle.deck_model.specs.Deck.{File, Terminal, Deck}
+use Rattle.deck_model.specs.Lines.{whole_lines, cut_line}
+use Rattle.deck_model.specs.Reading.{verdict, reading, Spells, Refuses, behind_line, behind_form, form_at, version_in, disk_in, account_in, texts_in, file_in, file_texts_in, groups_in, contents_in, session_in, terminal_in, keys_in, end_in}
+
+abbrev front : List ℕ
+front = codes "RSTS-DECK 1\nDISK 2\nACCOUNT 100,5 DEMO 9\n"
+
+abbrev owner : Account
+owner = record { project = 100; programmer = 5 }
+
+abbrev entries : List AccountEntry
+entries = record { account = owner; password = codes "DEMO"; limit = 9 } ∷ []
+
+-- one file of two blocks with two lines, and a terminal with a line of keys
+a_deck : verdict (front ++ codes "FILE [100,5]A.B<60> 1\n>10 END\n>\nTERMINAL T1\n>BYE\nEND\n")
+    ≡ Spells (record {
+      blocks = 2;
+      accounts = entries;
+      files = record {
+        name = record { owner = owner; stem = codes "A"; extension = codes "B" };
+        code = 60;
+        blocks = 1;
+        texts = codes "10 END" ∷ [] ∷ [];
+      } ∷ [];
+      terminals = record { name = codes "T1"; keys = codes "BYE" ∷ [] } ∷ [];
+    })
+unfolding digits verdict reading whole_lines cut_line behind_line behind_form form_at version_in disk_in account_in texts_in file_in file_texts_in groups_in contents_in session_in terminal_in keys_in end_in same_name
+a_deck = refl
+
+unknown_owner : verdict (front ++ codes "FILE [100,6]A<60> 1\n") ≡ Refuses 4 Owner
+unfolding digits verdict reading whole_lines cut_line behind_line behind_form form_at version_in disk_in account_in texts_in file_in file_texts_in groups_in contents_in session_in terminal_in keys_in end_in same_name
+unknown_owner = refl
+
+beyond_the_disk : verdict (front ++ codes "FILE [100,5]A<60> 3\n") ≡ Refuses 4 Space
+unfolding digits verdict reading whole_lines cut_line behind_line behind_form form_at version_in disk_in account_in texts_in file_in file_texts_in groups_in contents_in session_in terminal_in keys_in end_in same_name
+beyond_the_disk = refl
+
+no_room_for_a_line : verdict (front ++ codes "FILE [100,5]A<60> 0\n>\n") ≡ Refuses 5 Space
+unfolding digits verdict reading whole_lines cut_line behind_line behind_form form_at version_in disk_in account_in texts_in file_in file_texts_in groups_in contents_in session_in terminal_in keys_in end_in same_name
+no_room_for_a_line = refl
+
+given_twice : verdict (front ++ codes "FILE [100,5]A<60> 1\nFILE [100,5]A<0> 9\n") ≡ Refuses 5 Double
+unfolding digits verdict reading whole_lines cut_line behind_line behind_form form_at version_in disk_in account_in texts_in file_in file_texts_in groups_in contents_in session_in terminal_in keys_in end_in same_name
+given_twice = refl
+
+no_extension : verdict (front ++ codes "FILE [100,5]A.<60> 1\n") ≡ Refuses 4 Range
+unfolding digits verdict reading whole_lines cut_line behind_line behind_form form_at version_in disk_in account_in texts_in file_in file_texts_in groups_in contents_in session_in terminal_in keys_in end_in same_name
+no_extension = refl
+
+cut_in_a_text : verdict (front ++ codes "FILE [100,5]A<60> 1\n>10") ≡ Refuses 5 Cut
+unfolding digits verdict reading whole_lines cut_line behind_line behind_form form_at version_in disk_in account_in texts_in file_in file_texts_in groups_in contents_in session_in terminal_in keys_in end_in same_name
+cut_in_a_text = refl
+
+account_behind_a_file : verdict (front ++ codes "FILE [100,5]A<60> 1\nACCOUNT 1,2 A 1\n") ≡ Refuses 5 Shape
+unfolding digits verdict reading whole_lines cut_line behind_line behind_form form_at version_in disk_in account_in texts_in file_in file_texts_in groups_in contents_in session_in terminal_in keys_in end_in same_name
+account_behind_a_file = refl

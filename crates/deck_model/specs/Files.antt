@@ -1,0 +1,48 @@
+-- Files of a deck, and what they have on the disk.
+use Rattle.std.specs.Prelude.{ℕ, zero, suc, ◌+◌, ◌-◌, ◌*◌, ◌≤◌, Bool, List, [], ◌∷◌, ◌++◌, length, take, drop, replicate, codes}
+use Rattle.std.specs.List.{flat_map, list_any}
+use Rattle.monitor_calls.specs.declared.files.FileName.{FileName}
+use Rattle.monitor_calls.specs.declared.files.FileEntry.{FileEntry}
+use Rattle.monitor_calls.specs.FileNames.{same_name}
+
+-- a file's name and code, how many blocks of 512 bytes it has, and the lines of its text
+pub record File : Type 0 where
+  pub name : FileName
+  pub code : ℕ
+  pub blocks : ℕ
+  pub texts : List (List ℕ)
+
+-- the lines, each with CR LF behind it
+abbrev pub text_of : List (List ℕ) → List ℕ
+text_of texts = flat_map (λ text. text ++ codes "\r\n") texts
+
+-- the text is no longer than the file's blocks
+abbrev pub FitsText : File → Type 0
+FitsText file = length (text_of file.texts) ≤ 512 * file.blocks
+
+-- the text, and zeros behind it to the end of the file's blocks
+abbrev pub contents_of : File → List ℕ
+contents_of file =
+    text_of file.texts ++ replicate (512 * file.blocks - length (text_of file.texts)) 0
+
+-- bytes in so many pages
+unfoldable pub pages_of : ℕ → List ℕ → List (List ℕ)
+pages_of zero bytes = []
+pages_of (suc pages) bytes = take 512 bytes ∷ pages_of pages (drop 512 bytes)
+
+-- the file as a volume has it
+abbrev pub file_entry : File → FileEntry
+file_entry file = record {
+  name = file.name;
+  code = file.code;
+  pages = pages_of file.blocks (contents_of file);
+}
+
+-- whether a file has this name
+abbrev pub has_file : List File → FileName → Bool
+has_file files name = list_any (λ (file : File). same_name file.name name) files
+
+-- the blocks of all files
+abbrev pub blocks_in : List File → ℕ
+blocks_in [] = 0
+blocks_in (file ∷ files) = file.blocks + blocks_in files
