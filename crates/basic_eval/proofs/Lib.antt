@@ -1,3 +1,4 @@
+pub mod CallLemmas
 pub mod Comparisons
 pub mod LastValues
 pub mod LineItems

@@ -1,7 +1,7 @@
 //! Where a call of a function of the program begins and ends, and where an error leads.
 
 ghost use Rattle.std.specs.Prelude.{◌≡◌};
-ghost use Rattle.program_model.specs.Calls.{blank, entered, departed};
+ghost use Rattle.program_model.specs.Calls.{blank, entered, arguments_stored, result_of, departed};
 ghost use Rattle.program_model.specs.Traps.{caught};
 ghost use Rattle.basic_eval.specs.Acting.{Acts, break_of, caught_as, seen};
 
@@ -31,15 +31,37 @@ impl Running {
         }
     }
 
-    /// A call ends: the parameters are as they were before it, and the return places that it made
-    /// are gone. It takes no memory.
-    pub fn depart(&mut self)
-        ensures { seen self.new ≡ departed (seen self.old) }
+    /// Each parameter gets its argument, as an own value.
+    pub fn store_arguments(
+        &mut self,
+        parameters: &[Name],
+        arguments: &[Value],
+    ) -> Result<(), Trouble<Exit>>
+        ensures { Acts (arguments_stored parameters.now arguments.now (seen self.old))
+            (seen self.new) result }
+    {
+        for (i, parameter) in parameters.iter().enumerate() {
+            match arguments.get(i) {
+                Some(argument) => self.keep_copy(*parameter, argument)?,
+                None => return Ok(()),
+            }
+        }
+        Ok(())
+    }
+
+    /// A call ends, and gives its result: the parameters are as they were before it, and the return
+    /// places that it made are gone. It takes no memory.
+    pub fn depart(&mut self) -> Value
+        ensures result { result ≡ result_of self.old.frames }
+        ensures state { seen self.new ≡ departed (seen self.old) }
     {
         self.storage.leave();
         let made = self.returns.len().saturating_sub(self.base());
         self.returns.drop_last(made);
-        self.frames.drop_last(1);
+        match self.frames.pop() {
+            Some(frame) => frame.result,
+            None => Value::Number(Int::new(0)),
+        }
     }
 
     /// Where a program that goes no further is led: an error of a statement at main level to the

@@ -5,9 +5,9 @@ ghost use Rattle.job_memory.specs.declared.contents.Content.TheVariants as conte
 ghost use Rattle.job_memory.specs.Answers.{Changes, Stores, StoresAt};
 ghost use Rattle.job_memory.specs.Calls.{enter, leave};
 ghost use Rattle.job_memory.specs.Contents.{number_in, text_in};
-ghost use Rattle.job_memory.specs.Memory.{empty, variable, number_at, text_at};
+ghost use Rattle.job_memory.specs.Memory.{empty, variable, made, number_at, text_at};
 
-use basic_tree::Name;
+use basic_tree::{Name, Shape};
 use basic_values::{Fault, Halt, Int, Stop, Text, Trouble};
 use job_memory::Memory;
 use record_fields::Buffers;
@@ -41,6 +41,21 @@ impl Storage {
             memory: Memory::new(alloc),
             buffers,
         }
+    }
+
+    /// Forgets all variables and arrays, also what is kept aside. It takes no memory.
+    pub fn clear(&mut self)
+        ensures { self.new ≡ record self.old { memory = empty } }
+    {
+        self.memory.clear();
+    }
+
+    /// Makes an array of zeros, or of empty texts, in the place of the one that is there.
+    pub fn dim(&mut self, shape: Shape) -> Result<(), Trouble<Halt>>
+        ensures memory { Changes self.old.memory self.new.memory (made shape self.old.memory) result }
+        ensures buffers { self.new.buffers ≡ self.old.buffers }
+    {
+        self.memory.dim(shape)
     }
 
     /// The number of a variable: 0 where nothing is stored.

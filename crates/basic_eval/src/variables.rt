@@ -120,6 +120,19 @@ impl Running {
         }
     }
 
+    /// Stores a copy of a value to a variable.
+    pub(crate) fn keep_copy(&mut self, name: Name, value: &Value) -> Result<(), Trouble<Exit>>
+        ensures { Acts (stored name value.now (seen self.old)) (seen self.new) result }
+    {
+        match value {
+            Value::Number(number) => self.keep_number(name, *number),
+            Value::Text(text) => {
+                let text = copied(self.alloc, text.as_bytes())?;
+                self.keep_text(name, text)
+            }
+        }
+    }
+
     /// Stores a number to a variable.
     pub(crate) fn keep_number(&mut self, name: Name, number: Int) -> Result<(), Trouble<Exit>>
         ensures { Acts (stored name (value.Number number) (seen self.old)) (seen self.new) result }

@@ -58,6 +58,13 @@ impl Holds {
         })
     }
 
+    /// How many jobs there are.
+    pub fn jobs(&self) -> u32
+        ensures { result ≡ self.now.jobs }
+    {
+        self.jobs
+    }
+
     /// The job and the channel that hold a block.
     pub fn holder(&self, name: &FileName, block: u16) -> Option<(u32, u8)>
         ensures { result ≡ holder self.now.held name.now block }

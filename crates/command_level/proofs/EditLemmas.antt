@@ -19,9 +19,10 @@ use Rattle.line_editor.specs.declared.text.TheConstants.{MOST_LINES}
 use Rattle.line_editor.specs.Lines.{Lines, line, stored, IsNumber, Fits}
 use Rattle.line_editor.specs.Edits.{HasRoom, Edits}
 use Rattle.job_model.specs.Act.{Gives}
-use Rattle.session_model.specs.Editing.{Edited, Accepted, Refused, fits, has_room, judged, edited_line, edited}
+use Rattle.session_model.specs.Editing.{Edited, Accepted, Refused, fits, has_room, judged, edited_line, is_later, edited_text, edited}
 use Rattle.session_model.specs.Talk.{Session, answered, with_lines, takes_edit}
-use Rattle.session_model.specs.Texts.{illegal_line_number, line_too_long, too_many_lines}
+use Rattle.session_model.specs.Texts.{illegal_line_number, line_too_long, too_many_lines, not_in_stage}
+use Rattle.polish_code.specs.Walk.{Spot}
 use Rattle.command_level.specs.Seen.{edit_text}
 
 -- THE TESTS OF A LINE
@@ -75,24 +76,24 @@ abbrev room_as : ℕ → List ℕ → Lines → Bool → Edited
 room_as number rest lines right = if right then Accepted (stored number rest lines) else Refused too_many_lines
 
 module _ (number byte : ℕ) (bytes : List ℕ) (lines : Lines) (is : IsNumber number) where
-  long : ¬ (Fits number (byte ∷ bytes)) → edited judge_of number (byte ∷ bytes) lines ≡ Refused line_too_long
+  long : ¬ (Fits number (byte ∷ bytes)) → edited_text judge_of number (byte ∷ bytes) lines ≡ Refused line_too_long
   long nay =
       ap (numbered_as number (byte ∷ bytes) lines) (numbered number is)
       ∙ ap (fitting_as number (byte ∷ bytes) lines (judge_of (byte ∷ bytes))) (too_long number (byte ∷ bytes) nay)
 
-  by_verdict : (verdict : grammar.Verdict) → Fits number (byte ∷ bytes) → judge_of (byte ∷ bytes) ≡ verdict → edited judge_of number (byte ∷ bytes) lines ≡ judged verdict number (byte ∷ bytes) lines
+  by_verdict : (verdict : grammar.Verdict) → Fits number (byte ∷ bytes) → judge_of (byte ∷ bytes) ≡ verdict → edited_text judge_of number (byte ∷ bytes) lines ≡ judged verdict number (byte ∷ bytes) lines
   by_verdict verdict few told =
       ap (numbered_as number (byte ∷ bytes) lines) (numbered number is)
       ∙ ap (fitting_as number (byte ∷ bytes) lines (judge_of (byte ∷ bytes))) (fitting number (byte ∷ bytes) few)
       ∙ ap (λ (verdict : grammar.Verdict). judged verdict number (byte ∷ bytes) lines) told
 
-accepted : (number : ℕ) (rest : List ℕ) (old new : Lines) → Edits number rest old new (Ok tt) → edited judge_of number rest old ≡ Accepted new
+accepted : (number : ℕ) (rest : List ℕ) (old new : Lines) → Edits number rest old new (Ok tt) → edited_text judge_of number rest old ≡ Accepted new
 accepted number [] old new (is, right) = ap (numbered_as number [] old) (numbered number right) ∙ ap Accepted (sym is)
 accepted number (byte ∷ bytes) old new (is, can) =
     by_verdict number byte bytes old can.numbered (grammar.HasTree can.spelled.0) can.fits (spelled (byte ∷ bytes) can.spelled.0 can.spelled.1)
     ∙ ap (room_as number (byte ∷ bytes) old) (room number old can.room) ∙ ap Accepted (sym is)
 
-turned_down : (number : ℕ) (rest : List ℕ) (old new : Lines) (why : EditRefusal) → Edits number rest old new (Err (trouble.Refused why)) → edited judge_of number rest old ≡ Refused (edit_text why)
+turned_down : (number : ℕ) (rest : List ℕ) (old new : Lines) (why : EditRefusal) → Edits number rest old new (Err (trouble.Refused why)) → edited_text judge_of number rest old ≡ Refused (edit_text why)
 turned_down number [] old new why (same, is, nay) = ap (numbered_as number [] old) (misnumbered number nay) ∙ ap (λ (why : EditRefusal). Refused (edit_text why)) (sym is)
 turned_down number (byte ∷ bytes) old new edit.Number (same, nay) = ap (numbered_as number (byte ∷ bytes) old) (misnumbered number nay)
 turned_down number (byte ∷ bytes) old new edit.TooLong (same, (is, nay)) = long number byte bytes old is nay
@@ -108,15 +109,26 @@ unchanged number (byte ∷ bytes) old new why (same, nay) = same
 
 -- WHAT THE SESSION DOES
 
-pub edit_stored : (number : ℕ) (rest : List ℕ) (s : Session) (new : Lines) → Edits number rest s.lines new (Ok tt)
-    → takes_edit (edited judge_of number rest s.lines) s ≡ Gives tt (with_lines new s)
+pub edit_stored : (number : ℕ) (rest : List ℕ) (s : Session Spot) (new : Lines) → Edits number rest s.lines new (Ok tt)
+    → takes_edit (edited_text judge_of number rest s.lines) s ≡ Gives tt (with_lines new s)
 edit_stored number rest s new edits = ap (λ (edit : Edited). takes_edit edit s) (accepted number rest s.lines new edits)
 
-pub edit_refused : (number : ℕ) (rest : List ℕ) (s : Session) (new : Lines) (failed : Trouble EditRefusal) (why : EditRefusal) → failed ≡ trouble.Refused why → Edits number rest s.lines new (Err failed)
-    → takes_edit (edited judge_of number rest s.lines) s ≡ answered (edit_text why) (with_lines new s)
+pub edit_refused : (number : ℕ) (rest : List ℕ) (s : Session Spot) (new : Lines) (failed : Trouble EditRefusal) (why : EditRefusal) → failed ≡ trouble.Refused why → Edits number rest s.lines new (Err failed)
+    → takes_edit (edited_text judge_of number rest s.lines) s ≡ answered (edit_text why) (record s { lines = new })
 edit_refused number rest s new failed why is edits =
     let refuses = subst (λ (failed : Trouble EditRefusal). Edits number rest s.lines new (Err failed)) is edits in
     ap (λ (edit : Edited). takes_edit edit s) (turned_down number rest s.lines new why refuses)
-    ∙ ap (λ (lines : Lines). answered (edit_text why) (with_lines lines s)) (sym (unchanged number rest s.lines new why refuses))
+    ∙ ap (λ (lines : Lines). answered (edit_text why) (record s { lines = lines })) (sym (unchanged number rest s.lines new why refuses))
 
 pub ruleset edits = (edit_stored, edit_refused)
+
+-- whether it is of a later stage
+pub edit_later : (number : ℕ) (rest : List ℕ) (s : Session Spot) (later : Bool) → later ≡ is_later (judge_of rest) → later ≡ true
+    → takes_edit (edited judge_of number rest s.lines) s ≡ answered not_in_stage s
+edit_later number rest s later told is = ap (λ b. takes_edit (if b then Refused not_in_stage else edited_text judge_of number rest s.lines) s) (sym told ∙ is)
+
+pub edit_now : (number : ℕ) (rest : List ℕ) (s : Session Spot) (later : Bool) → later ≡ is_later (judge_of rest) → later ≡ false
+    → takes_edit (edited judge_of number rest s.lines) s ≡ takes_edit (edited_text judge_of number rest s.lines) s
+edit_now number rest s later told is = ap (λ b. takes_edit (if b then Refused not_in_stage else edited_text judge_of number rest s.lines) s) (sym told ∙ is)
+
+pub ruleset forms = (edit_later, edit_now)

@@ -3,15 +3,15 @@ use Rattle.std.specs.Prelude.{ℕ, ◌≤◌, List, map, length, Option, Some, N
 use Rattle.std.specs.Borrow.{Bor}
 use Rattle.std.specs.Option.{option_map}
 use Rattle.basic_values.specs.declared.lists.TheConstants.{LINE_LENGTH}
-use Rattle.basic_tree.specs.LineVerdicts as grammar
 use Rattle.command_level.specs.declared.logins.LoginForm.{LoginForm}
 use Rattle.command_level.specs.declared.commands.Command.{Command}
 use Rattle.command_level.specs.declared.commands.Command.TheVariants as code
 use Rattle.command_level.specs.declared.commands.Naming.{Naming}
 use Rattle.command_level.specs.declared.commands.Naming.TheVariants as naming
 use Rattle.command_level.specs.declared.ranges.Range.{Range}
-use Rattle.command_level.specs.declared.judging.Verdict.{Verdict}
-use Rattle.command_level.specs.declared.judging.Verdict.TheVariants as verdict
+use Rattle.basic_eval.specs.Acting as acting
+use Rattle.entrances.specs.Stopping.{leaving_of}
+use Rattle.polish_code.specs.Walk.{Spot}
 use Rattle.command_level.specs.declared.session.Session.{Session}
 use Rattle.line_editor.specs.declared.text.EditRefusal.{EditRefusal}
 use Rattle.line_editor.specs.declared.text.EditRefusal.TheVariants as edit
@@ -40,6 +40,9 @@ command_seen (code.New naming) = model.New (naming_seen naming)
 command_seen (code.Rename naming) = model.Rename (naming_seen naming)
 command_seen (code.ListLines with_name range) = model.ListLines with_name (option_map range_seen range)
 command_seen (code.Delete range) = model.Delete (option_map range_seen range)
+command_seen (code.Run with_name) = model.Run with_name
+command_seen code.Continue = model.Continue
+command_seen code.WrongTail = model.WrongTail
 command_seen code.Later = model.Later
 command_seen (code.Numbered numbered) = model.Numbered numbered.number numbered.rest.now
 command_seen (code.Immediate statement) = model.Immediate statement.now
@@ -47,12 +50,8 @@ command_seen (code.Immediate statement) = model.Immediate statement.now
 -- what is to be judged is no longer than a line may be
 abbrev pub IsShort : model.Command → Type 0
 IsShort (model.Immediate statement) = length statement ≤ LINE_LENGTH
+IsShort (model.Numbered number rest) = length rest ≤ LINE_LENGTH
 IsShort other = Unit {0}
-
--- what the grammar says of a line, without its tree
-abbrev pub without_tree : grammar.Verdict → Verdict
-without_tree (grammar.HasTree tree) = verdict.HasTree
-without_tree (grammar.RefusedFor cause) = verdict.RefusedFor cause
 
 -- words, without where they lie in memory
 abbrev pub words_seen : List (Bor (List ℕ)) → List (List ℕ)
@@ -63,13 +62,14 @@ abbrev pub name_seen : Option (List ℕ) → List ℕ
 name_seen None = talk.no_name
 name_seen (Some name) = name
 
-abbrev pub seen : Session → talk.Session
+-- with places of the code
+abbrev pub seen : Session → talk.Session Spot
 seen session = record {
   account = session.account;
-  screen = session.screen;
-  keys = session.keys;
   name = name_seen session.name;
   lines = session.text;
+  job = acting.seen session.running;
+  stop = option_map leaving_of session.stop;
 }
 
 -- what a refused program line shows

@@ -1,35 +1,44 @@
 //! The session of one terminal: its keys, the requests that they make, and its screen.
 //!
-//! It stands on what a key line asks for (`commands`), what the grammar says of one (`judging`), and a
-//! port to a monitor. Each method is the code of one act of `job_model`'s `Talk`: where it asks the
-//! port it follows that act's tree, and where it asks nothing it is equal to what the tree leaves.
-//! `serve` carries the promise of all of it: the session is the talk.
+//! It stands on what a key line asks for (`commands`), on the runs of programs (`programs`), and on a
+//! port to a monitor. Each method is the code of one act of `session_model`'s `Talk`. Where it runs no
+//! program it is told with the places of the code, and where it runs one of the session for which the
+//! code's stands. `serve` carries the promise of all of it: the session is the talk.
 
-ghost use Rattle.std.specs.Prelude.{◌≡◌, ◌≤◌, ℕ, List, length, IfOk, OnErr};
+ghost use Rattle.std.specs.Prelude.{◌≡◌, ◌≤◌, ℕ, List, length, IfOk, OnOk, OnErr};
 ghost use Rattle.monitor_calls.specs.Pairs.{Pair, requests, replies, Grew};
 ghost use Rattle.monitor_calls.specs.declared.calls.Request.TheVariants as request;
+ghost use Rattle.basic_eval.specs.Acting as acting;
 ghost use Rattle.basic_tree.specs.MachineJudge.{judge_of};
-ghost use Rattle.session_model.specs.Commands.{print_of};
 ghost use Rattle.job_model.specs.Asking.{counts_as};
-ghost use Rattle.job_model.specs.Play.{at_start};
+ghost use Rattle.job_model.specs.Play as play;
 ghost use Rattle.job_model.specs.Follow.{Follows, unless_memory};
-ghost use Rattle.session_model.specs.Talk.{answered, entered, hello, log_out, immediate_text, sum_text, visitor_acts, user_acts, line_acts, leave, TakesKey, IsTalk, BeginsTalk};
+ghost use Rattle.program_model.specs.Program.{Position};
+ghost use Rattle.session_model.specs.Talk as talk;
+ghost use Rattle.session_model.specs.Talk.{acts_for, answered, entered, expired, hello, is_ready, log_out, new_job, rests, visitor_acts, user_acts, line_acts, leave, TakesKey, IsTalk, BeginsTalk};
 ghost use Rattle.command_level.specs.Seen.{seen, login_seen, command_seen, IsShort};
+ghost use Rattle.command_level.specs.Standing.{Serves, Stands};
 ghost use Rattle.command_level.specs.Onwards.{goes};
 ghost use Rattle.std.specs.Option.{option_map};
 ghost use Rattle.monitor_calls.specs.Volumes.{is_between};
 
-use crate::commands::{Command, command_of, print_of};
-use crate::judging::{Verdict, judge, refusal_text};
+use crate::commands::{Command, command_of};
 use crate::logins::LoginForm;
-use basic_values::{Fault, Int, KeyLine, LINE_LENGTH, NoMemory};
+use basic_values::{Fault, KeyLine, LINE_LENGTH, NoMemory};
+use entrances::{Clock, Running, Stack, Stop, Storage};
+use error_trap::Trap;
 use line_editor::ProgramText;
 use monitor_calls::{Account, Port, Reply, Request, Short};
+use program_model::Home;
+use record_fields::Buffers;
 use std::alloc::Global;
 use terminal_line::{Keys, Screen};
 
 /// The answer to what a later stage does.
-const NOT_IN_STAGE: &[u8] = b"?Not in this stage\r\n";
+pub(crate) const NOT_IN_STAGE: &[u8] = b"?Not in this stage\r\n";
+
+/// The answer to a command with a wrong tail.
+pub(crate) const ILLEGAL_COMMAND: &[u8] = b"?Illegal command\r\n";
 
 /// Whether the session goes on behind a line.
 #[derive(Clone, Copy)]
@@ -42,15 +51,16 @@ pub(crate) enum Onward {
 }
 
 /// What is kept from line to line: the account that the session acts for, if it is logged in, the
-/// screen, the key lines that are left, and the program in memory.
+/// program in memory, and what its programs keep, with the screen and the key lines that are left.
 #[derive(Drop)]
 pub(crate) struct Session {
     pub(crate) account: Option<Account>,
-    pub(crate) screen: Screen,
-    pub(crate) keys: Keys,
     /// The name that was given to the program in memory.
     pub(crate) name: Option<Short>,
     pub(crate) text: ProgramText,
+    pub(crate) running: Running,
+    /// Where CONT goes on.
+    pub(crate) stop: Option<Stop>,
 }
 
 /// The session of a terminal with these keys: what it shows when it has ended. It asks the port for
@@ -64,26 +74,59 @@ pub fn serve<P: Port>(alloc: Global, keys: &[KeyLine], port: &mut P) -> Result<S
     ensures memory { OnErr result ((pairs : List Pair) × Grew P.who P.log port.old port.new pairs
         × BeginsTalk keys.now (replies pairs) (requests pairs)) }
 {
-    let typed = Keys::new(alloc, keys)?;
-    let mut session = Session {
-        account: None,
-        screen: Screen::new(alloc),
-        keys: typed,
-        name: None,
-        text: ProgramText::new(alloc),
-    };
+    let mut session = begin(alloc, keys)?;
+    let mut clock = Clock::new();
     while let Some(line) = session.next_key() {
-        match session.take_line(alloc, &line, port)? {
+        match session.take_line(alloc, &line, &mut clock, port)? {
             Onward::Next => {}
-            Onward::Ended => return Ok(session.screen),
+            Onward::Ended => return Ok(session.into_screen()),
             Onward::Expired => {
-                session.screen.write(b"?Job expired\r\n")?;
-                return Ok(session.screen);
+                session.expire()?;
+                return Ok(session.into_screen());
             }
         }
     }
     session.leave(alloc, port)?;
-    Ok(session.screen)
+    Ok(session.into_screen())
+}
+
+/// A session that nobody has logged in to, with these keys.
+fn begin(alloc: Global, keys: &[KeyLine]) -> Result<Session, NoMemory>
+    ensures { IfOk result (λ session. seen session ≡ talk.opening keys.now) }
+{
+    let running = at_rest(alloc, keys)?;
+    Ok(Session {
+        account: None,
+        name: None,
+        text: ProgramText::new(alloc),
+        running,
+        stop: None,
+    })
+}
+
+/// A job that has run nothing, with these keys.
+fn at_rest(alloc: Global, keys: &[KeyLine]) -> Result<Running, NoMemory>
+    ensures { IfOk result (λ running. acting.seen running ≡ new_job keys.now) }
+{
+    let keys = Keys::new(alloc, keys)?;
+    let buffers = Buffers::new(alloc)?;
+    Ok(Running {
+        alloc,
+        storage: Storage::new(alloc, buffers),
+        screen: Screen::new(alloc),
+        keys,
+        trap: Trap::new(),
+        returns: Stack::new(alloc),
+        limits: Vec::new(alloc),
+        item: 0,
+        line: 0,
+        home: Home {
+            start: 0,
+            behind: 0,
+            line: 0,
+        },
+        frames: Stack::new(alloc),
+    })
 }
 
 impl Session {
@@ -91,28 +134,27 @@ impl Session {
     fn next_key(&mut self) -> Option<KeyLine>
         ensures { TakesKey (seen self.old) (seen self.new) result }
     {
-        self.keys.next_line()
+        self.running.keys.next_line()
     }
 
     /// One key line: its echo, and what it asks for.
-    #[tactic(auto, using(crate::proofs::SessionLemmas::calls))]
     fn take_line<P: Port>(
         &mut self,
         alloc: Global,
         line: &KeyLine,
+        clock: &mut Clock,
         port: &mut P,
     ) -> Result<Onward, NoMemory>
-        ensures keys { self.new.keys ≡ self.old.keys }
-        ensures means { Follows P.who P.log port.old port.new at_start at_start
-            (line_acts judge_of line.now (seen self.old))
-            (unless_memory result (λ onward. goes onward (seen self.new))) }
+        ensures { (s : talk.Session Position) → Stands self.old s
+            → Serves P.who P.log port.old port.new clock.old clock.new
+            (λ most. line_acts judge_of most line.now s) self.new result }
     {
         let bytes = line.as_bytes();
-        self.screen.echo(bytes)?;
+        self.running.screen.echo(bytes)?;
         let command = command_of(bytes);
         match self.account {
             None => self.visitor_acts(alloc, &command, port),
-            Some(_) => self.user_acts(alloc, &command, port),
+            Some(_) => self.user_acts(alloc, &command, clock, port),
         }
     }
 
@@ -124,34 +166,53 @@ impl Session {
         command: &Command<'_>,
         port: &mut P,
     ) -> Result<Onward, NoMemory>
-        ensures keys { self.new.keys ≡ self.old.keys }
-        ensures means { Follows P.who P.log port.old port.new at_start at_start
+        ensures { (clock : play.Clock) → Follows P.who P.log port.old port.new clock clock
             (visitor_acts (command_seen command.now) (seen self.old))
             (unless_memory result (λ onward. goes onward (seen self.new))) }
     {
         match command {
             Command::Hello(form) => self.hello(alloc, *form, port),
             Command::Bye => Ok(Onward::Ended),
-            Command::BadBye => self.answer(b"?Illegal command\r\n"),
+            Command::BadBye => self.answer(ILLEGAL_COMMAND),
             _ => {
-                self.screen.write(b"Please say HELLO\r\n")?;
+                self.running.screen.write(b"Please say HELLO\r\n")?;
                 Ok(Onward::Next)
             }
         }
     }
 
     /// What a command does behind the login.
-    #[tactic(auto, using(crate::proofs::SessionLemmas::calls))]
     fn user_acts<P: Port>(
+        &mut self,
+        alloc: Global,
+        command: &Command<'_>,
+        clock: &mut Clock,
+        port: &mut P,
+    ) -> Result<Onward, NoMemory>
+        requires { IsShort (command_seen command.now) }
+        ensures { (s : talk.Session Position) → Stands self.old s
+            → Serves P.who P.log port.old port.new clock.old clock.new
+            (λ most. user_acts judge_of most (command_seen command.now) s) self.new result }
+    {
+        match command {
+            Command::Run { with_name } => self.run_program(alloc, *with_name, clock, port),
+            Command::Continue => self.continue_program(alloc, clock, port),
+            Command::Immediate(statement) => self.run_statement(alloc, statement, clock, port),
+            _ => self.rest(alloc, command, port),
+        }
+    }
+
+    /// What runs no program.
+    #[tactic(auto, using(crate::proofs::SessionLemmas::calls))]
+    fn rest<P: Port>(
         &mut self,
         alloc: Global,
         command: &Command<'_>,
         port: &mut P,
     ) -> Result<Onward, NoMemory>
         requires { IsShort (command_seen command.now) }
-        ensures keys { self.new.keys ≡ self.old.keys }
-        ensures means { Follows P.who P.log port.old port.new at_start at_start
-            (user_acts judge_of (command_seen command.now) (seen self.old))
+        ensures { (clock : play.Clock) → Follows P.who P.log port.old port.new clock clock
+            (rests judge_of (command_seen command.now) (seen self.old))
             (unless_memory result (λ onward. goes onward (seen self.new))) }
     {
         match command {
@@ -160,61 +221,52 @@ impl Session {
                 self.log_out(alloc, port)?;
                 Ok(Onward::Ended)
             }
-            Command::BadBye => self.answer(b"?Illegal command\r\n"),
+            Command::BadBye => self.answer(ILLEGAL_COMMAND),
             Command::Idle => Ok(Onward::Next),
             Command::New(naming) => self.begin_new(alloc, *naming),
             Command::Rename(naming) => self.rename(*naming),
             Command::ListLines { with_name, range } => self.list(*with_name, *range),
             Command::Delete(range) => self.delete(*range),
+            Command::WrongTail => self.answer(ILLEGAL_COMMAND),
             Command::Later => self.answer(NOT_IN_STAGE),
-            Command::Numbered(line) => self.edit(line),
-            Command::Immediate(statement) => self.run(alloc, statement),
+            Command::Numbered(line) => self.edit(alloc, line),
+            _ => Ok(Onward::Next),
         }
     }
 
-    /// A line of immediate mode, of which PRINT of one sum of literals runs.
-    #[tactic(auto, using(crate::proofs::VerdictLemmas::texts))]
-    fn run(&mut self, alloc: Global, statement: &[u8]) -> Result<Onward, NoMemory>
-        requires { length statement.now ≤ LINE_LENGTH }
-        ensures keys { self.new.keys ≡ self.old.keys }
-        ensures means { IfOk result (λ onward.
-            answered
-            (immediate_text (judge_of statement.now) (print_of statement.now))
-            (seen self.old)
-            ≡ goes onward (seen self.new)) }
-    {
-        match judge(alloc, statement)? {
-            Verdict::RefusedFor(cause) => self.answer(refusal_text(cause)),
-            Verdict::HasTree => self.print(print_of(statement)),
-        }
-    }
-
-    /// The value, where there is one to print.
-    fn print(&mut self, value: Option<Int>) -> Result<Onward, NoMemory>
-        ensures keys { self.new.keys ≡ self.old.keys }
-        ensures means { IfOk result (λ onward.
-            answered (sum_text value) (seen self.old)
-            ≡ goes onward (seen self.new)) }
-    {
-        match value {
-            Some(value) => {
-                self.screen.echo(value.printed().as_slice())?;
-                self.answer(b"")
-            }
-            None => self.answer(NOT_IN_STAGE),
-        }
-    }
-
-    /// A command that is done: its text, and Ready.
+    /// A command that is done: its text, and Ready at the start of a line.
     pub(crate) fn answer(&mut self, text: &[u8]) -> Result<Onward, NoMemory>
-        ensures keys { self.new.keys ≡ self.old.keys }
-        ensures means { IfOk result (λ onward.
+        ensures { IfOk result (λ onward.
             answered text.now (seen self.old)
             ≡ goes onward (seen self.new)) }
     {
-        self.screen.write(text)?;
-        self.screen.write(b"Ready\r\n")?;
+        self.running.screen.write(text)?;
+        self.be_ready()?;
         Ok(Onward::Next)
+    }
+
+    /// Ready, at the start of a line.
+    pub(crate) fn be_ready(&mut self) -> Result<(), NoMemory>
+        ensures { OnOk result (seen self.new ≡ is_ready (seen self.old)) }
+    {
+        self.running.screen.fresh_line()?;
+        self.running.screen.write(b"Ready\r\n")
+    }
+
+    /// What the session shows.
+    fn into_screen(self) -> Screen
+        ensures { result ≡ (seen self).job.screen }
+    {
+        let running = self.running;
+        running.screen
+    }
+
+    /// Tells whose calls are used up.
+    fn expire(&mut self) -> Result<(), NoMemory>
+        ensures { OnOk result (seen self.new ≡ expired (seen self.old)) }
+    {
+        self.running.screen.fresh_line()?;
+        self.running.screen.write(b"?Job expired\r\n")
     }
 
     /// HELLO: a wrong form and a wrong login have one answer.
@@ -225,14 +277,13 @@ impl Session {
         form: Option<LoginForm>,
         port: &mut P,
     ) -> Result<Onward, NoMemory>
-        ensures keys { self.new.keys ≡ self.old.keys }
-        ensures means { Follows P.who P.log port.old port.new at_start at_start
+        ensures { (clock : play.Clock) → Follows P.who P.log port.old port.new clock clock
             (hello (option_map login_seen form) (seen self.old))
             (unless_memory result (λ onward. goes onward (seen self.new))) }
     {
         match form {
             None => {
-                self.screen.write(b"Invalid entry - try again\r\n")?;
+                self.running.screen.write(b"Invalid entry - try again\r\n")?;
                 Ok(Onward::Next)
             }
             Some(form) => {
@@ -249,19 +300,18 @@ impl Session {
 
     /// What the reply to a login leads to. A reply that is none to it counts as Expired.
     fn enter(&mut self, account: Account, reply: &Reply) -> Result<Onward, NoMemory>
-        ensures keys { self.new.keys ≡ self.old.keys }
-        ensures means { IfOk result (λ onward. (password : List ℕ) →
+        ensures { IfOk result (λ onward. (password : List ℕ) →
             entered account (counts_as (request.Login account password) reply.now) (seen self.old)
             ≡ goes onward (seen self.new)) }
     {
         match reply {
             Reply::Done => {
-                self.screen.write(b"Ready\r\n")?;
                 self.account = Some(account);
+                self.be_ready()?;
                 Ok(Onward::Next)
             }
             Reply::Failed(fault) if is_error(*fault) => {
-                self.screen.write(b"Invalid entry - try again\r\n")?;
+                self.running.screen.write(b"Invalid entry - try again\r\n")?;
                 Ok(Onward::Next)
             }
             _ => Ok(Onward::Expired),
@@ -272,21 +322,19 @@ impl Session {
     /// Done.
     #[tactic(auto, using(crate::proofs::SessionLemmas::calls))]
     fn log_out<P: Port>(&mut self, alloc: Global, port: &mut P) -> Result<(), NoMemory>
-        ensures keys { self.new.keys ≡ self.old.keys }
-        ensures means { Follows P.who P.log port.old port.new at_start at_start
+        ensures { (clock : play.Clock) → Follows P.who P.log port.old port.new clock clock
             (log_out (seen self.old))
             (unless_memory result (λ done. goes Onward.Ended (seen self.new))) }
     {
         port.ask(alloc, Request::Logout)?;
-        self.screen.write(b"Bye\r\n")?;
+        self.running.screen.write(b"Bye\r\n")?;
         Ok(())
     }
 
     /// The end of the keys.
     #[tactic(auto, using(crate::proofs::SessionLemmas::calls))]
     fn leave<P: Port>(&mut self, alloc: Global, port: &mut P) -> Result<(), NoMemory>
-        ensures keys { self.new.keys ≡ self.old.keys }
-        ensures means { Follows P.who P.log port.old port.new at_start at_start
+        ensures { (clock : play.Clock) → Follows P.who P.log port.old port.new clock clock
             (leave self.old.account (seen self.old))
             (unless_memory result (λ done. goes Onward.Ended (seen self.new))) }
     {

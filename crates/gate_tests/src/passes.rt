@@ -11,7 +11,7 @@ fn seats_ask_one_monitor(rt: HostRuntime) -> Result<(), Fail> {
     let volume = volume(rt.alloc())?;
     assert!(rt; volume.is_good());
     let monitor = Monitor::open(rt.alloc(), &volume, 2)?;
-    let (gate, mut spare) = Gate::new(rt.alloc(), monitor, 2)?;
+    let (gate, mut spare) = Gate::new(rt.alloc(), monitor)?;
     let mut first = gate.split(&mut spare);
     let mut second = gate.split(&mut spare);
     assert!(rt; first.job() == 0 && second.job() == 1);

@@ -5,6 +5,8 @@
 #[cfg(test)]
 mod lines;
 #[cfg(test)]
+mod programs;
+#[cfg(test)]
 mod sessions;
 #[cfg(test)]
 mod talks;

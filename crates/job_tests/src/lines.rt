@@ -1,8 +1,8 @@
 //! One key line each: what it shows before the login and behind it.
 
 use crate::talks::{
-    FLOATING_LITERAL, FLOATING_NAME, HELLO, ILLEGAL_NUMBER, NOT_IN_STAGE, OPEN_STRING, STRAY_BYTE,
-    SYNTAX, TOO_DEEP, TOO_WIDE, assert_talk, assert_user, assert_visitor,
+    FLOATING_LITERAL, FLOATING_NAME, HELLO, ILLEGAL_NUMBER, IMMEDIATE, NOT_IN_STAGE, OPEN_STRING,
+    STRAY_BYTE, SYNTAX, TOO_DEEP, TOO_WIDE, assert_lines, assert_talk, assert_user, assert_visitor,
 };
 use monitor_calls::Reply;
 use std::alloc::{AllocGlobal, Global};
@@ -52,9 +52,9 @@ fn lines_behind_the_login(rt: HostRuntime) -> Result<(), Fail> {
         ("hello 100,6;OTHER", "?Already logged in\nReady\n"),
         ("BYE X", "?Illegal command\nReady\n"),
         ("BYE;", "?Illegal command\nReady\n"),
-        ("GOTO 10", NOT_IN_STAGE),
-        ("  A%=1", NOT_IN_STAGE),
-        ("!", NOT_IN_STAGE),
+        ("GOTO 10", IMMEDIATE),
+        ("  A%=1", "Ready\n"),
+        ("!", "Ready\n"),
         ("^Z ", FLOATING_NAME),
         ("^z", FLOATING_NAME),
         ("BYES", FLOATING_NAME),
@@ -93,30 +93,24 @@ fn sums_are_printed(rt: HostRuntime) -> Result<(), Fail> {
 }
 
 #[test]
-fn what_is_no_sum(rt: HostRuntime) -> Result<(), Fail> {
+fn lines_of_print(rt: HostRuntime) -> Result<(), Fail> {
     for (line, shown) in [
-        ("PRINT", NOT_IN_STAGE),
-        ("PRINT ", NOT_IN_STAGE),
-        ("PRINT 1++2", NOT_IN_STAGE),
-        ("PRINT +1", NOT_IN_STAGE),
-        ("PRINT -1", NOT_IN_STAGE),
-        ("PRINT 2-1", NOT_IN_STAGE),
-        ("PRINT 2*3", NOT_IN_STAGE),
-        ("PRINT (2)", NOT_IN_STAGE),
-        ("PRINT A%", NOT_IN_STAGE),
-        ("PRINT 1;2", NOT_IN_STAGE),
-        ("PRINT 1:", NOT_IN_STAGE),
-        ("PRINT 1!", NOT_IN_STAGE),
+        ("PRINT", "\nReady\n"),
+        ("PRINT +1", " 1 \nReady\n"),
+        ("PRINT -1", "-1 \nReady\n"),
+        ("PRINT 2*3", " 6 \nReady\n"),
+        ("PRINT A%", " 0 \nReady\n"),
+        ("PRINT 1;2", " 1  2 \nReady\n"),
+        ("PRINT 1:", " 1 \nReady\n"),
+        ("PRINT 1!", " 1 \nReady\n"),
+        ("PRINT 'A';", "A\nReady\n"),
         ("PRINT 32768", TOO_WIDE),
-        ("PRINT 32768%", TOO_WIDE),
         ("PRINT 1+32768", TOO_WIDE),
         ("PRINT 18446744073709551617", TOO_WIDE),
         ("PRINT 1 2", SYNTAX),
         ("PRINT 1+", SYNTAX),
         ("2+3", SYNTAX),
         ("PRINT 2 %", STRAY_BYTE),
-        ("PRINT 2%%", STRAY_BYTE),
-        ("PRINT %", STRAY_BYTE),
         ("PRINT %2", STRAY_BYTE),
         ("PRINT 2.0", FLOATING_LITERAL),
         ("PRINTX 1", FLOATING_NAME),
@@ -128,15 +122,59 @@ fn what_is_no_sum(rt: HostRuntime) -> Result<(), Fail> {
 }
 
 #[test]
-fn words_of_a_later_stage(rt: HostRuntime) -> Result<(), Fail> {
-    for word in [
-        "OLD", "SAVE", "REPLACE", "UNSAVE", "RUN", "RUNNH", "CAT", "CONT", " run", "Cat",
+fn lines_that_are_for_programs(rt: HostRuntime) -> Result<(), Fail> {
+    for line in [
+        "GOTO 10",
+        "GOSUB 10",
+        "IF 1% THEN 10",
+        "ON 1% GOTO 10",
+        "RETURN",
+        "RESUME",
+        "STOP",
+        "FOR I%=1% TO 2%",
+        "NEXT I%",
+        "DATA 1",
+        "DIM A%(5%)",
+        "DEF FNA%=1%",
+        "FNEND",
+        "FNA%=1%",
+        "PRINT FNA%(1%)",
+        "ON ERROR GOTO 10",
+        "ON ERROR GOTO 0",
     ] {
+        assert_user(&rt, line, IMMEDIATE)?;
+    }
+    Ok(())
+}
+
+#[test]
+fn words_of_a_later_stage(rt: HostRuntime) -> Result<(), Fail> {
+    for word in ["OLD", "SAVE", "REPLACE", "UNSAVE", "CAT", " save", "Cat"] {
         assert_user(&rt, word, NOT_IN_STAGE)?;
         let behind = format!(in rt.alloc(); "{word}& 1.5 \"")?;
         assert_user(&rt, behind.as_str(), NOT_IN_STAGE)?;
         let longer = format!(in rt.alloc(); "{word}Q")?;
         assert_user(&rt, longer.as_str(), FLOATING_NAME)?;
+    }
+    Ok(())
+}
+
+#[test]
+fn statements_of_a_later_stage(rt: HostRuntime) -> Result<(), Fail> {
+    for statement in [
+        "OPEN 'A' AS FILE 1%",
+        "CLOSE 1%",
+        "PRINT #1%,'A'",
+        "IF 0% THEN KILL 'A'",
+        "SLEEP 1%",
+        "CHAIN 'A'",
+        "A%=RECOUNT",
+        "PRINT SYS('A')",
+    ] {
+        assert_user(&rt, statement, NOT_IN_STAGE)?;
+        let line = format!(in rt.alloc(); "10 {statement}")?;
+        let shown = "?Not in this stage\nReady\n";
+        assert_lines(&rt, &[(line.as_str(), shown), ("LISTNH", "Ready\n")])?;
     }
     Ok(())
 }
@@ -182,7 +220,7 @@ fn print_in_parentheses(alloc: Global, depth: usize) -> Result<String, Fail> {
 #[test]
 fn levels_of_nesting(rt: HostRuntime) -> Result<(), Fail> {
     let deepest = print_in_parentheses(rt.alloc(), 64)?;
-    assert_user(&rt, deepest.as_str(), NOT_IN_STAGE)?;
+    assert_user(&rt, deepest.as_str(), " 1 \nReady\n")?;
     let deeper = print_in_parentheses(rt.alloc(), 65)?;
     assert_user(&rt, deeper.as_str(), TOO_DEEP)
 }

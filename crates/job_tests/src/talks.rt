@@ -14,6 +14,8 @@ pub(crate) const WRONG: &str = "Invalid entry - try again";
 
 pub(crate) const NOT_IN_STAGE: &str = "?Not in this stage\nReady\n";
 
+pub(crate) const IMMEDIATE: &str = "?Illegal in immediate mode\nReady\n";
+
 pub(crate) const ILLEGAL_NUMBER: &str = "?Illegal line number\nReady\n";
 
 pub(crate) const FLOATING_NAME: &str = "?Floating variable\nReady\n";

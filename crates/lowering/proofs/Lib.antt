@@ -1,4 +1,11 @@
+pub mod CallLemmas
+pub mod DefinitionLemmas
+pub mod EndLemmas
+pub mod ListedLemmas
+pub mod ListingLemmas
+pub mod PairLemmas
 pub mod Pieces
+pub mod RefusalLemmas
 pub mod Rows
 pub mod Steps
 pub mod SumLemmas

@@ -1,3 +1,9 @@
 pub mod Applied
 pub mod Sums
 pub mod Texts
+pub mod Listings
+pub mod Listed
+pub mod Tabled
+pub mod Pairs
+pub mod Parts
+pub mod Lowering

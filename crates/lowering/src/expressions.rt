@@ -117,7 +117,7 @@ fn emit_applied<L: Lookups>(
         (trees_in arguments.now) (item_of (L.program tables.now) applied
         (length arguments.now) ∷ code.old)) }
 {
-    code.put(applied_item(tables, applied, arguments.len())?)?;
+    code.put(applied_item(alloc, tables, applied, arguments.len())?)?;
     for place in (0..arguments.len()).rev() {
         emit_expr(alloc, code, tables, &arguments[place])?;
     }
@@ -130,7 +130,12 @@ fn emit_quoted(alloc: Global, code: &mut Emitted, text: &Text) -> Result<(), NoM
     code.put(Item::Quoted(copy_of(alloc, text)?))
 }
 
-fn applied_item<L: Lookups>(tables: &L, applied: Applied, count: usize) -> Result<Item, NoMemory>
+fn applied_item<L: Lookups>(
+    alloc: Global,
+    tables: &L,
+    applied: Applied,
+    count: usize,
+) -> Result<Item, NoMemory>
     ensures { IfOk result (λ one. one ≡ item_of (L.program tables.now) applied count) }
 {
     let count = counted(count)?;
@@ -138,9 +143,9 @@ fn applied_item<L: Lookups>(tables: &L, applied: Applied, count: usize) -> Resul
         Applied::Function(function) => Ok(Item::Apply { function, count }),
         Applied::Call(function) => Ok(Item::Call {
             function,
-            parameters: tables.parameters(function)?,
+            parameters: tables.parameters(alloc, function)?,
             count,
-            body: tables.body_place(function),
+            body: tables.body_place(function)?,
         }),
     }
 }

@@ -37,6 +37,16 @@ pub fn add(total: &mut u32, count: u32) -> Result<(), NoMemory>
     Ok(())
 }
 
+/// A number of statements and some more.
+pub fn further(count: usize, more: usize) -> Result<usize, NoMemory>
+    ensures { IfOk result (λ sum. sum ≡ count + more) }
+{
+    match count.checked_add(more) {
+        Some(sum) => Ok(sum),
+        None => Err(NoMemory),
+    }
+}
+
 pub fn next(n: u32) -> Result<u32, NoMemory>
     ensures { IfOk result (λ next. next ≡ suc n) }
 {

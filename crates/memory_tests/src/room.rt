@@ -63,6 +63,7 @@ fn arrays_fill_the_room(rt: HostRuntime) -> Result<(), Fail> {
         };
         let made = if fits { Ok(()) } else { Err(FULL) };
         assert_eq!(rt; memory.dim(shape), made);
+        assert_eq!(rt; memory.dim(shape), made, "in the place of the first");
     }
     Ok(())
 }

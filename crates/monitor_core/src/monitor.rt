@@ -50,6 +50,13 @@ impl Monitor {
         Ok(Monitor { parts })
     }
 
+    /// How many jobs it has.
+    pub fn job_count(&self) -> u32
+        ensures { result ≡ length self.now.jobs }
+    {
+        self.parts.job_count()
+    }
+
     /// Answers a call of a job. A Get is asked with a blank page, which its block fills.
     ///
     /// It takes memory only where a file is made or renamed or grows, a receiver is declared, or a

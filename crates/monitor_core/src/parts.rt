@@ -102,6 +102,13 @@ impl Parts {
         })
     }
 
+    /// How many jobs there are.
+    pub(crate) fn job_count(&self) -> u32
+        ensures { result ≡ length self.now.jobs }
+    {
+        self.holds.jobs()
+    }
+
     /// Whether the account is there and has this password.
     #[tactic(auto, using(crate::proofs::Lookups::passwords))]
     pub(crate) fn is_password(&self, account: Account, password: &Short) -> bool

@@ -89,13 +89,13 @@ impl JobSeat {
 }
 
 impl Gate {
-    /// A gate over a monitor of so many jobs, and its spare seat, which has seen the empty history.
-    pub fn new(alloc: Global, monitor: Monitor, jobs: u32) -> Result<(Gate, Spare), NoMemory>
-        requires { jobs ≡ length monitor.jobs }
+    /// A gate over a monitor, and its spare seat, which has seen the empty history.
+    pub fn new(alloc: Global, monitor: Monitor) -> Result<(Gate, Spare), NoMemory>
         ensures opening { IfOk result (λ made. made.0.opening ≡ monitor) }
         ensures spare { IfOk result (λ made.
             made.1 ≡ spare_value made.0.gate (first_pass monitor)) }
     {
+        let jobs = monitor.job_count();
         let (table, seat) = GateTable::new(alloc, monitor)?;
         let spare = Spare {
             made: 0,

@@ -1,9 +1,11 @@
 //! Tests of the monitor's parts, by their public calls alone: accounts, protection, the disk, the
-//! message queues, and names of files. (Jobs and the interlock are run through the monitor.)
+//! message queues, the table of jobs, the interlock, and names of files.
 #![tactic(auto)]
 
 #[cfg(test)]
 mod disks;
+#[cfg(test)]
+mod interlock;
 #[cfg(test)]
 mod names;
 #[cfg(test)]
@@ -12,5 +14,7 @@ mod passwords;
 mod queues;
 #[cfg(test)]
 mod rights;
+#[cfg(test)]
+mod seats;
 #[cfg(test)]
 mod specs;

@@ -23,14 +23,14 @@ use Rattle.program_model.specs.Bounds.{Alike, gives, breaks, asks, spent, takes,
 
 module _ {L S A : Type 0} where
   -- a tree is alike to itself
-  same : (n : ℕ) (m : Act L S A) → Alike n m m
+  pub same : (n : ℕ) (m : Act L S A) → Alike n m m
   same n (Gives a s) = gives
   same n (Breaks b s) = breaks
   same n (Asks r k) = asks (λ x. same n (k x))
   same zero (Takes s m) = spent
   same (suc n) (Takes s m) = takes (same n m)
 
-  and_then : {B : Type 0} (n : ℕ) (m m' : Act L S A) (f f' : A → S → Act L S B) → Alike n m m' → ((k : ℕ) (a : A) (s : S) → k ≤ n → Alike k (f a s) (f' a s)) → Alike n (m then f) (m' then f')
+  pub and_then : {B : Type 0} (n : ℕ) (m m' : Act L S A) (f f' : A → S → Act L S B) → Alike n m m' → ((k : ℕ) (a : A) (s : S) → k ≤ n → Alike k (f a s) (f' a s)) → Alike n (m then f) (m' then f')
   and_then n m m' f f' (gives {n = i} {a = a} {s = s}) h = h n a s (omega arith)
   and_then n m m' f f' breaks h = breaks
   and_then n m m' f f' (asks {n = i} {r = r} {k = k} {k' = k'} e) h = asks (λ x. and_then n (k x) (k' x) f f' (e x) h)

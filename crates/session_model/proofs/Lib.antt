@@ -1,3 +1,6 @@
-pub mod Rows
+pub mod Bounds
+pub mod Ends
+mod Rows
 pub mod Sessions
+pub mod Shrinking
 pub mod Talks

@@ -1,7 +1,15 @@
--- What is worked out of sessions: the sum, no keys at all, both kinds of wrong login, what a judge says of lines, and a program's text.
+-- What is worked out of sessions: the sum, no keys at all, both kinds of wrong login, what a judge says of lines, a program's text, and programs that run.
 use Rattle.std.proofs.Common.{◌≡◌, ℕ, List, [], ◌∷◌, refl}
 use Rattle.std.specs.Prelude.{codes, ◌++◌, bytes_eq, if◌then◌else◌, None}
 use Rattle.std.specs.Fmt.{digits}
+use Rattle.basic_values.specs.Arithmetic.{repeated_product}
+use Rattle.basic_values.specs.Messages.{fault_text}
+use Rattle.basic_strings.specs.Places.{place_of}
+use Rattle.basic_strings.specs.Readings.{value_read, item_read}
+use Rattle.basic_tree.specs.Words.{keywords, signs}
+use Rattle.basic_tree.specs.Tokens.{letter_front, digit_front, quote_front, sign_front, front_of, items_from, tokens_from}
+use Rattle.basic_tree.specs.MachineRun.{run}
+use Rattle.basic_tree.specs.MachineJudge.{verdict_of, judge_of}
 use Rattle.monitor_calls.specs.declared.calls.Request.{Request}
 use Rattle.monitor_calls.specs.declared.calls.Request.TheVariants.{Login, Logout}
 use Rattle.monitor_calls.specs.declared.calls.Reply.TheVariants.{Done, Failed, Expired}
@@ -30,9 +38,9 @@ demo = Login (record { project = 100; programmer = 5 }) (codes "DEMO")
 abbrev first_keys : List (List ℕ)
 first_keys = codes "HELLO 100,5;DEMO" ∷ codes "PRINT 2%+3%" ∷ codes "BYE" ∷ []
 
-the_sum : talk takes_all first_keys (Done ∷ Done ∷ [])
+the_sum : talk judge_of first_keys (Done ∷ Done ∷ [])
     ≡ (demo ∷ Logout ∷ [], Finished (codes "HELLO 100,5;DEMO\r\nReady\r\nPRINT 2%+3%\r\n 5 \r\nReady\r\nBYE\r\nBye\r\n"))
-unfolding digits later_words
+unfolding digits later_words fault_text repeated_product place_of value_read item_read keywords signs letter_front digit_front quote_front sign_front front_of items_from tokens_from run verdict_of
 the_sum = refl
 
 no_keys : talk takes_all [] [] ≡ ([], Finished [])
@@ -52,10 +60,11 @@ wrong_form : talk takes_all (codes "HELLO 0100,5;DEMO" ∷ codes "HELLO 255,5;DE
 unfolding digits later_words
 wrong_form = refl
 
-sums : talk takes_all (codes "HELLO 100,5;DEMO" ∷ codes "print32767+1 + 00002% " ∷ codes "PRINT 32768" ∷ codes "PRINT 1 2" ∷ codes " ^Z" ∷ codes "BYE X" ∷ []) (Done ∷ Done ∷ [])
-    ≡ (demo ∷ Logout ∷ [], Finished (codes "HELLO 100,5;DEMO\r\nReady\r\nprint32767+1 + 00002% \r\n-32766 \r\nReady\r\nPRINT 32768\r\n?Not in this stage\r\nReady\r\nPRINT 1 2\r\n?Not in this stage\r\nReady\r\n ^Z\r\nBYE X\r\n?Illegal command\r\nReady\r\nBye\r\n"))
-unfolding digits later_words
-sums = refl
+-- small letters, no blank, and what is no command
+lines : talk judge_of (codes "HELLO 100,5;DEMO" ∷ codes "print32767+1 + 00002% " ∷ codes "PRINT 32768" ∷ codes "PRINT 1 2" ∷ codes " ^Z" ∷ codes "BYE X" ∷ codes "CAT" ∷ codes "RUN X" ∷ codes "RUNNH X" ∷ []) (Done ∷ Done ∷ [])
+    ≡ (demo ∷ Logout ∷ [], Finished (codes "HELLO 100,5;DEMO\r\nReady\r\nprint32767+1 + 00002% \r\n-32766 \r\nReady\r\nPRINT 32768\r\n?Number too wide\r\nReady\r\nPRINT 1 2\r\n?Syntax error\r\nReady\r\n ^Z\r\nBYE X\r\n?Illegal command\r\nReady\r\nCAT\r\n?Not in this stage\r\nReady\r\nRUN X\r\n?Not in this stage\r\nReady\r\nRUNNH X\r\n?Illegal command\r\nReady\r\nBye\r\n"))
+unfolding digits later_words fault_text repeated_product place_of value_read item_read keywords signs letter_front digit_front quote_front sign_front front_of items_from tokens_from run verdict_of
+lines = refl
 
 -- a reply that does not fit counts as Expired, and to a logout as Done
 unfitting_replies : talk takes_all (codes "HELLO 100,5;DEMO" ∷ codes "BYE" ∷ []) (Failed 71 ∷ Done ∷ []) ≡ (demo ∷ [], Finished (codes "HELLO 100,5;DEMO\r\n?Job expired\r\n"))
@@ -156,16 +165,8 @@ renamed : typed takes_all (codes "1 A" ∷ codes "RENAME de mo" ∷ codes "LIST"
 unfolding digits later_words
 renamed = refl
 
--- a line of immediate mode is judged without the blanks in front
-abbrev takes_line : Judge
-takes_line line = if bytes_eq line (codes "GOTO 10") then HasTree no_statement else RefusedFor cause.Syntax
-
-other_statement : behind_login takes_line (codes "  GOTO 10") ≡ shows (codes "  GOTO 10") (codes "?Not in this stage\r\n")
-unfolding digits later_words
-other_statement = refl
-
--- a word of a later stage is judged by nothing
-later_word : behind_login (refuses_all cause.Syntax) (codes " run") ≡ shows (codes " run") (codes "?Not in this stage\r\n")
+-- a line of immediate mode is judged without the blanks in front, and a word of a later stage by nothing
+later_word : behind_login (refuses_all cause.Syntax) (codes " cat") ≡ shows (codes " cat") (codes "?Not in this stage\r\n")
 unfolding digits later_words
 later_word = refl
 
@@ -178,3 +179,50 @@ visitor : talk (refuses_all cause.Syntax) (codes "PRINT" ∷ codes "10 PRINT" �
     ≡ ([], Finished (codes "PRINT\r\nPlease say HELLO\r\n10 PRINT\r\nPlease say HELLO\r\nLIST\r\nPlease say HELLO\r\nBYE\r\n"))
 unfolding digits later_words
 visitor = refl
+
+-- PROGRAMS THAT RUN
+
+-- what these lines show behind the login, by the grammar
+abbrev runs_to : List (List ℕ) → List ℕ → Type 0
+runs_to lines shown = typed judge_of lines shown
+
+program_runs : runs_to (codes "10 PRINT 1%" ∷ codes "RUN" ∷ codes "RUNNH" ∷ []) (codes "10 PRINT 1%\r\nRUN\r\nNONAME\r\n 1 \r\nReady\r\nRUNNH\r\n 1 \r\nReady\r\n")
+unfolding digits later_words fault_text repeated_product place_of value_read item_read keywords signs letter_front digit_front quote_front sign_front front_of items_from tokens_from run verdict_of
+program_runs = refl
+
+-- what does not end its line is followed by a new one
+ready_on_a_line : runs_to (codes "PRINT 'A';" ∷ []) (codes "PRINT 'A';\r\nA\r\nReady\r\n")
+unfolding digits later_words fault_text repeated_product place_of value_read item_read keywords signs letter_front digit_front quote_front sign_front front_of items_from tokens_from run verdict_of
+ready_on_a_line = refl
+
+stop_and_cont : runs_to (codes "10 STOP" ∷ codes "20 PRINT 2%" ∷ codes "RUNNH" ∷ codes "CONT" ∷ codes "CONT" ∷ [])
+    (codes "10 STOP\r\n20 PRINT 2%\r\nRUNNH\r\nStop at line 10\r\nReady\r\nCONT\r\n 2 \r\nReady\r\nCONT\r\n?Can't continue\r\nReady\r\n")
+unfolding digits later_words fault_text repeated_product place_of value_read item_read keywords signs letter_front digit_front quote_front sign_front front_of items_from tokens_from run verdict_of
+stop_and_cont = refl
+
+-- an immediate line sees the program's variables, and CONT goes on behind it
+a_look_at_the_variables : runs_to (codes "10 A%=5%" ∷ codes "20 STOP" ∷ codes "30 PRINT A%" ∷ codes "RUNNH" ∷ codes "PRINT A%" ∷ codes "A%=7%" ∷ codes "CONT" ∷ [])
+    (codes "10 A%=5%\r\n20 STOP\r\n30 PRINT A%\r\nRUNNH\r\nStop at line 20\r\nReady\r\nPRINT A%\r\n 5 \r\nReady\r\nA%=7%\r\nReady\r\nCONT\r\n 7 \r\nReady\r\n")
+unfolding digits later_words fault_text repeated_product place_of value_read item_read keywords signs letter_front digit_front quote_front sign_front front_of items_from tokens_from run verdict_of
+a_look_at_the_variables = refl
+
+-- a line that is changed forbids it
+changed_behind_stop : runs_to (codes "10 STOP" ∷ codes "RUNNH" ∷ codes "20" ∷ codes "CONT" ∷ []) (codes "10 STOP\r\nRUNNH\r\nStop at line 10\r\nReady\r\n20\r\nCONT\r\n?Can't continue\r\nReady\r\n")
+unfolding digits later_words fault_text repeated_product place_of value_read item_read keywords signs letter_front digit_front quote_front sign_front front_of items_from tokens_from run verdict_of
+changed_behind_stop = refl
+
+-- a refusal leaves the memory cleared
+refused_program : runs_to (codes "A%=1%" ∷ codes "10 GOTO 20" ∷ codes "RUNNH" ∷ codes "PRINT A%" ∷ []) (codes "A%=1%\r\nReady\r\n10 GOTO 20\r\nRUNNH\r\n?Undefined line at line 10\r\nReady\r\nPRINT A%\r\n 0 \r\nReady\r\n")
+unfolding digits later_words fault_text repeated_product place_of value_read item_read keywords signs letter_front digit_front quote_front sign_front front_of items_from tokens_from run verdict_of
+refused_program = refl
+
+immediate_is_refused : runs_to (codes "GOTO 10" ∷ codes "OPEN 'A' AS FILE 1%" ∷ codes "10 CLOSE 1%" ∷ codes "LISTNH" ∷ [])
+    (codes "GOTO 10\r\n?Illegal in immediate mode\r\nReady\r\nOPEN 'A' AS FILE 1%\r\n?Not in this stage\r\nReady\r\n10 CLOSE 1%\r\n?Not in this stage\r\nReady\r\nLISTNH\r\nReady\r\n")
+unfolding digits later_words fault_text repeated_product place_of value_read item_read keywords signs letter_front digit_front quote_front sign_front front_of items_from tokens_from run verdict_of
+immediate_is_refused = refl
+
+-- INPUT takes the key lines that follow, and at their end is an error
+input_takes_keys : runs_to (codes "10 ON ERROR GOTO 30" ∷ codes "20 INPUT A% : PRINT A% : GOTO 20" ∷ codes "30 PRINT ERR" ∷ codes "RUNNH" ∷ codes "4" ∷ [])
+    (codes "10 ON ERROR GOTO 30\r\n20 INPUT A% : PRINT A% : GOTO 20\r\n30 PRINT ERR\r\nRUNNH\r\n? 4\r\n 4 \r\n?  11 \r\nReady\r\n")
+unfolding digits later_words fault_text repeated_product place_of value_read item_read keywords signs letter_front digit_front quote_front sign_front front_of items_from tokens_from run verdict_of
+input_takes_keys = refl

@@ -1,114 +1,175 @@
 -- A session takes no more key lines than there are at first.
-use Rattle.std.proofs.Common.{◌≡◌, ℕ, zero, suc, ◌≤◌, List, [], ◌∷◌, ◌++◌, length, ap, Bool, true, false, Option, Some, None, refl, arith}
+use Rattle.std.proofs.Common.{◌≡◌, ℕ, zero, suc, ◌≤◌, List, [], ◌∷◌, ◌++◌, length, Bool, true, false, Option, Some, None, refl, arith}
+use Rattle.std.specs.Prelude.{if◌then◌else◌}
 use Rattle.monitor_calls.specs.declared.names.Account.{Account}
 use Rattle.monitor_calls.specs.declared.calls.Request.TheVariants as request
 use Rattle.monitor_calls.specs.declared.calls.Reply.{Reply}
 use Rattle.monitor_calls.specs.declared.calls.Reply.TheVariants.{Done, Failed}
-use Rattle.basic_tree.specs.LineVerdicts.{Judge}
-use Rattle.job_model.specs.Act.{Gives, Breaks, Asks, Takes, ◌then◌}
+use Rattle.basic_tree.specs.LineVerdicts.{Verdict, HasTree, RefusedFor, Judge}
+use Rattle.basic_tree.specs.SpellingStatements.{line_statements}
+use Rattle.basic_tree.specs.Trees.{StatementTree}
+use Rattle.job_model.specs.Act.{Gives, Breaks, Asks, Takes, ◌then◌, Break, Faulted, Halted, Gone, Left}
 use Rattle.job_model.specs.Asking.{counts_as}
-use Rattle.session_model.specs.Commands.{Login, Naming, Nameless, Named, Misnamed, Range, Command, Hello, Bye, BadBye, Idle, New, Rename, ListLines, Delete, Later, Numbered, Immediate, command_of}
+use Rattle.program_model.specs.declared.refusals.LowerRefusal.{LowerRefusal}
+use Rattle.program_model.specs.Program.{Program, Position}
+use Rattle.program_model.specs.Job as program
+use Rattle.program_model.specs.Job.{Job}
+use Rattle.program_model.specs.Soundness.{refusal_of, refusal_now}
+use Rattle.stage_forms.specs.Stage.{are_in_stage}
+use Rattle.session_model.specs.Commands.{Login, Naming, Nameless, Named, Misnamed, Range, Command, Hello, Bye, New, Rename, ListLines, Delete, Run, Continue, Numbered, Immediate, command_of}
 use Rattle.session_model.specs.Editing.{Edited, Accepted, Refused, edited}
-use Rattle.session_model.specs.Talk.{Session, Step, says, keys_are, entered, hello, leave, begins_new, renames, lists, deletes, takes_edit, visitor_acts, user_acts, acts, line_acts, with_next, session, opening}
+use Rattle.session_model.specs.Texts.{not_in_stage}
+use Rattle.session_model.specs.Talk.{Session, Step, answered, says, keys_are, entered, hello, leave, begins_new, renames, headed, lists, deletes, takes_edit, rests, program_by, outlived, outlives, reported, run_is_over, runs_unless, begun, goes_on, line_unless, immediate, visitor_acts, user_acts, acts, line_acts, with_next, session, opening}
 use Rattle.job_model.specs.Texts.{line_end}
+use Rattle.job_model.specs.Follow.{Path, here, asked, quiet, tick, gone}
+use Rattle.job_model.specs.Play.{Clock}
+use Rattle.monitor_calls.specs.Pairs.{Pair}
 use Rattle.session_model.specs.TalkLaws.{KeysAreEnough}
+use Rattle.session_model.proofs.Shrinking.{Fewer, Few, cleared_few, continues_few, line_runs_few}
 
--- where it gives something these keys are left
-abbrev Keeps : List (List ℕ) → Step → Type 0
-Keeps keys (Gives value s) = s.keys ≡ keys
-Keeps keys (Breaks why s) = Unit {0}
-Keeps keys (Asks request by) = (reply : Reply) → Keeps keys (by reply)
-Keeps keys (Takes s rest) = Keeps keys rest
+-- where it gives something no more keys are left
+abbrev pub Keeps : {R : Type 0} → ℕ → Step R → Type 0
+Keeps n (Gives value s) = Fewer n s.job
+Keeps n (Breaks why s) = Unit {0}
+Keeps n (Asks request by) = (reply : Reply) → Keeps n (by reply)
+Keeps n (Takes s rest) = Keeps n rest
 
-entered_keeps : (account : Account) (reply : Reply) (s : Session) → Keeps s.keys (entered account reply s)
-entered_keeps account Done s = refl
-entered_keeps account (Failed number) s = refl
-entered_keeps account reply s = tt
+module _ {R : Type 0} (n : ℕ) where
+  entered_keeps : (account : Account) (reply : Reply) (s : Session R) → Fewer n s.job → Keeps n (entered account reply s)
+  entered_keeps account Done s h = h
+  entered_keeps account (Failed number) s h = h
+  entered_keeps account reply s h = tt
 
-hello_keeps : (login : Option Login) (s : Session) → Keeps s.keys (hello login s)
-hello_keeps None s = refl
-hello_keeps (Some login) s = λ reply. entered_keeps login.account (counts_as (request.Login login.account login.password) reply) s
+  hello_keeps : (login : Option Login) (s : Session R) → Fewer n s.job → Keeps n (hello login s)
+  hello_keeps None s h = h
+  hello_keeps (Some login) s h = λ reply. entered_keeps login.account (counts_as (request.Login login.account login.password) reply) s h
 
-visitor_keeps : (command : Command) (s : Session) → Keeps s.keys (visitor_acts command s)
-visitor_keeps (Hello login) s = hello_keeps login s
-visitor_keeps Bye s = tt
-visitor_keeps BadBye s = refl
-visitor_keeps Idle s = refl
-visitor_keeps (New naming) s = refl
-visitor_keeps (Rename naming) s = refl
-visitor_keeps (ListLines with_name range) s = refl
-visitor_keeps (Delete range) s = refl
-visitor_keeps Later s = refl
-visitor_keeps (Numbered number rest) s = refl
-visitor_keeps (Immediate statement) s = refl
+  visitor_keeps : (command : Command) (s : Session R) → Fewer n s.job → Keeps n (visitor_acts command s)
+  visitor_keeps (Hello login) s h = hello_keeps login s h
+  visitor_keeps Bye s h = tt
+  visitor_keeps command s h = h
 
-new_keeps : (naming : Naming) (s : Session) → Keeps s.keys (begins_new naming s)
-new_keeps Nameless s = refl
-new_keeps (Named name) s = refl
-new_keeps Misnamed s = refl
+  new_keeps : (naming : Naming) (s : Session R) → Fewer n s.job → Keeps n (begins_new naming s)
+  new_keeps Nameless s h = h
+  new_keeps (Named name) s h = h
+  new_keeps Misnamed s h = h
 
-renames_keeps : (naming : Naming) (s : Session) → Keeps s.keys (renames naming s)
-renames_keeps Nameless s = refl
-renames_keeps (Named name) s = refl
-renames_keeps Misnamed s = refl
+  renames_keeps : (naming : Naming) (s : Session R) → Fewer n s.job → Keeps n (renames naming s)
+  renames_keeps Nameless s h = h
+  renames_keeps (Named name) s h = h
+  renames_keeps Misnamed s h = h
 
-lists_keeps : (with_name : Bool) (range : Option Range) (s : Session) → Keeps s.keys (lists with_name range s)
-lists_keeps with_name None s = refl
-lists_keeps true (Some range) s = refl
-lists_keeps false (Some range) s = refl
+  headed_keeps : (with_name : Bool) (s : Session R) → Fewer n s.job → Fewer n (headed with_name s).job
+  headed_keeps true s h = h
+  headed_keeps false s h = h
 
-deletes_keeps : (range : Option Range) (s : Session) → Keeps s.keys (deletes range s)
-deletes_keeps None s = refl
-deletes_keeps (Some range) s = refl
+  lists_keeps : (with_name : Bool) (range : Option Range) (s : Session R) → Fewer n s.job → Keeps n (lists with_name range s)
+  lists_keeps with_name None s h = h
+  lists_keeps with_name (Some range) s h = headed_keeps with_name s h
 
-edit_keeps : (edit : Edited) (s : Session) → Keeps s.keys (takes_edit edit s)
-edit_keeps (Accepted lines) s = refl
-edit_keeps (Refused text) s = refl
+  deletes_keeps : (range : Option Range) (s : Session R) → Fewer n s.job → Keeps n (deletes range s)
+  deletes_keeps None s h = h
+  deletes_keeps (Some range) s h = h
 
-user_keeps : (judge : Judge) (command : Command) (s : Session) → Keeps s.keys (user_acts judge command s)
-user_keeps judge (Hello login) s = refl
-user_keeps judge Bye s = λ reply. tt
-user_keeps judge BadBye s = refl
-user_keeps judge Idle s = refl
-user_keeps judge Later s = refl
-user_keeps judge (New naming) s = new_keeps naming s
-user_keeps judge (Rename naming) s = renames_keeps naming s
-user_keeps judge (ListLines with_name range) s = lists_keeps with_name range s
-user_keeps judge (Delete range) s = deletes_keeps range s
-user_keeps judge (Numbered number rest) s = edit_keeps (edited judge number rest s.lines) s
-user_keeps judge (Immediate statement) s = refl
+  edit_keeps : (edit : Edited) (s : Session R) → Fewer n s.job → Keeps n (takes_edit edit s)
+  edit_keeps (Accepted lines) s h = h
+  edit_keeps (Refused text) s h = h
 
-acts_keep : (judge : Judge) (account : Option Account) (command : Command) (s : Session) → Keeps s.keys (acts judge account command s)
-acts_keep judge None command s = visitor_keeps command s
-acts_keep judge (Some account) command s = user_keeps judge command s
+  rests_keeps : (judge : Judge) (command : Command) (s : Session R) → Fewer n s.job → Keeps n (rests judge command s)
+  rests_keeps judge Bye s h = λ reply. tt
+  rests_keeps judge (New naming) s h = new_keeps naming s h
+  rests_keeps judge (Rename naming) s h = renames_keeps naming s h
+  rests_keeps judge (ListLines with_name range) s h = lists_keeps with_name range s h
+  rests_keeps judge (Delete range) s h = deletes_keeps range s h
+  rests_keeps judge (Numbered number rest) s h = edit_keeps (edited judge number rest s.lines) s h
+  rests_keeps judge command s h = h
 
--- what goes on alike from the keys that are kept
-then_alike : (keys : List (List ℕ)) (m : Step) (next other : Unit {0} → Session → Step) → Keeps keys m → ((value : Unit {0}) (s : Session) → s.keys ≡ keys → next value s ≡ other value s) → m then next ≡ m then other
-then_alike keys (Gives value s) next other keeps alike = alike value s keeps
-then_alike keys (Breaks why s) next other keeps alike = refl
-then_alike keys (Asks request by) next other keeps alike = λ i. Asks request (λ reply. then_alike keys (by reply) next other (keeps reply) alike i)
-then_alike keys (Takes s rest) next other keeps alike = λ i. Takes s (then_alike keys rest next other keeps alike i)
+  -- PROGRAMS
 
-abbrev turn : Judge → ℕ → List ℕ → Session → Step
-turn judge most line s = line_acts judge line s then λ _ s. session judge most s
+  outlived_keeps : (over : Break (program.Leaving R) → Job R → Session R) (s : Session R) → ((why : Break (program.Leaving R)) (j : Job R) → Fewer n j → Fewer n (over why j).job)
+      → (why : Break (program.Leaving R)) (j : Job R) → Fewer n j → Keeps n (outlived over s why j)
+  outlived_keeps over s f Gone j h = tt
+  outlived_keeps over s f (Faulted fault) j h = f (Faulted fault) j h
+  outlived_keeps over s f (Halted halt) j h = f (Halted halt) j h
+  outlived_keeps over s f (Left way) j h = f (Left way) j h
 
-next_alike : (judge : Judge) (most more : ℕ) (keys : List (List ℕ)) (s : Session) → length keys ≤ suc most → ((u : Session) → length u.keys ≤ most → session judge more u ≡ session judge most u)
-    → with_next (turn judge more) keys s ≡ with_next (turn judge most) keys s
-next_alike judge most more [] s few behind = refl
-next_alike judge most more (line ∷ keys) s few behind =
+  outlives_keeps : {A : Type 0} (over : Break (program.Leaving R) → Job R → Session R) (s : Session R) → ((why : Break (program.Leaving R)) (j : Job R) → Fewer n j → Fewer n (over why j).job)
+      → (m : program.Deed R A) → Few n m → Keeps n (outlives over s m)
+  outlives_keeps over s f (Gives a j) h = f (Left program.Ended) j h
+  outlives_keeps over s f (Breaks why j) h = outlived_keeps over s f why j h
+  outlives_keeps over s f (Asks r by) h = λ x. outlives_keeps over s f (by x) (h x)
+  outlives_keeps over s f (Takes j rest) h = outlives_keeps over s f rest h.1
+
+module _ (n : ℕ) where
+  unless_keeps : (o : Option LowerRefusal) (p : Program) (most : ℕ) (s : Session Position) → Fewer n s.job → Keeps n (runs_unless o p most s)
+  unless_keeps (Some refusal) p most s h = h
+  unless_keeps None p most s h = outlives_keeps n (run_is_over s) s (λ why j g. g) _ (cleared_few n p most s.job h)
+
+  on_keeps : (p : Program) (most : ℕ) (stop : Option (program.Leaving Position)) (s : Session Position) → Fewer n s.job → Keeps n (goes_on p most stop s)
+  on_keeps p most None s h = h
+  on_keeps p most (Some stop) s h = outlives_keeps n (run_is_over s) s (λ why j g. g) _ (continues_few n p most stop s.job h)
+
+  now_keeps : (o : Option LowerRefusal) (statements : List StatementTree) (most : ℕ) (s : Session Position) → Fewer n s.job → Keeps n (line_unless o statements most s)
+  now_keeps (Some refusal) statements most s h = h
+  now_keeps None statements most s h = outlives_keeps n (reported s) s (λ why j g. g) _ (line_runs_few n statements most s.job h)
+
+  if_keeps : (b : Bool) (m m' : Step Position) → Keeps n m → Keeps n m' → Keeps n (if b then m else m')
+  if_keeps true m m' h g = h
+  if_keeps false m m' h g = g
+
+  immediate_keeps : (verdict : Verdict) (most : ℕ) (s : Session Position) → Fewer n s.job → Keeps n (immediate verdict most s)
+  immediate_keeps (RefusedFor cause) most s h = h
+  immediate_keeps (HasTree tree) most s h =
+      if_keeps (are_in_stage (line_statements tree)) (line_unless (refusal_now (line_statements tree)) (line_statements tree) most s) (answered not_in_stage s) (now_keeps (refusal_now (line_statements tree)) (line_statements tree) most s h) h
+
+  user_keeps : (judge : Judge) (most : ℕ) (command : Command) (s : Session Position) → Fewer n s.job → Keeps n (user_acts judge most command s)
+  user_keeps judge most (Run with_name) s h = let p = program_by judge s.lines in unless_keeps (refusal_of p) p most (begun p (headed with_name s)) (headed_keeps n with_name s h)
+  user_keeps judge most Continue s h = on_keeps (program_by judge s.lines) most s.stop s h
+  user_keeps judge most (Immediate statement) s h = immediate_keeps (judge statement) most s h
+  user_keeps judge most command s h = rests_keeps n judge command s h
+
+  acts_keep : (judge : Judge) (most : ℕ) (account : Option Account) (command : Command) (s : Session Position) → Fewer n s.job → Keeps n (acts judge most account command s)
+  acts_keep judge most None command s h = visitor_keeps n command s h
+  acts_keep judge most (Some account) command s h = user_keeps judge most command s h
+
+pub line_keeps : (n : ℕ) (judge : Judge) (most : ℕ) (line : List ℕ) (s : Session Position) → Fewer n s.job → Keeps n (line_acts judge most line s)
+line_keeps n judge most line s h = acts_keep n judge most s.account (command_of line) (says (line ++ line_end) s) h
+
+pub keeps_path : (n : ℕ) (c d : Clock) (m left : Step Position) (ps : List Pair) → Path c m ps d left → Keeps n m → Keeps n left
+keeps_path n c d m left ps here h = h
+keeps_path n c d m left ps (asked {reply = x} {by = by} {pairs = qs} p) h = keeps_path n c d (by x) left qs p (h x)
+keeps_path n c d m left ps (quiet {rest = t} e p) h = keeps_path n _ d t left ps p h
+keeps_path n c d m left ps (tick {rest = t} {pairs = qs} e g p) h = keeps_path n _ d t left qs p h
+keeps_path n c d m left ps (gone {e = i} {s = s} {pairs = qs} e g p) h = keeps_path n i d (Breaks Gone s) left qs p tt
+
+-- what goes on alike from the keys that are left
+then_alike : (n : ℕ) (m : Step Position) (next other : Unit {0} → Session Position → Step Position) → Keeps n m → ((value : Unit {0}) (s : Session Position) → Fewer n s.job → next value s ≡ other value s) → m then next ≡ m then other
+then_alike n (Gives value s) next other keeps alike = alike value s keeps
+then_alike n (Breaks why s) next other keeps alike = refl
+then_alike n (Asks request by) next other keeps alike = λ i. Asks request (λ reply. then_alike n (by reply) next other (keeps reply) alike i)
+then_alike n (Takes s rest) next other keeps alike = λ i. Takes s (then_alike n rest next other keeps alike i)
+
+abbrev turn : Judge → ℕ → ℕ → List ℕ → Session Position → Step Position
+turn judge most count line s = line_acts judge most line s then λ _ s. session judge most count s
+
+next_alike : (judge : Judge) (most count more : ℕ) (keys : List (List ℕ)) (s : Session Position) → length keys ≤ suc count → ((u : Session Position) → Fewer count u.job → session judge most more u ≡ session judge most count u)
+    → with_next (turn judge most more) keys s ≡ with_next (turn judge most count) keys s
+next_alike judge most count more [] s few behind = refl
+next_alike judge most count more (line ∷ keys) s few behind =
     let t = keys_are keys s in
-    then_alike keys (line_acts judge line t) (λ _ s. session judge more s) (λ _ s. session judge most s) (acts_keep judge t.account (command_of line) (says (line ++ line_end) t))
-    (λ value u kept. behind u (let h : length u.keys ≤ most = omega (arith, ap length kept, few) in h))
+    let fits : length keys ≤ count = omega (arith, few) in
+    then_alike count (line_acts judge most line t) (λ _ s. session judge most more s) (λ _ s. session judge most count s) (acts_keep count judge most t.account (command_of line) (says (line ++ line_end) t) fits)
+    (λ value u kept. behind u kept)
 
-no_keys : (judge : Judge) (more : ℕ) (keys : List (List ℕ)) (s : Session) → length keys ≤ zero → with_next (turn judge more) keys s ≡ leave s.account s
-no_keys judge more [] s few = refl
-no_keys judge more (line ∷ keys) s few = absurd (omega (arith, few))
+no_keys : (judge : Judge) (most more : ℕ) (keys : List (List ℕ)) (s : Session Position) → length keys ≤ zero → with_next (turn judge most more) keys s ≡ leave s.account s
+no_keys judge most more [] s few = refl
+no_keys judge most more (line ∷ keys) s few = absurd (omega (arith, few))
 
-more_lines : (judge : Judge) (most more : ℕ) (s : Session) → length s.keys ≤ most → most ≤ more → session judge more s ≡ session judge most s
-more_lines judge zero zero s few le = refl
-more_lines judge zero (suc more) s few le = no_keys judge more s.keys s few
-more_lines judge (suc most) zero s few le = absurd (omega (arith, le))
-more_lines judge (suc most) (suc more) s few le = next_alike judge most more s.keys s few (λ u few. more_lines judge most more u few (omega (arith, le)))
+more_lines : (judge : Judge) (most count more : ℕ) (s : Session Position) → Fewer count s.job → count ≤ more → session judge most more s ≡ session judge most count s
+more_lines judge most zero zero s few le = refl
+more_lines judge most zero (suc more) s few le = no_keys judge most more s.job.keys s few
+more_lines judge most (suc count) zero s few le = absurd (omega (arith, le))
+more_lines judge most (suc count) (suc more) s few le = next_alike judge most count more s.job.keys s few (λ u few. more_lines judge most count more u few (omega (arith, le)))
 
 pub keys_are_enough_lem : KeysAreEnough
-keys_are_enough_lem judge keys more le = more_lines judge (length keys) more (opening keys) (let h : length keys ≤ length keys = omega arith in h) le
+keys_are_enough_lem judge keys most more le = more_lines judge most (length keys) more (opening keys) (let h : length keys ≤ length keys = omega arith in h) le

@@ -1,5 +1,6 @@
 pub mod Commands
 pub mod Editing
+pub mod Serving
 pub mod Talk
 pub mod TalkLaws
 pub mod Texts

@@ -1,71 +1,97 @@
 -- The talk of a terminal: the requests that its session makes and the bytes that it shows, given its
 -- keys and the replies. A judge says of each line that is a statement which tree the grammar has for
 -- it, or why it refuses it.
-use Rattle.std.specs.Prelude.{◌≡◌, ℕ, zero, suc, Bool, true, false, List, [], ◌∷◌, ◌++◌, length, Option, Some, None, ℤ, codes}
+use Rattle.std.specs.Prelude.{◌≡◌, ℕ, zero, suc, Bool, true, false, if◌then◌else◌, List, [], ◌∷◌, ◌++◌, length, map, replicate, Option, Some, None, codes}
 use Rattle.monitor_calls.specs.declared.names.Account.{Account}
 use Rattle.monitor_calls.specs.declared.calls.Request.{Request}
 use Rattle.monitor_calls.specs.declared.calls.Request.TheVariants as request
 use Rattle.monitor_calls.specs.declared.calls.Reply.{Reply}
 use Rattle.monitor_calls.specs.declared.calls.Reply.TheVariants.{Done, Failed}
-use Rattle.basic_values.specs.Numbers.{printed}
 use Rattle.basic_tree.specs.LineVerdicts.{Verdict, HasTree, RefusedFor, Judge, Judges}
-use Rattle.job_model.specs.Act.{Act, Gives, Breaks, Gone, Left, ◌then◌}
+use Rattle.basic_tree.specs.SpellingStatements.{line_statements}
+use Rattle.basic_tree.specs.Trees.{StatementTree}
+use Rattle.error_trap.specs.Trapping.{untouched}
+use Rattle.job_memory.specs.Memory.{empty}
+use Rattle.job_model.specs.Act.{Act, Gives, Breaks, Asks, Takes, Break, Gone, Left, ◌then◌}
 use Rattle.job_model.specs.Asking.{ask}
-use Rattle.session_model.specs.Commands.{Login, Naming, Nameless, Named, Misnamed, Range, Command, Hello, Bye, BadBye, Idle, New, Rename, ListLines, Delete, Later, Numbered, Immediate, command_of, print_of}
+use Rattle.session_model.specs.Commands.{Login, Naming, Nameless, Named, Misnamed, Range, Command, Hello, Bye, BadBye, Idle, New, Rename, ListLines, Delete, Run, Continue, WrongTail, Later, Numbered, Immediate, command_of}
 use Rattle.job_model.specs.Play.{at_start, fuel_for, play, End, Gave, Broke, Finished, Played, told_by}
 use Rattle.job_model.specs.PlayLaws.{Begins}
 use Rattle.job_model.specs.Texts.{line_end, job_expired}
 use Rattle.line_editor.specs.Lines.{Lines, within, without, listing}
+use Rattle.program_model.specs.declared.refusals.LowerRefusal.{LowerRefusal}
+use Rattle.program_model.specs.Program.{Program, Position}
+use Rattle.program_model.specs.Job.{Job}
+use Rattle.program_model.specs.Job as program
+use Rattle.program_model.specs.Printing.{written}
+use Rattle.program_model.specs.Reports.{ended_screen}
+use Rattle.program_model.specs.Running.{no_home, cleared, runs_cleared, continues, runs_line}
+use Rattle.program_model.specs.Soundness.{refusal_of, refusal_now}
+use Rattle.stage_forms.specs.Stage.{are_in_stage}
+use Rattle.terminal_line.specs.Columns.{column_of, fresh_text}
 use Rattle.session_model.specs.Editing.{Edited, Accepted, Refused, edited}
-use Rattle.session_model.specs.Texts.{ready, please_say_hello, invalid_entry, already_logged_in, illegal_command, not_in_stage, bye, illegal_file_name, refusal_text}
+use Rattle.session_model.specs.Texts.{ready, please_say_hello, invalid_entry, already_logged_in, illegal_command, not_in_stage, bye, illegal_file_name, cant_continue, refusal_text, lowering_text}
 
 -- THE SESSION
 
--- the account that it acts for, or none before its login; the bytes on the screen; the keys left
-pub record Session : Type 0 where
+-- R is how the place of a statement is kept.
+pub record Session (R : Type 0) : Type 0 where
+  -- the account that it acts for, or none before its login
   pub account : Option Account
-  pub screen : List ℕ
-  pub keys : List (List ℕ)
   -- the name of the program in memory, and its lines
   pub name : List ℕ
   pub lines : Lines
+  -- what its programs keep, with the bytes on the screen and the keys left
+  pub job : Job R
+  -- the STOP behind which CONT goes on
+  pub stop : Option (program.Leaving R)
 
 -- it is left by BYE, and at the end of its keys
 pub data Leaving : Type 0 where
   Ended : Leaving
 
-abbrev pub Step : Type 0
-Step = Act Leaving Session Unit
+abbrev pub Step : Type 0 → Type 0
+Step R = Act Leaving (Session R) Unit
+
+abbrev pub with_job : {R : Type 0} → Job R → Session R → Session R
+with_job j s = record s { job = j }
 
 -- bytes are written at the end of the screen
-abbrev pub says : List ℕ → Session → Session
-says text s = record s { screen = s.screen ++ text }
+abbrev pub says : {R : Type 0} → List ℕ → Session R → Session R
+says text s = with_job (written text s.job) s
 
-abbrev pub acts_for : Account → Session → Session
+abbrev pub acts_for : {R : Type 0} → Account → Session R → Session R
 acts_for account s = record s { account = Some account }
 
-abbrev pub keys_are : List (List ℕ) → Session → Session
-keys_are keys s = record s { keys = keys }
+abbrev pub keys_are : {R : Type 0} → List (List ℕ) → Session R → Session R
+keys_are keys s = with_job (record s.job { keys = keys }) s
+
+-- a new line, where the screen is not at the start of one
+abbrev pub fresh : {R : Type 0} → Session R → Session R
+fresh s = says (fresh_text (column_of s.job.screen)) s
+
+abbrev pub is_ready : {R : Type 0} → Session R → Session R
+is_ready s = says ready (fresh s)
 
 -- a command that is done, with what it writes before Ready
-abbrev pub answered : List ℕ → Session → Step
-answered text s = Gives tt (says ready (says text s))
+abbrev pub answered : {R : Type 0} → List ℕ → Session R → Step R
+answered text s = Gives tt (is_ready (says text s))
 
 -- HELLO: the reply decides
-abbrev pub entered : Account → Reply → Session → Step
-entered account Done s = Gives tt (says ready (acts_for account s))
+abbrev pub entered : {R : Type 0} → Account → Reply → Session R → Step R
+entered account Done s = Gives tt (is_ready (acts_for account s))
 entered account (Failed number) s = Gives tt (says invalid_entry s)
 entered account reply s = Breaks Gone s
 
-abbrev pub hello : Option Login → Session → Step
+abbrev pub hello : {R : Type 0} → Option Login → Session R → Step R
 hello None s = Gives tt (says invalid_entry s)
 hello (Some login) s = ask (request.Login login.account login.password) s then entered login.account
 
 -- BYE, and the end of the keys: who is logged in logs out
-abbrev pub log_out : Session → Step
+abbrev pub log_out : {R : Type 0} → Session R → Step R
 log_out s = ask request.Logout s then λ reply s. Breaks (Left Ended) (says bye s)
 
-abbrev pub leave : Option Account → Session → Step
+abbrev pub leave : {R : Type 0} → Option Account → Session R → Step R
 leave None s = Breaks (Left Ended) s
 leave (Some account) s = log_out s
 
@@ -74,115 +100,207 @@ leave (Some account) s = log_out s
 abbrev pub no_name : List ℕ
 no_name = codes "NONAME"
 
-abbrev pub named : List ℕ → Session → Session
+abbrev pub named : {R : Type 0} → List ℕ → Session R → Session R
 named name s = record s { name = name }
 
-abbrev pub with_lines : Lines → Session → Session
-with_lines lines s = record s { lines = lines }
+-- other lines: CONT can go on behind no STOP of theirs
+abbrev pub with_lines : {R : Type 0} → Lines → Session R → Session R
+with_lines lines s = record s { lines = lines; stop = None }
 
--- NEW: an empty program of that name
-abbrev pub begins_new : Naming → Session → Step
-begins_new Nameless s = answered [] (named no_name (with_lines [] s))
-begins_new (Named name) s = answered [] (named name (with_lines [] s))
+-- NEW: an empty program of that name, and what a program finds that begins
+abbrev pub emptied : {R : Type 0} → Session R → Session R
+emptied s = with_lines [] (with_job (cleared [] s.job) s)
+
+abbrev pub begins_new : {R : Type 0} → Naming → Session R → Step R
+begins_new Nameless s = answered [] (named no_name (emptied s))
+begins_new (Named name) s = answered [] (named name (emptied s))
 begins_new Misnamed s = answered illegal_file_name s
 
-abbrev pub renames : Naming → Session → Step
+abbrev pub renames : {R : Type 0} → Naming → Session R → Step R
 renames Nameless s = answered illegal_command s
 renames (Named name) s = answered [] (named name s)
 renames Misnamed s = answered illegal_file_name s
 
--- LIST writes the program's name in front, and LISTNH does not
-abbrev pub headed : Bool → Session → Session
+-- LIST and RUN write the program's name in front, and LISTNH and RUNNH do not
+abbrev pub headed : {R : Type 0} → Bool → Session R → Session R
 headed true s = says (s.name ++ line_end) s
 headed false s = s
 
-abbrev pub lists : Bool → Option Range → Session → Step
+abbrev pub lists : {R : Type 0} → Bool → Option Range → Session R → Step R
 lists with_name None s = answered illegal_command s
 lists with_name (Some range) s = answered (listing (within range.from range.to s.lines)) (headed with_name s)
 
-abbrev pub deletes : Option Range → Session → Step
+abbrev pub deletes : {R : Type 0} → Option Range → Session R → Step R
 deletes None s = answered illegal_command s
 deletes (Some range) s = answered [] (with_lines (without range.from range.to s.lines) s)
 
 -- a program line that is stored, or deletes one, writes nothing
-abbrev pub takes_edit : Edited → Session → Step
+abbrev pub takes_edit : {R : Type 0} → Edited → Session R → Step R
 takes_edit (Accepted lines) s = Gives tt (with_lines lines s)
 takes_edit (Refused text) s = answered text s
 
--- IMMEDIATE MODE
+-- what runs no program
+abbrev pub rests : {R : Type 0} → Judge → Command → Session R → Step R
+rests judge (Hello login) s = answered already_logged_in s
+rests judge Bye s = log_out s
+rests judge BadBye s = answered illegal_command s
+rests judge Idle s = Gives tt s
+rests judge (New naming) s = begins_new naming s
+rests judge (Rename naming) s = renames naming s
+rests judge (ListLines with_name range) s = lists with_name range s
+rests judge (Delete range) s = deletes range s
+rests judge WrongTail s = answered illegal_command s
+rests judge Later s = answered not_in_stage s
+rests judge (Numbered number rest) s = takes_edit (edited judge number rest s.lines) s
+rests judge other s = Gives tt s
 
--- a line of immediate mode: it is refused, or it is done where it is PRINT of one sum of literals
-abbrev pub sum_text : Option ℤ → List ℕ
-sum_text (Some value) = printed value ++ line_end
-sum_text None = not_in_stage
+-- PROGRAMS THAT RUN
 
-abbrev pub immediate_text : Verdict → Option ℤ → List ℕ
-immediate_text (RefusedFor cause) value = refusal_text cause
-immediate_text (HasTree tree) value = sum_text value
+-- the statements of a line
+abbrev pub statements_by : Verdict → List StatementTree
+statements_by (HasTree tree) = line_statements tree
+statements_by (RefusedFor cause) = []
 
-abbrev pub visitor_acts : Command → Session → Step
+-- the program that the lines in memory spell
+abbrev pub program_by : Judge → Lines → Program
+program_by judge lines = map (λ line. record { number = line.0; statements = statements_by (judge line.1) }) lines
+
+-- The session outlives what a program does in it, but where the job's calls are used up.
+abbrev pub outlived : {R : Type 0} → (Break (program.Leaving R) → Job R → Session R) → Session R → Break (program.Leaving R) → Job R → Step R
+outlived over s Gone j = Breaks Gone (with_job j s)
+outlived over s why j = Gives tt (over why j)
+
+abbrev pub outlives : {R A : Type 0} → (Break (program.Leaving R) → Job R → Session R) → Session R → program.Deed R A → Step R
+outlives over s (Gives value j) = Gives tt (over (Left program.Ended) j)
+outlives over s (Breaks why j) = outlived over s why j
+outlives over s (Asks request by) = Asks request (λ reply. outlives over s (by reply))
+outlives over s (Takes j rest) = Takes (with_job j s) (outlives over s rest)
+
+-- what is written at its end, and Ready
+abbrev pub reported : {R : Type 0} → Session R → Break (program.Leaving R) → Job R → Session R
+reported s why j = is_ready (with_job (record j { screen = ended_screen why j }) s)
+
+-- a STOP is kept for CONT, and no other end
+abbrev pub stop_by : {R : Type 0} → Break (program.Leaving R) → Option (program.Leaving R)
+stop_by (Left program.Ended) = None
+stop_by (Left stop) = Some stop
+stop_by why = None
+
+abbrev pub run_is_over : {R : Type 0} → Session R → Break (program.Leaving R) → Job R → Session R
+run_is_over s why j = record (reported s why j) { stop = stop_by why }
+
+-- RUN: what is refused before it runs leaves the memory cleared
+abbrev pub runs_unless : Option LowerRefusal → Program → ℕ → Session Position → Step Position
+runs_unless (Some refusal) program most s = answered (lowering_text refusal) s
+runs_unless None program most s = outlives (run_is_over s) s (runs_cleared program most s.job)
+
+abbrev pub begun : Program → Session Position → Session Position
+begun program s = record s { job = cleared program s.job; stop = None }
+
+abbrev pub runs : Program → ℕ → Session Position → Step Position
+runs program most s = runs_unless (refusal_of program) program most (begun program s)
+
+-- CONT
+abbrev pub goes_on : Program → ℕ → Option (program.Leaving Position) → Session Position → Step Position
+goes_on program most None s = answered cant_continue s
+goes_on program most (Some stop) s = outlives (run_is_over s) s (continues program most stop s.job)
+
+-- a line of immediate mode, which may be refused before it runs, and leaves a STOP as it is
+abbrev pub line_unless : Option LowerRefusal → List StatementTree → ℕ → Session Position → Step Position
+line_unless (Some refusal) statements most s = answered (lowering_text refusal) s
+line_unless None statements most s = outlives (reported s) s (runs_line statements most s.job)
+
+-- it has a tree
+abbrev pub does_line : List StatementTree → ℕ → Session Position → Step Position
+does_line statements most s =
+    if are_in_stage statements then line_unless (refusal_now statements) statements most s else answered not_in_stage s
+
+abbrev pub immediate : Verdict → ℕ → Session Position → Step Position
+immediate (RefusedFor cause) most s = answered (refusal_text cause) s
+immediate (HasTree tree) most s = does_line (line_statements tree) most s
+
+-- KEY LINES
+
+abbrev pub visitor_acts : {R : Type 0} → Command → Session R → Step R
 visitor_acts (Hello login) s = hello login s
 visitor_acts Bye s = Breaks (Left Ended) s
 visitor_acts BadBye s = answered illegal_command s
 visitor_acts other s = Gives tt (says please_say_hello s)
 
-abbrev pub user_acts : Judge → Command → Session → Step
-user_acts judge (Hello login) s = answered already_logged_in s
-user_acts judge Bye s = log_out s
-user_acts judge BadBye s = answered illegal_command s
-user_acts judge Idle s = Gives tt s
-user_acts judge (New naming) s = begins_new naming s
-user_acts judge (Rename naming) s = renames naming s
-user_acts judge (ListLines with_name range) s = lists with_name range s
-user_acts judge (Delete range) s = deletes range s
-user_acts judge Later s = answered not_in_stage s
-user_acts judge (Numbered number rest) s = takes_edit (edited judge number rest s.lines) s
-user_acts judge (Immediate statement) s =
-    answered (immediate_text (judge statement) (print_of statement)) s
+-- a program runs for so many statements at the most
+abbrev pub user_acts : Judge → ℕ → Command → Session Position → Step Position
+user_acts judge most (Run with_name) s = runs (program_by judge s.lines) most (headed with_name s)
+user_acts judge most Continue s = goes_on (program_by judge s.lines) most s.stop s
+user_acts judge most (Immediate statement) s = immediate (judge statement) most s
+user_acts judge most command s = rests judge command s
 
-abbrev pub acts : Judge → Option Account → Command → Session → Step
-acts judge None command s = visitor_acts command s
-acts judge (Some account) command s = user_acts judge command s
+abbrev pub acts : Judge → ℕ → Option Account → Command → Session Position → Step Position
+acts judge most None command s = visitor_acts command s
+acts judge most (Some account) command s = user_acts judge most command s
 
 -- one key line: its echo, and what it asks for
-abbrev pub line_acts : Judge → List ℕ → Session → Step
-line_acts judge line s = acts judge s.account (command_of line) (says (line ++ line_end) s)
+abbrev pub line_acts : Judge → ℕ → List ℕ → Session Position → Step Position
+line_acts judge most line s = acts judge most s.account (command_of line) (says (line ++ line_end) s)
 
 -- The next key line is taken, where there is one: it is no longer among those that are left.
-abbrev pub TakesKey : Session → Session → Option (List ℕ) → Type 0
-TakesKey s t None = (s.keys ≡ []) × (t ≡ s)
-TakesKey s t (Some line) = (s.keys ≡ line ∷ t.keys) × (t ≡ keys_are t.keys s)
+abbrev pub TakesKey : {R : Type 0} → Session R → Session R → Option (List ℕ) → Type 0
+TakesKey s t None = (s.job.keys ≡ []) × (t ≡ s)
+TakesKey s t (Some line) = (s.job.keys ≡ line ∷ t.job.keys) × (t ≡ keys_are t.job.keys s)
 
 -- what is done with the next key line; behind the last one comes the end of the keys
-abbrev pub with_next : (List ℕ → Session → Step) → List (List ℕ) → Session → Step
+abbrev pub with_next : (List ℕ → Session Position → Step Position) → List (List ℕ) → Session Position → Step Position
 with_next act [] s = leave s.account s
 with_next act (line ∷ keys) s = act line (keys_are keys s)
 
 -- Key lines one after another, so many at the most. Each is taken from those that are left, so as
 -- many as there are at first are enough.
-abbrev pub session : Judge → ℕ → Session → Step
-session judge zero s = leave s.account s
-session judge (suc most) s =
-    with_next (λ line s. line_acts judge line s then λ _ s. session judge most s) s.keys s
+abbrev pub session : Judge → ℕ → ℕ → Session Position → Step Position
+session judge most zero s = leave s.account s
+session judge most (suc count) s =
+    with_next (λ line s. line_acts judge most line s then λ _ s. session judge most count s) s.job.keys s
+
+-- a job that has run nothing
+abbrev pub new_job : {R : Type 0} → List (List ℕ) → Job R
+new_job keys = record {
+  memory = empty;
+  buffers = replicate 12 (replicate 512 0);
+  screen = [];
+  keys = keys;
+  trap = untouched;
+  returns = [];
+  limits = [];
+  item = 0;
+  line = 0;
+  home = no_home;
+  frames = [];
+}
 
 -- nobody is logged in, nothing was written, and there is no program
-abbrev pub opening : List (List ℕ) → Session
-opening keys = record { account = None; screen = []; keys = keys; name = no_name; lines = [] }
+abbrev pub opening : {R : Type 0} → List (List ℕ) → Session R
+opening keys = record { account = None; name = no_name; lines = []; job = new_job keys; stop = None }
 
-abbrev pub whole_session : Judge → List (List ℕ) → Step
-whole_session judge keys = session judge (length keys) (opening keys)
+abbrev pub whole_session : Judge → ℕ → List (List ℕ) → Step Position
+whole_session judge most keys = session judge most (length keys) (opening keys)
 
 -- THE TALK
 
--- the screen of a session that is over; whose calls are used up is told so
-abbrev pub shown : End Leaving Session Unit → List ℕ
-shown (Gave done s) = s.screen
-shown (Broke Gone s) = s.screen ++ job_expired
-shown (Broke why s) = s.screen
+-- whose calls are used up is told so
+abbrev pub expired : {R : Type 0} → Session R → Session R
+expired s = says job_expired (fresh s)
+
+-- the screen of a session that is over
+abbrev pub shown : {R : Type 0} → End Leaving (Session R) Unit → List ℕ
+shown (Gave done s) = s.job.screen
+shown (Broke Gone s) = (expired s).job.screen
+shown (Broke why s) = s.job.screen
+
+-- more statements than there is fuel for
+abbrev pub statements_for : List Reply → ℕ
+statements_for replies = suc (fuel_for replies)
 
 abbrev pub talk : Judge → List (List ℕ) → List Reply → Played (List ℕ)
 talk judge keys replies =
-    told_by shown (play (whole_session judge keys) at_start (fuel_for replies) replies)
+    told_by shown (play (whole_session judge (statements_for replies) keys) at_start (fuel_for replies) replies)
 
 -- It holds of the judge by the grammar: there is one, and it holds of whoever judges so.
 abbrev pub ByGrammar : (Judge → Type 0) → Type 0

@@ -37,7 +37,7 @@ pub fn run_jobs<R: Threads + Wait + Sync, B: JobBody + Sync, P: Pacer + Sync>(
     requires { jobs ≡ length monitor.jobs }
     ensures { IfOk result (λ end. IsRun (B.does body.now) monitor jobs end.screens.items end.run) }
 {
-    let (gate, mut spare) = Gate::new(alloc, monitor, jobs)?;
+    let (gate, mut spare) = Gate::new(alloc, monitor)?;
     let seats = split_all(alloc, &gate, &mut spare, jobs)?;
     let backs = run_all(rt, alloc, &gate, body, pacer, seats)?;
     let screens = join_all(alloc, &gate, &mut spare, backs)?;

@@ -318,10 +318,11 @@ fn lines_are_judged_by_the_grammar(rt: HostRuntime) -> Result<(), Fail> {
         ("&", "?Stray byte"),
         ("10 PRINT A", "?Floating variable"),
         ("0 PRINT 1%", "?Illegal line number"),
-        ("GOTO 10", "?Not in this stage"),
+        ("GOTO 10", "?Illegal in immediate mode"),
         ("LIST", "NONAME"),
-        ("RUN", "?Not in this stage"),
-        ("PRINT (2%)", "?Not in this stage"),
+        ("RUN", "NONAME"),
+        ("CAT", "?Not in this stage"),
+        ("PRINT (2%)", " 2 "),
         ("print 2 + 3%", " 5 "),
     ] {
         assert_line(&rt, line, answer)?;
@@ -335,6 +336,219 @@ fn lines_are_judged_by_the_grammar(rt: HostRuntime) -> Result<(), Fail> {
         line.push_str(")")?;
     }
     assert_line(&rt, line.as_str(), "?Expression too deep")
+}
+
+/// Asserts what the program shows of lines behind the login, each given with what it shows.
+fn assert_lines<R: AllocGlobal + Abort + Threads + Wait + Sync>(
+    rt: &R,
+    lines: &[(&str, &str)],
+) -> Result<(), Fail> {
+    let alloc = rt.alloc();
+    let mut deck = HEAD.to_vec(alloc)?;
+    deck.extend_from_slice(b">HELLO 100,5;DEMO\n")?;
+    let mut screen = String::from_str(alloc, "HELLO 100,5;DEMO\r\nReady\r\n")?;
+    for (line, shown) in lines {
+        deck.push(b'>')?;
+        deck.extend_from_slice(line.as_bytes())?;
+        deck.push(b'\n')?;
+        screen.push_str(line)?;
+        screen.push_str("\r\n")?;
+        screen.push_str(shown)?;
+    }
+    deck.extend_from_slice(b"END\n")?;
+    screen.push_str("Bye\r\n")?;
+    let count = screen.len();
+    let want = format!(in alloc; "TERMINAL T1 {count}\n{screen}\n")?;
+    let ended = call(rt, alloc, "run", deck.as_slice(), &[], &[])?;
+    assert_eq!(rt; ended.written.as_slice(), want.as_bytes());
+    assert_eq!(rt; ended.status, 0);
+    Ok(())
+}
+
+#[test]
+fn expressions_of_immediate_lines(rt: HostRuntime) -> Result<(), Fail> {
+    let modifiers = "PRINT I%; FOR I%=1% TO 3% IF I%=0%";
+    assert_lines(
+        &rt,
+        &[
+            ("PRINT 32767%+1%; -7%/2%", "-32768 -3 \r\nReady\r\n"),
+            ("PRINT 'AB'='AB  '; 'AB'=='AB  '", "-1  0 \r\nReady\r\n"),
+            (
+                "PRINT ASCII(CVT%$(258%)); CVT$%(CVT%$(258%)); SWAP%(258%)",
+                " 1  258  513 \r\nReady\r\n",
+            ),
+            (
+                "PRINT LEFT('ABCDE',2%);MID('ABCDE',2%,3%);RIGHT('ABCDE',4%)",
+                "ABBCDDE\r\nReady\r\n",
+            ),
+            ("PRINT 1%,2%", " 1             2 \r\nReady\r\n"),
+            (modifiers, " 1  2  3 \r\nReady\r\n"),
+            (modifiers, "Ready\r\n"),
+            ("10 A=1", "?Floating variable\r\nReady\r\n"),
+            ("LISTNH", "Ready\r\n"),
+        ],
+    )
+}
+
+#[test]
+fn errors_and_traps(rt: HostRuntime) -> Result<(), Fail> {
+    assert_lines(
+        &rt,
+        &[
+            ("10 ON ERROR GOTO 100", ""),
+            ("20 PRINT 1%; : PRINT 6%/D%; : PRINT 3%", ""),
+            ("30 END", ""),
+            ("100 D%=2% : RESUME", ""),
+            ("RUNNH", " 1  3  3 \r\nReady\r\n"),
+            ("100 PRINT 2%/0%", ""),
+            ("RUNNH", " 1 \r\n?Division by 0 at line 100\r\nReady\r\n"),
+            ("NEW", "Ready\r\n"),
+            ("10 PRINT 1%/0%", ""),
+            ("RUNNH", "?Division by 0 at line 10\r\nReady\r\n"),
+            ("10 GOTO 20", ""),
+            ("RUNNH", "?Undefined line at line 10\r\nReady\r\n"),
+        ],
+    )
+}
+
+#[test]
+fn functions_and_loops(rt: HostRuntime) -> Result<(), Fail> {
+    assert_lines(
+        &rt,
+        &[
+            ("10 DEF FNF%(N%)", ""),
+            ("20 IF N%<2% THEN FNF%=1% ELSE FNF%=N%*FNF%(N%-1%)", ""),
+            ("30 FNEND", ""),
+            ("40 PRINT FNF%(7%)", ""),
+            ("RUNNH", " 5040 \r\nReady\r\n"),
+            ("40 PRINT FNF%(40%)", ""),
+            ("RUNNH", "?Nested too deep at line 20\r\nReady\r\n"),
+            ("NEW", "Ready\r\n"),
+            ("10 FOR I%=3% TO 1%", ""),
+            ("20 NEXT I%", ""),
+            ("30 PRINT I%", ""),
+            ("RUNNH", " 3 \r\nReady\r\n"),
+            ("NEW", "Ready\r\n"),
+            ("10 STOP", ""),
+            ("20 PRINT 2%", ""),
+            ("RUNNH", "Stop at line 10\r\nReady\r\n"),
+            ("CONT", " 2 \r\nReady\r\n"),
+        ],
+    )
+}
+
+/// A line in which a call of FNF% stands inside 64 levels, the most that are read: 57 openings,
+/// each ended by a parenthesis, and seven parentheses.
+fn deepest_line(alloc: Global, opening: &str) -> Result<String, Fail> {
+    let mut line = String::from_str(alloc, "80 FNF%=")?;
+    for _ in 0..57 {
+        line.push_str(opening)?;
+    }
+    line.push_str("(((((((FNF%")?;
+    for _ in 0..64 {
+        line.push_str(")")?;
+    }
+    Ok(line)
+}
+
+/// Asserts what the program writes when these lines are typed at each of two terminals, of which
+/// one at least has a thread that was made for it. The last line shows the answer.
+fn assert_at_two_terminals<R: AllocGlobal + Abort + Threads + Wait + Sync>(
+    rt: &R,
+    lines: &[&str],
+    answer: &str,
+) -> Result<(), Fail> {
+    let alloc = rt.alloc();
+    let mut keys = String::from_str(alloc, ">HELLO 100,5;DEMO\n")?;
+    let mut screen = String::from_str(alloc, "HELLO 100,5;DEMO\r\nReady\r\n")?;
+    for line in lines {
+        keys.push_str(">")?;
+        keys.push_str(line)?;
+        keys.push_str("\n")?;
+        screen.push_str(line)?;
+        screen.push_str("\r\n")?;
+    }
+    screen.push_str(answer)?;
+    screen.push_str("\r\nReady\r\nBye\r\n")?;
+    let mut deck = HEAD.to_vec(alloc)?;
+    deck.extend_from_slice(keys.as_bytes())?;
+    deck.extend_from_slice(b"TERMINAL T2\n")?;
+    deck.extend_from_slice(keys.as_bytes())?;
+    deck.extend_from_slice(b"END\n")?;
+    let count = screen.len();
+    let want = format!(in alloc; "TERMINAL T1 {count}\n{screen}\nTERMINAL T2 {count}\n{screen}\n")?;
+    let ended = call(rt, alloc, "run", deck.as_slice(), &[], &[])?;
+    assert_eq!(rt; ended.written.as_slice(), want.as_bytes());
+    assert_eq!(rt; ended.status, 0);
+    Ok(())
+}
+
+/// Asserts the answer of a program of these calls, each made inside 64 levels.
+fn assert_deepest_run<R: AllocGlobal + Abort + Threads + Wait + Sync>(
+    rt: &R,
+    calls: &str,
+    opening: &str,
+    answer: &str,
+) -> Result<(), Fail> {
+    let deepest = deepest_line(rt.alloc(), opening)?;
+    let lines = [
+        calls,
+        "20 A%(1)=2 : A%(2)=1",
+        "30 PRINT FNF%",
+        "40 END",
+        "50 DEF FNF%",
+        "60 N%=N%-1",
+        "70 IF N%=0 THEN 100",
+        deepest.as_str(),
+        "90 GOTO 110",
+        "100 FNF%=1",
+        "110 FNEND",
+        "RUNNH",
+    ];
+    assert_at_two_terminals(rt, &lines, answer)
+}
+
+/// 32 calls run inside one another, each inside 64 levels.
+#[test]
+fn the_deepest_run_in_a_thread(rt: HostRuntime) -> Result<(), Fail> {
+    for (calls, opening, answer) in [
+        ("10 N%=32", "1+(", " 1768 "),
+        ("10 N%=32", "A%(", " 2 "),
+        ("10 N%=33", "A%(", "?Nested too deep at line 80"),
+    ] {
+        assert_deepest_run(&rt, calls, opening, answer)?;
+    }
+    Ok(())
+}
+
+#[test]
+fn the_end_of_the_keys_is_an_error_of_input(rt: HostRuntime) -> Result<(), Fail> {
+    assert_lines(
+        &rt,
+        &[
+            ("10 ON ERROR GOTO 40", ""),
+            ("20 READ A% : PRINT A% : GOTO 20", ""),
+            ("30 DATA 7", ""),
+            ("40 PRINT ERR : IF ERR=57% THEN RESUME 50 ELSE END", ""),
+            ("50 INPUT A%", ""),
+            ("RUNNH", " 7 \r\n 57 \r\n?  11 \r\nReady\r\n"),
+        ],
+    )
+}
+
+/// An account of five calls, and a program that runs for ever.
+#[test]
+fn a_limit_of_five_calls(rt: HostRuntime) -> Result<(), Fail> {
+    let alloc = rt.alloc();
+    let deck = b"RSTS-DECK 1\nDISK 8\nACCOUNT 100,5 DEMO 5\nTERMINAL T1\n\
+        >HELLO 100,5;DEMO\n>10 GOTO 10\n>RUNNH\nEND\n";
+    let want =
+        b"TERMINAL T1 58\nHELLO 100,5;DEMO\r\nReady\r\n10 GOTO 10\r\nRUNNH\r\n?Job expired\r\n\n\
+        HISTORY 6\n0 LOGIN 100,5 44454d4f = DONE\n0 TICK = DONE\n0 TICK = DONE\n0 TICK = DONE\n\
+        0 TICK = DONE\n0 TICK = EXPIRED\n";
+    let ended = call_with(&rt, alloc, &["run", "--history"], deck, &[], &[])?;
+    assert_eq!(rt; ended.written.as_slice(), want.as_slice());
+    Ok(())
 }
 
 /// Runs an input between ends in memory. What must come is no empty promise: here a deck is run,

@@ -1,4 +1,3 @@
-use Rattle.std.proofs.Common.{◌≡◌, arith}
 use Rattle.std.specs.Prelude.{Err}
 use Rattle.program_model.specs.declared.values.Value.TheVariants.{Number}
 use Rattle.program_model.specs.Variables.{content_of}

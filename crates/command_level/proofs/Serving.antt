@@ -1,0 +1,182 @@
+-- From what a call does of the code's session to what it does of the session for which that stands.
+use Rattle.std.proofs.Common.{◌≡◌, ℕ, ◌≤◌, List, [], ◌∷◌, Option, Some, None, Ok, Err, Result, refl, sym, ap, subst, ◌∙◌, append-nil}
+use Rattle.std.specs.Prelude.{IfOk}
+use Rattle.std.specs.Option.{option_map}
+use Rattle.basic_values.specs.declared.failures.NoMemory.{NoMemory}
+use Rattle.basic_values.specs.declared.failures.Trouble.{Trouble}
+use Rattle.monitor_calls.specs.Pairs.{Pair}
+use Rattle.monitor_calls.specs.declared.calls.Request.TheVariants.{Tick}
+use Rattle.job_model.specs.Act.{Act, Gives, Breaks, Asks, Takes, Break, Gone, Left, over}
+use Rattle.job_model.specs.Play.{Clock, counted, ticked}
+use Rattle.job_model.specs.Follow.{Path, here, asked, quiet, tick, gone, Reaches, Follows, unless_memory}
+use Rattle.program_model.specs.Program.{Program, Position}
+use Rattle.program_model.specs.Job as program
+use Rattle.program_model.specs.Job.{Job}
+use Rattle.program_model.specs.Control.{Doing}
+use Rattle.program_model.specs.Running.{Coming}
+use Rattle.polish_code.specs.Walk.{Spot}
+use Rattle.polish_code.specs.Lowered.{lowered}
+use Rattle.basic_eval.specs.declared.exits.Exit.{Exit}
+use Rattle.basic_interpreter.specs.Meaning.{Came, Means}
+use Rattle.session_model.specs.Talk as talk
+use Rattle.session_model.specs.Talk.{Step, Leaving, outlives, with_job}
+use Rattle.session_model.proofs.Ends.{Ends}
+use Rattle.command_level.specs.declared.session.Session.{Session}
+use Rattle.command_level.specs.declared.session.Onward.{Onward}
+use Rattle.command_level.specs.declared.session.Onward.TheVariants as onward
+use Rattle.command_level.specs.Onwards.{goes}
+use Rattle.command_level.specs.Seen.{seen}
+use Rattle.command_level.specs.Standing.{low_session, StopFits, LeftBy, Serves}
+use Rattle.command_level.proofs.Lows.{lows, Fit}
+
+-- PATHS
+
+module _ {K L S T A : Type 0} (ways : K → L) (put : S → T) where
+  -- what a path of the whole is of the part
+  pub record Under (c d : Clock) (m : Act K S A) (ps : List Pair) (whole : Act L T A) : Type 0 where
+    pub left : Act K S A
+    pub path : Path c m ps d left
+    pub same : over ways put left ≡ whole
+
+  at_break : (i d : Clock) (why : Break L) (t : T) (qs : List Pair) (whole : Act L T A) (Holds : Clock → List Pair → Act L T A → Type 0) → Path i (Breaks why t) qs d whole → Holds i [] (Breaks why t) → Holds d qs whole
+  at_break i d why t qs whole Holds here h = h
+
+  pub path_under : (c d : Clock) (m : Act K S A) (ps : List Pair) (whole : Act L T A) → Path c (over ways put m) ps d whole → Under c d m ps whole
+  path_under c d (Gives a s) ps whole here = record { left = Gives a s; path = here; same = refl }
+  path_under c d (Breaks why s) ps whole here = record { left = Breaks why s; path = here; same = refl }
+  path_under c d (Asks r by) ps whole here = record { left = Asks r by; path = here; same = refl }
+  path_under c d (Asks r by) ps whole (asked {reply = x} {pairs = qs} p) =
+      let u = path_under c d (by x) qs whole p in record { left = u.left; path = asked u.path; same = u.same }
+  path_under c d (Takes s rest) ps whole here = record { left = Takes s rest; path = here; same = refl }
+  path_under c d (Takes s rest) ps whole (quiet h p) =
+      let u = path_under (counted c) d rest ps whole p in record { left = u.left; path = quiet h u.path; same = u.same }
+  path_under c d (Takes s rest) ps whole (tick {pairs = qs} h g p) =
+      let u = path_under (ticked c) d rest qs whole p in record { left = u.left; path = tick h g u.path; same = u.same }
+  path_under c d (Takes s rest) ps whole (gone {e = i} {reply = x} {pairs = qs} h g p) =
+      at_break i d Gone (put s) qs whole (λ d qs whole. Under c d (Takes s rest) ((Tick, x) ∷ qs) whole) p (record { left = Breaks Gone s; path = gone h g here; same = refl })
+
+-- an end's state is one of those in which a tree may end
+ends_path : {L S A : Type 0} (holds : S → Type 0) (c d : Clock) (m left : Act L S A) (ps : List Pair) → Path c m ps d left → Ends holds m → Ends holds left
+ends_path holds c d m left ps here h = h
+ends_path holds c d m left ps (asked {reply = x} {by = by} {pairs = qs} p) h = ends_path holds c d (by x) left qs p (h x)
+ends_path holds c d m left ps (quiet {rest = t} e p) h = ends_path holds _ d t left ps p h.1
+ends_path holds c d m left ps (tick {rest = t} {pairs = qs} e g p) h = ends_path holds _ d t left qs p h.1
+ends_path holds c d m left ps (gone {e = i} {s = s} {pairs = qs} e g p) h = ends_path holds i d (Breaks Gone s) left qs p h.0
+
+path_outlives : {R A : Type 0} (during : Break (program.Leaving R) → Job R → talk.Session R) (s : talk.Session R) (c d : Clock) (m left : program.Deed R A) (ps : List Pair) → Path c m ps d left → Path c (outlives during s m) ps d (outlives during s left)
+path_outlives during s c d m left ps here = here
+path_outlives during s c d m left ps (asked {reply = x} {by = by} {pairs = qs} p) = asked (path_outlives during s c d (by x) left qs p)
+path_outlives during s c d m left ps (quiet {rest = t} h p) = quiet h (path_outlives during s _ d t left ps p)
+path_outlives during s c d m left ps (tick {rest = t} {pairs = qs} h g p) = tick h g (path_outlives during s _ d t left qs p)
+path_outlives during s c d m left ps (gone {e = i} {s = j} {pairs = qs} h g p) = gone h g (path_outlives during s i d (Breaks Gone j) left qs p)
+
+-- WHAT IS LEFT
+
+-- an act that goes onward with the places of a program's code goes so without
+module _ (p : Program) where
+  pub record GoesAs (m : Step Position) (on : Onward) (u : talk.Session Spot) : Type 0 where
+    pub state : talk.Session Position
+    pub same : m ≡ goes on state
+    pub low_state : low_session p state ≡ u
+
+  abbrev state_of : talk.Session Spot → Step Spot → talk.Session Spot
+  state_of d (Gives a s) = s
+  state_of d (Breaks why s) = s
+  state_of d (Asks r by) = d
+  state_of d (Takes s rest) = d
+
+  pub goes_as : (m : Step Position) (on : Onward) (u : talk.Session Spot) → lows p m ≡ goes on u → GoesAs m on u
+  goes_as (Gives a s) onward.Next u e = record { state = s; same = refl; low_state = ap (state_of u) e }
+  goes_as (Gives a s) onward.Ended u e = absurd (cc)
+  goes_as (Gives a s) onward.Expired u e = absurd (cc)
+  goes_as (Breaks why s) onward.Next u e = absurd (cc)
+  goes_as (Breaks (Left talk.Ended) s) onward.Ended u e = record { state = s; same = refl; low_state = ap (state_of u) e }
+  goes_as (Breaks Gone s) onward.Ended u e = absurd (cc)
+  goes_as (Breaks why s) onward.Ended u e = absurd (cc)
+  goes_as (Breaks Gone s) onward.Expired u e = record { state = s; same = refl; low_state = ap (state_of u) e }
+  goes_as (Breaks why s) onward.Expired u e = absurd (cc)
+  goes_as (Asks r by) onward.Next u e = absurd (cc)
+  goes_as (Asks r by) onward.Ended u e = absurd (cc)
+  goes_as (Asks r by) onward.Expired u e = absurd (cc)
+  goes_as (Takes s rest) onward.Next u e = absurd (cc)
+  goes_as (Takes s rest) onward.Ended u e = absurd (cc)
+  goes_as (Takes s rest) onward.Expired u e = absurd (cc)
+
+  fits_as : (m : Step Position) (on : Onward) (t : talk.Session Position) → m ≡ goes on t → Fit p m → StopFits p t
+  fits_as m onward.Next t e h = subst (λ m. Fit p m) e h
+  fits_as m onward.Ended t e h = subst (λ m. Fit p m) e h
+  fits_as m onward.Expired t e h = subst (λ m. Fit p m) e h
+
+  -- a step to which the code's session came
+  pub leaves_by : (session : Session) (result : Result Onward NoMemory) (m : Step Position) → IfOk result (λ on. lows p m ≡ goes on (seen session)) → Fit p m
+      → LeftBy session result (option_map (λ t most. t) (unless_memory result (λ on. m)))
+  leaves_by session (Ok on) m e h =
+      let g = goes_as m on (seen session) e in
+      (g.state, record { program = p; low = g.low_state; fits = fits_as m on g.state g.same h }, ap (λ (m : Step Position). Some (λ (most : ℕ). m)) g.same)
+  leaves_by session (Err none) m e h = refl
+
+module _ {P W : Type 0} {who : P → W} {log : P → List Pair} where
+  -- told in other words
+  pub serves_from : {p q : P} {c d : Clock} {step step' : ℕ → Step Position} {session : Session} {result : Result Onward NoMemory} → ((most : ℕ) → step most ≡ step' most) → Serves who log p q c d step' session result → Serves who log p q c d step session result
+  serves_from {p} {q} {c} {d} {step} {step'} {session} {result} same f = subst (λ (step : ℕ → Step Position). Serves who log p q c d step session result) (λ i most. sym (same most) i) f
+
+  -- nothing was asked, and nothing is told
+  pub serves_nothing : {p : P} {c : Clock} {step : ℕ → Step Position} {session : Session} (e : NoMemory) → Serves who log p p c c step session (Err e)
+  serves_nothing {p} {c} {step} e = record { left = None; leaves = refl; follows = record { pairs = []; grew = (refl, sym (append-nil (log p))); bound = 0; reaches = λ most le. (c, step most, here) } }
+
+  -- a call that asks nothing
+  pub serves_same : {p : P} {c : Clock} (prog : Program) (session : Session) (result : Result Onward NoMemory) (m : Step Position) → IfOk result (λ on. lows prog m ≡ goes on (seen session)) → Fit prog m → Serves who log p p c c (λ most. m) session result
+  serves_same {p} {c} prog session (Ok on) m e h = record { left = Some (λ most. m); leaves = leaves_by prog session (Ok on) m e h; follows = record { pairs = []; grew = (refl, sym (append-nil (log p))); bound = 0; reaches = λ most le. here } }
+  serves_same {p} {c} prog session (Err none) m e h = serves_nothing none
+
+  -- a call that runs no program
+  pub serves_rest : {p q : P} {c : Clock} (prog : Program) (session : Session) (result : Result Onward NoMemory) (m : Step Position)
+      → Follows who log p q c c (lows prog m) (unless_memory result (λ on. goes on (seen session))) → Fit prog m → Serves who log p q c c (λ most. m) session result
+  serves_rest {p} {q} {c} prog session (Ok on) m f h =
+      let u = path_under (λ way. way) (low_session prog) c c m f.pairs (goes on (seen session)) f.reaches in
+      record {
+        left = Some (λ most. u.left);
+        leaves = leaves_by prog session (Ok on) u.left u.same (ends_path (StopFits prog) c c m u.left f.pairs u.path h);
+        follows = record { pairs = f.pairs; grew = f.grew; bound = 0; reaches = λ most le. u.path };
+      }
+  serves_rest {p} {q} {c} prog session (Err none) m f h =
+      let u = path_under (λ way. way) (low_session prog) c f.reaches.0 m f.pairs f.reaches.1 f.reaches.2 in
+      record { left = None; leaves = refl; follows = record { pairs = f.pairs; grew = f.grew; bound = 0; reaches = λ most le. (f.reaches.0, u.left, u.path) } }
+
+  -- RUNS
+
+  -- A program was run, and what its end leads to was done. `ends` is that in the code, `during` in the meaning.
+  pub serves_run : {p q : P} {c d : Clock} (prog : Program) (low_way : program.Leaving Position → program.Leaving Spot) (meaning : ℕ → Doing Coming) (after : Job Spot) (end : Result (Unit {0}) (Trouble Exit))
+      (s : talk.Session Position) (during : Break (program.Leaving Position) → Job Position → talk.Session Position)
+      (ends : Option (Step Spot)) (session : Session) (result : Result Onward NoMemory)
+      → Means who log p q c d low_way (lowered prog) meaning after end
+      → ((left : Option (Doing Coming)) → Came low_way (lowered prog) end after left → ends ≡ option_map (λ m. lows prog (outlives during s m)) left)
+      → IfOk result (λ on. ends ≡ Some (goes on (seen session)))
+      → ((m : Doing Coming) → Fit prog (outlives during s m))
+      → Serves who log p q c d (λ most. outlives during s (meaning most)) session result
+  serves_run {p} {q} {c} {d} prog low_way meaning after end s during ends session (Err none) means came told fits = forgets means.left means.reaches
+    where
+      forgets : (left : Option (Doing Coming)) → ((most : ℕ) → means.bound ≤ most → Reaches c (meaning most) means.pairs d left) → Serves who log p q c d (λ most. outlives during s (meaning most)) session (Err none)
+      forgets (Some m) reaches = record { left = None; leaves = refl; follows = record { pairs = means.pairs; grew = means.grew; bound = means.bound; reaches = λ most le. (d, outlives during s m, path_outlives during s c d (meaning most) m means.pairs (reaches most le)) } }
+      forgets None reaches = record { left = None; leaves = refl; follows = record { pairs = means.pairs; grew = means.grew; bound = means.bound; reaches = λ most le. let r = reaches most le in (r.0, outlives during s r.1, path_outlives during s c r.0 (meaning most) r.1 means.pairs r.2) } }
+  serves_run {p} {q} {c} {d} prog low_way meaning after end s during ends session (Ok on) means came told fits = goes_on means.left (came means.left means.came) means.reaches
+    where
+      goes_on : (left : Option (Doing Coming)) → ends ≡ option_map (λ m. lows prog (outlives during s m)) left → ((most : ℕ) → means.bound ≤ most → Reaches c (meaning most) means.pairs d left) → Serves who log p q c d (λ most. outlives during s (meaning most)) session (Ok on)
+      goes_on None e reaches = absurd (no_step (sym e ∙ told))
+        where
+          no_step : None ≡ Some (goes on (seen session)) → ⊥
+          no_step f = cc
+      goes_on (Some m) e reaches =
+          let out = outlives during s m in
+          record {
+            left = Some (λ most. out);
+            leaves = leaves_by prog session (Ok on) out (step_of (sym e ∙ told)) (fits m);
+            follows = record { pairs = means.pairs; grew = means.grew; bound = means.bound; reaches = λ most le. path_outlives during s c d (meaning most) m means.pairs (reaches most le) };
+          }
+        where
+          step_or : Step Spot → Option (Step Spot) → Step Spot
+          step_or t (Some m) = m
+          step_or t None = t
+
+          step_of : Some (lows prog (outlives during s m)) ≡ Some (goes on (seen session)) → lows prog (outlives during s m) ≡ goes on (seen session)
+          step_of f = ap (step_or (goes on (seen session))) f

@@ -1,0 +1,209 @@
+//! Programs that run, STOP and CONT, and lines of immediate mode beside them.
+
+use crate::talks::{HELLO, SYNTAX, assert_lines, assert_talk};
+use monitor_calls::Reply;
+use std::alloc::AllocGlobal;
+use std::test::Fail;
+
+const READY: &str = "Ready\n";
+
+const CANT: &str = "?Can't continue\nReady\n";
+
+const STOPPED: &str = "Stop at line 10\nReady\n";
+
+const ILLEGAL_COMMAND: &str = "?Illegal command\nReady\n";
+
+#[test]
+fn run_and_its_tails(rt: HostRuntime) -> Result<(), Fail> {
+    assert_lines(
+        &rt,
+        &[
+            ("RUN", "NONAME\nReady\n"),
+            ("10 PRINT 1%", ""),
+            ("run", "NONAME\n 1 \nReady\n"),
+            ("  RunNh \t", " 1 \nReady\n"),
+            ("RUNNH 10", ILLEGAL_COMMAND),
+            ("RENAME DEMO", READY),
+            ("RUN", "DEMO\n 1 \nReady\n"),
+            ("RUN DEMO", "?Not in this stage\nReady\n"),
+            ("RUNS", "?Floating variable\nReady\n"),
+            ("CONT 10", ILLEGAL_COMMAND),
+            ("CONT", CANT),
+        ],
+    )
+}
+
+#[test]
+fn what_forbids_cont(rt: HostRuntime) -> Result<(), Fail> {
+    for (line, shown) in [
+        ("20", ""),
+        ("20 STOP", ""),
+        ("DELETE 500", READY),
+        ("NEW", READY),
+    ] {
+        assert_lines(
+            &rt,
+            &[
+                ("10 STOP", ""),
+                ("RUNNH", STOPPED),
+                (line, shown),
+                ("CONT", CANT),
+            ],
+        )?;
+    }
+    Ok(())
+}
+
+#[test]
+fn what_does_not_forbid_cont(rt: HostRuntime) -> Result<(), Fail> {
+    for (line, shown) in [
+        ("", ""),
+        ("LISTNH 10", "10 STOP\nReady\n"),
+        ("RENAME X", READY),
+        ("DELETE", ILLEGAL_COMMAND),
+        ("20 PRINT 1%+", SYNTAX),
+        ("20 OPEN 'A' AS FILE 1%", "?Not in this stage\nReady\n"),
+        ("0 STOP", "?Illegal line number\nReady\n"),
+        ("PRINT 1%/0%", "?Division by 0\nReady\n"),
+        ("END", READY),
+        ("PRINT I%; FOR I%=1% TO 2%", " 1  2 \nReady\n"),
+        ("CAT", "?Not in this stage\nReady\n"),
+    ] {
+        assert_lines(
+            &rt,
+            &[
+                ("10 STOP", ""),
+                ("30 PRINT 3%", ""),
+                ("RUNNH", STOPPED),
+                (line, shown),
+                ("CONT", " 3 \nReady\n"),
+                ("CONT", CANT),
+            ],
+        )?;
+    }
+    Ok(())
+}
+
+#[test]
+fn ends_behind_which_cont_is_refused(rt: HostRuntime) -> Result<(), Fail> {
+    for (line, shown) in [
+        ("10 END", READY),
+        ("10 PRINT 1%/0%", "?Division by 0 at line 10\nReady\n"),
+        ("10 RETURN", "?RETURN without GOSUB at line 10\nReady\n"),
+        ("10 GOTO 20", "?Undefined line at line 10\nReady\n"),
+    ] {
+        assert_lines(
+            &rt,
+            &[
+                ("10 STOP", ""),
+                ("RUNNH", STOPPED),
+                (line, ""),
+                ("RUNNH", shown),
+                ("CONT", CANT),
+            ],
+        )?;
+    }
+    Ok(())
+}
+
+#[test]
+fn a_refused_program_leaves_memory_cleared(rt: HostRuntime) -> Result<(), Fail> {
+    assert_lines(
+        &rt,
+        &[
+            ("A%=5%", READY),
+            ("PRINT A%", " 5 \nReady\n"),
+            ("10 NEXT I%", ""),
+            ("RUN", "NONAME\n?NEXT without FOR at line 10\nReady\n"),
+            ("PRINT A%", " 0 \nReady\n"),
+            ("LISTNH", "10 NEXT I%\nReady\n"),
+        ],
+    )
+}
+
+#[test]
+fn a_loop_goes_on_with_its_limits(rt: HostRuntime) -> Result<(), Fail> {
+    assert_lines(
+        &rt,
+        &[
+            ("10 FOR I%=1% TO 2%", ""),
+            ("20 STOP", ""),
+            ("30 NEXT I%", ""),
+            ("RUNNH", "Stop at line 20\nReady\n"),
+            ("J%=J%+K% FOR K%=1% TO 9%", READY),
+            ("PRINT I%; J%", " 1  45 \nReady\n"),
+            ("CONT", "Stop at line 20\nReady\n"),
+            ("CONT", READY),
+            ("PRINT I%", " 2 \nReady\n"),
+        ],
+    )
+}
+
+#[test]
+fn a_stop_in_a_body_goes_on_behind_the_line(rt: HostRuntime) -> Result<(), Fail> {
+    assert_lines(
+        &rt,
+        &[
+            ("10 DEF FNA%(N%)", ""),
+            ("20 STOP", ""),
+            ("30 FNEND", ""),
+            ("40 PRINT FNA%(1%) : PRINT 4%", ""),
+            ("RUNNH", "Stop at line 20\nReady\n"),
+            ("PRINT N%", " 0 \nReady\n"),
+            ("CONT", " 4 \nReady\n"),
+        ],
+    )
+}
+
+#[test]
+fn errors_keep_their_number_and_line(rt: HostRuntime) -> Result<(), Fail> {
+    assert_lines(
+        &rt,
+        &[
+            ("10 ON ERROR GOTO 30", ""),
+            ("20 PRINT 1%/0%", ""),
+            ("30 PRINT ERR; ERL : STOP", ""),
+            ("RUNNH", " 61  20 \nStop at line 30\nReady\n"),
+            ("PRINT ERR; ERL", " 61  0 \nReady\n"),
+            ("PRINT 1%/0%", "?Division by 0\nReady\n"),
+            ("PRINT ERR", " 61 \nReady\n"),
+        ],
+    )
+}
+
+#[test]
+fn input_takes_the_keys_that_follow(rt: HostRuntime) -> Result<(), Fail> {
+    let log = "Login 100,5;DEMO Done\nLogout Done\n";
+    let keys = [
+        HELLO,
+        "10 INPUT 'AGE'; A%, N$ : PRINT N$; A%",
+        "20 INPUT LINE L$ : PRINT LEN(L$)",
+        "RUNNH",
+        "42, 'ANN, B.'",
+        "XYZ",
+        "BYE",
+    ];
+    let shown = "HELLO 100,5;DEMO\nReady\n10 INPUT 'AGE'; A%, N$ : PRINT N$; A%\n\
+        20 INPUT LINE L$ : PRINT LEN(L$)\nRUNNH\nAGE? 42, 'ANN, B.'\nANN, B. 42 \n? XYZ\n 5 \n\
+        Ready\nBYE\nBye\n";
+    assert_talk(&rt, &keys, &[Reply::Done, Reply::Done], shown, log)?;
+    let keys = [HELLO, "INPUT A%"];
+    let shown = "HELLO 100,5;DEMO\nReady\nINPUT A%\n? \n?End of file on device\nReady\nBye\n";
+    assert_talk(&rt, &keys, &[Reply::Done, Reply::Done], shown, log)
+}
+
+/// A job whose calls are used up while its program runs.
+#[test]
+fn the_thousandth_unit_asks(rt: HostRuntime) -> Result<(), Fail> {
+    let keys = [HELLO, "10 PRINT 1%; : GOTO 20", "20 GOTO 20", "RUNNH"];
+    let log = "Login 100,5;DEMO Done\nTick Done\nTick Expired\n";
+    let shown = "HELLO 100,5;DEMO\nReady\n10 PRINT 1%; : GOTO 20\n20 GOTO 20\nRUNNH\n 1 \n\
+        ?Job expired\n";
+    assert_talk(
+        &rt,
+        &keys,
+        &[Reply::Done, Reply::Done, Reply::Expired],
+        shown,
+        log,
+    )
+}

@@ -1,0 +1,22 @@
+//! Tests of the monitor, by its public calls alone: rows of what a job asks and what it is replied,
+//! one behind another, over one monitor with two jobs.
+#![tactic(auto)]
+
+#[cfg(test)]
+mod asks;
+#[cfg(test)]
+mod disks;
+#[cfg(test)]
+mod holds;
+#[cfg(test)]
+mod messages;
+#[cfg(test)]
+mod ports;
+#[cfg(test)]
+mod replies;
+#[cfg(test)]
+mod rights;
+#[cfg(test)]
+mod runs;
+#[cfg(test)]
+mod volumes;

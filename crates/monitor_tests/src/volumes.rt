@@ -1,0 +1,176 @@
+//! Which texts are names, and which volumes are good.
+
+use crate::asks::{OWNER, short};
+use basic_values::Series;
+use monitor_calls::{
+    Account, AccountEntry, FileEntry, FileName, Page, Short, TerminalName, Volume,
+};
+use std::alloc::Global;
+use std::test::Fail;
+
+/// Whether a text is a short one, a password, and a terminal's name.
+static TEXTS: [(&[u8], bool, bool, bool); 8] = [
+    (b"", true, false, false),
+    (b"DEMO7", true, true, true),
+    (b"demo7", true, false, false),
+    (b"ABCDEF", true, true, true),
+    (b"ABCDEFG", false, false, true),
+    (b"ABCDEFGH", false, false, true),
+    (b"ABCDEFGHI", false, false, false),
+    (b"A B", false, false, false),
+];
+
+#[test]
+fn texts_are_taken_in_their_ranges(rt: HostRuntime) {
+    for (text, is_short, is_password, is_name) in TEXTS {
+        let found = (Short::of(text).is_some(), Short::password(text).is_some());
+        assert_eq!(rt; found, (is_short, is_password), "{text:?}");
+        assert_eq!(rt; TerminalName::of(text).is_some(), is_name, "{text:?}");
+    }
+}
+
+/// The blocks of a volume, the numbers, the password and the limit of its second account, and
+/// whether it is good.
+type AccountRow = (u16, u8, u8, &'static [u8], u16, bool);
+
+/// The first account is [100,5].
+static ACCOUNTS: [AccountRow; 13] = [
+    (8, 100, 6, b"DEMO", 100, true),
+    (8, 100, 5, b"OTHER", 7, false),
+    (0, 1, 0, b"A", 1, false),
+    (1, 1, 0, b"A", 1, true),
+    (16384, 254, 254, b"ABCDE6", 16384, true),
+    (16385, 1, 0, b"A", 1, false),
+    (8, 0, 1, b"DEMO", 100, false),
+    (8, 255, 1, b"DEMO", 100, false),
+    (8, 1, 255, b"DEMO", 100, false),
+    (8, 1, 1, b"", 100, false),
+    (8, 1, 1, b"demo", 100, false),
+    (8, 1, 1, b"DEMO", 0, false),
+    (8, 1, 1, b"DEMO", 16385, false),
+];
+
+#[test]
+fn accounts_of_a_volume_are_in_their_ranges(rt: HostRuntime) -> Result<(), Fail> {
+    for (place, row) in ACCOUNTS.iter().enumerate() {
+        let is_good = is_good_account(rt.alloc(), row)?;
+        assert_eq!(rt; is_good, row.5, "row {place}");
+    }
+    Ok(())
+}
+
+fn is_good_account(alloc: Global, row: &AccountRow) -> Result<bool, Fail> {
+    let account = Account {
+        project: row.1,
+        programmer: row.2,
+    };
+    let second = account_entry(account, row.3, row.4)?;
+    let accounts = two_accounts(alloc, second)?;
+    let volume = Volume {
+        blocks: row.0,
+        accounts,
+        files: Vec::new(alloc),
+    };
+    Ok(volume.is_good())
+}
+
+fn account_entry(account: Account, password: &[u8], limit: u16) -> Result<AccountEntry, Fail> {
+    let password = short(password)?;
+    Ok(AccountEntry {
+        account,
+        password,
+        limit,
+    })
+}
+
+/// The account [100,5], and another.
+fn two_accounts(alloc: Global, second: AccountEntry) -> Result<Vec<AccountEntry>, Fail> {
+    let mut accounts = Vec::new(alloc);
+    accounts.push(account_entry(OWNER, b"DEMO", 100)?)?;
+    accounts.push(second)?;
+    Ok(accounts)
+}
+
+/// The owner's programmer number, the stem, the extension, the code and the blocks of a second file,
+/// and whether the volume is good.
+type FileRow = (u8, &'static [u8], &'static [u8], u8, u8, bool);
+
+/// The volume has eight blocks, and its first file is FIRST.DAT of two.
+static FILES: [FileRow; 13] = [
+    (5, b"SECOND", b"DAT", 60, 6, true),
+    (5, b"SECOND", b"DAT", 60, 7, false),
+    (6, b"SECOND", b"DAT", 60, 6, false),
+    (5, b"FIRST", b"DAT", 60, 0, false),
+    (5, b"FIRST", b"BAS", 60, 0, true),
+    (5, b"FIRST", b"", 60, 0, true),
+    (5, b"", b"DAT", 60, 0, false),
+    (5, b"second", b"DAT", 60, 0, false),
+    (5, b"SECOND", b"dat", 60, 0, false),
+    (5, b"SECOND", b"DATA", 60, 0, false),
+    (5, b"7", b"7", 0, 0, true),
+    (5, b"SECOND", b"DAT", 63, 0, true),
+    (5, b"SECOND", b"DAT", 64, 0, false),
+];
+
+#[test]
+fn files_of_a_volume_are_in_their_ranges(rt: HostRuntime) -> Result<(), Fail> {
+    for (place, row) in FILES.iter().enumerate() {
+        let is_good = is_good_file(rt.alloc(), row)?;
+        assert_eq!(rt; is_good, row.5, "row {place}");
+    }
+    Ok(())
+}
+
+fn is_good_file(alloc: Global, row: &FileRow) -> Result<bool, Fail> {
+    let owner = Account {
+        project: 100,
+        programmer: row.0,
+    };
+    let stem = short(row.1)?;
+    let extension = short(row.2)?;
+    let name = FileName {
+        owner,
+        stem,
+        extension,
+    };
+    let second = file_entry(alloc, name, row.3, row.4)?;
+    let volume = volume(alloc, second)?;
+    Ok(volume.is_good())
+}
+
+/// A volume with the account [100,5] and two files.
+fn volume(alloc: Global, second: FileEntry) -> Result<Volume, Fail> {
+    let mut accounts = Vec::new(alloc);
+    accounts.push(account_entry(OWNER, b"DEMO", 100)?)?;
+    let name = FileName {
+        owner: OWNER,
+        stem: short(b"FIRST")?,
+        extension: short(b"DAT")?,
+    };
+    let mut files = Vec::new(alloc);
+    files.push(file_entry(alloc, name, 60, 2)?)?;
+    files.push(second)?;
+    Ok(Volume {
+        blocks: 8,
+        accounts,
+        files,
+    })
+}
+
+/// A file of so many pages of zeros.
+pub(crate) fn file_entry(
+    alloc: Global,
+    name: FileName,
+    code: u8,
+    blocks: u8,
+) -> Result<FileEntry, Fail> {
+    let mut pages = Vec::new(alloc);
+    for _ in 0..blocks {
+        pages.push(Page::new(alloc)?)?;
+    }
+    Ok(FileEntry {
+        name,
+        code,
+        pages: Series::from_vec(pages),
+    })
+}

@@ -1,0 +1,63 @@
+-- Which statements run in this stage: those that use no channel, and no function of a later stage.
+use Rattle.std.specs.Prelude.{Bool, true, false, ◌&&◌, List, Some}
+use Rattle.std.specs.List.{list_all}
+use Rattle.basic_tree.specs.declared.expressions.Function.{Function}
+use Rattle.basic_tree.specs.declared.expressions.Function.TheVariants as function
+use Rattle.basic_tree.specs.Trees.{Tree, Element, FunctionOf, Call, Parenthesized, Negative, Positive, Not, Operation, Comparison, Trees, NoTrees, AndTrees, StatementTree, DimFile, Print, Input, InputLine, Chain, Sleep, Open, Close, Get, Put, Unlock, Field, Lset, Rset, Kill, Rename}
+use Rattle.program_model.specs.Parts.{simple_in, expressions_in}
+
+-- EXPRESSIONS
+
+-- POS and RECOUNT tell of channels, SYS of messages: they come later
+abbrev pub is_function_in_stage : Function → Bool
+is_function_in_stage function.Pos = false
+is_function_in_stage function.Recount = false
+is_function_in_stage function.Sys = false
+is_function_in_stage f = true
+
+abbrev mutual
+  -- an expression in which none of these is called
+  pub is_tree_in_stage : Tree → Bool
+  is_tree_in_stage (Element x subscripts) = are_trees_in_stage subscripts
+  is_tree_in_stage (FunctionOf f arguments) = is_function_in_stage f && are_trees_in_stage arguments
+  is_tree_in_stage (Call f arguments) = are_trees_in_stage arguments
+  is_tree_in_stage (Parenthesized e) = is_tree_in_stage e
+  is_tree_in_stage (Negative e) = is_tree_in_stage e
+  is_tree_in_stage (Positive e) = is_tree_in_stage e
+  is_tree_in_stage (Not e) = is_tree_in_stage e
+  is_tree_in_stage (Operation a o b) = is_tree_in_stage a && is_tree_in_stage b
+  is_tree_in_stage (Comparison a r b) = is_tree_in_stage a && is_tree_in_stage b
+  is_tree_in_stage e = true
+
+  pub are_trees_in_stage : Trees → Bool
+  are_trees_in_stage NoTrees = true
+  are_trees_in_stage (AndTrees e others) = is_tree_in_stage e && are_trees_in_stage others
+
+-- STATEMENTS
+
+-- of a statement without IFs and modifiers around it: what uses a channel comes later, and so do CHAIN and SLEEP
+abbrev pub is_form_in_stage : StatementTree → Bool
+is_form_in_stage (Print (Some channel) items last) = false
+is_form_in_stage (Input (Some channel) prompt targets) = false
+is_form_in_stage (InputLine (Some channel) variable) = false
+is_form_in_stage (DimFile channel shapes) = false
+is_form_in_stage (Open file purpose hash channel size cluster mode) = false
+is_form_in_stage (Close channels) = false
+is_form_in_stage (Get channel block) = false
+is_form_in_stage (Put channel block) = false
+is_form_in_stage (Unlock channel) = false
+is_form_in_stage (Field channel parts) = false
+is_form_in_stage (Lset variable e) = false
+is_form_in_stage (Rset variable e) = false
+is_form_in_stage (Kill e) = false
+is_form_in_stage (Rename old new) = false
+is_form_in_stage (Chain e line) = false
+is_form_in_stage (Sleep e) = false
+is_form_in_stage s = true
+
+-- every statement in it is of such a form, and every expression in it calls such functions alone
+abbrev pub is_in_stage : StatementTree → Bool
+is_in_stage s = list_all is_form_in_stage (simple_in s) && list_all is_tree_in_stage (expressions_in s)
+
+abbrev pub are_in_stage : List StatementTree → Bool
+are_in_stage statements = list_all is_in_stage statements
