@@ -10,10 +10,10 @@ use std::alloc::Global;
 use std::test::Fail;
 
 /// A refusal by its line and its cause; none where there is code.
-pub type Verdict = Option<(u16, LowerCause)>;
+pub(crate) type Verdict = Option<(u16, LowerCause)>;
 
 /// A program of these lines, which are numbered 10, 20 and so on. Empty ones are left out.
-pub fn program_of(alloc: Global, lines: &[&[u8]]) -> Result<ProgramText, Fail> {
+pub(crate) fn program_of(alloc: Global, lines: &[&[u8]]) -> Result<ProgramText, Fail> {
     let mut text = ProgramText::new(alloc);
     let mut number = 10;
     for line in lines {
@@ -33,7 +33,7 @@ fn stored(answer: Result<(), Trouble<EditRefusal>>) -> Result<(), Fail> {
     }
 }
 
-pub fn verdict_of(answer: Result<Code, Trouble<LowerRefusal>>) -> Result<Verdict, Fail> {
+pub(crate) fn verdict_of(answer: Result<Code, Trouble<LowerRefusal>>) -> Result<Verdict, Fail> {
     match answer {
         Ok(_) => Ok(None),
         Err(Trouble::Refused(refusal)) => Ok(Some((refusal.line, refusal.cause))),
@@ -42,13 +42,13 @@ pub fn verdict_of(answer: Result<Code, Trouble<LowerRefusal>>) -> Result<Verdict
 }
 
 /// What a program of these lines is answered.
-pub fn judged(alloc: Global, lines: &[&[u8]]) -> Result<Verdict, Fail> {
+pub(crate) fn judged(alloc: Global, lines: &[&[u8]]) -> Result<Verdict, Fail> {
     let text = program_of(alloc, lines)?;
     verdict_of(lower(alloc, text.program()))
 }
 
 /// What a line is answered in immediate mode.
-pub fn judged_now(alloc: Global, line: &[u8]) -> Result<Verdict, Fail> {
+pub(crate) fn judged_now(alloc: Global, line: &[u8]) -> Result<Verdict, Fail> {
     let text = program_of(alloc, &[line])?;
     match text.program().lines.get(&10) {
         Some(line) => verdict_of(lower_now(alloc, line)),
