@@ -20,6 +20,7 @@ use program_model::Value;
 
 impl Running {
     /// A function of the last so many values.
+    #[inline(never)]
     pub(crate) fn apply(
         &self,
         function: Function,

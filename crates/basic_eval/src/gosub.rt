@@ -1,6 +1,7 @@
 //! What runs, GOSUB and RETURN, and ON.
 
-ghost use Rattle.std.specs.Prelude.{◌≡◌, []};
+ghost use Rattle.std.specs.Prelude.{◌≡◌, [], Ok};
+ghost use Rattle.basic_eval.specs.declared.exits.Move.TheVariants as move;
 ghost use Rattle.job_model.specs.Act.{Gives};
 ghost use Rattle.polish_code.specs.Walk.{top, goes, To};
 ghost use Rattle.program_model.specs.Job.{number};
@@ -32,25 +33,37 @@ impl Running {
         }
     }
 
+    /// A statement runs in a body, and the next item follows.
+    #[inline(never)]
+    pub(crate) fn arrive(&mut self, home: &Home) -> Result<Move, Trouble<Exit>>
+        ensures state { seen self.new ≡ runs_at home.now (seen self.old) }
+        ensures next { result ≡ Ok (move.Pass 0) }
+    {
+        self.run_at(*home);
+        Ok(Move::Pass(0))
+    }
+
     /// GOSUB: its own place is kept.
+    #[inline(never)]
     pub(crate) fn go_sub(
         &mut self,
         behind: usize,
-        home: Home,
+        home: &Home,
         to: usize,
     ) -> Result<Move, Trouble<Exit>>
         ensures { Acts
-            (kept (record { behind = behind; home = home }) (goes (To to)) (seen self.old))
+            (kept (record { behind = behind; home = home.now }) (goes (To to)) (seen self.old))
             (seen self.new) (led [] result) }
     {
         if self.returns.len() >= MOST_RETURNS {
             return Err(Trouble::Refused(Exit::Halt(Halt::TooDeep)));
         }
-        self.returns.push(Spot::new(behind, home))?;
+        self.returns.push(Spot::new(behind, *home))?;
         Ok(Move::To(to))
     }
 
     /// RETURN: behind the newest place that was kept in the running body.
+    #[inline(never)]
     pub(crate) fn go_back(&mut self) -> Result<Move, Trouble<Exit>>
         ensures { Acts
             (returned (λ spot j. Gives (To spot.behind) (runs_at spot.home j)) self.old.returns
@@ -70,6 +83,7 @@ impl Running {
     }
 
     /// ON GOTO: to the place that the last value chooses.
+    #[inline(never)]
     pub(crate) fn on_goto(
         &self,
         places: &[u32],
@@ -87,16 +101,17 @@ impl Running {
     }
 
     /// ON GOSUB: to the place that the last value chooses.
+    #[inline(never)]
     pub(crate) fn on_gosub(
         &mut self,
         behind: usize,
-        home: Home,
+        home: &Home,
         places: &[u32],
         stack: &mut Stack<Value>,
     ) -> Result<Move, Trouble<Exit>>
         ensures { Acts
             (on_chosen (chosen (number (top stack.old)) places.now)
-            (λ to j. kept (record { behind = behind; home = home }) (goes (To to)) j)
+            (λ to j. kept (record { behind = behind; home = home.now }) (goes (To to)) j)
             (seen self.old))
             (seen self.new) (led [] result) }
     {

@@ -29,6 +29,7 @@ const NOT_ENOUGH_DATA: u8 = 59;
 
 impl Running {
     /// A line of keys, of which so many items come to lie on the stack, the first one on top.
+    #[inline(never)]
     pub(crate) fn ask_items(
         &mut self,
         prompt: &Text,
@@ -52,6 +53,7 @@ impl Running {
     }
 
     /// A line of keys, with CR and LF behind it.
+    #[inline(never)]
     pub(crate) fn ask_line(&mut self, stack: &mut Stack<Value>) -> Result<Move, Trouble<Exit>>
         ensures { Acts (line_asked [] (seen self.old) then λ line j. pushed stack.old (value.Text (line ++ line_end)) j) (seen self.new) (led stack.new result) }
     {

@@ -1,14 +1,16 @@
 //! FOR and NEXT.
 
-ghost use Rattle.std.specs.Prelude.{◌≡◌, ◌≤ℤ◌, pos, negsuc, drop, slice_set};
-ghost use Rattle.polish_code.specs.Walk.{top};
+ghost use Rattle.std.specs.Prelude.{◌≡◌, ◌≤ℤ◌, List, pos, negsuc, drop, slice_set};
+ghost use Rattle.job_model.specs.Act.{◌then◌};
+ghost use Rattle.polish_code.specs.Walk.{top, opens, by_turn, Pass, To};
+ghost use Rattle.program_model.specs.declared.values.Value.{Value};
 ghost use Rattle.program_model.specs.Job.{number};
 ghost use Rattle.program_model.specs.Loops.{is_past, opened, next_turn, limit_and_step};
 ghost use Rattle.program_model.specs.Variables.{held};
-ghost use Rattle.basic_eval.specs.Acting.{Acts, seen};
+ghost use Rattle.basic_eval.specs.Acting.{Acts, led, seen, turned};
 ghost use Rattle.basic_eval.specs.Turns.{Steps};
 
-use crate::exits::Exit;
+use crate::exits::{Exit, Move};
 use crate::stack::Stack;
 use crate::state::Running;
 use crate::values::{number, take_pair, take_top};
@@ -17,8 +19,67 @@ use basic_values::{Int, Trouble};
 use program_model::Value;
 
 impl Running {
+    /// FOR: the next item follows where there is a turn, else that at a place.
+    #[inline(never)]
+    pub(crate) fn open_or_go(
+        &mut self,
+        variable: &Name,
+        place: usize,
+        to: usize,
+        stack: &mut Stack<Value>,
+    ) -> Result<Move, Trouble<Exit>>
+        ensures { Acts
+            (opens variable.now place stack.old (To to) (seen self.old))
+            (seen self.new) (led stack.new result) }
+    {
+        by_turn(
+            self.open(*variable, place, stack),
+            Move::Pass(0),
+            Move::To(to),
+        )
+    }
+
+    /// FOR: the next item follows where there is a turn, else that behind so many.
+    #[inline(never)]
+    pub(crate) fn open_or_skip(
+        &mut self,
+        variable: &Name,
+        place: usize,
+        count: usize,
+        stack: &mut Stack<Value>,
+    ) -> Result<Move, Trouble<Exit>>
+        ensures { Acts
+            (opens variable.now place stack.old (Pass count (drop 3 stack.old)) (seen self.old))
+            (seen self.new) (led stack.new result) }
+    {
+        by_turn(
+            self.open(*variable, place, stack),
+            Move::Pass(0),
+            Move::Pass(count),
+        )
+    }
+
+    /// NEXT: to a place where there is a turn, else the next item follows.
+    #[inline(never)]
+    pub(crate) fn turn_or_pass(
+        &mut self,
+        variable: &Name,
+        place: usize,
+        to: usize,
+    ) -> Result<Move, Trouble<Exit>>
+        ensures { (stack : List Value) → Acts
+            (next_turn variable.now place (seen self.old) then by_turn (To to) (Pass 0 stack))
+            (seen self.new) (led stack result) }
+    {
+        by_turn(
+            self.next_turn(*variable, place),
+            Move::To(to),
+            Move::Pass(0),
+        )
+    }
+
     /// A FOR begins, with its start, its limit and its step on the stack: whether there is a turn.
-    pub(crate) fn open(
+    fn open(
         &mut self,
         variable: Name,
         place: usize,
@@ -73,7 +134,7 @@ impl Running {
     }
 
     /// The end of a turn: whether there is another.
-    pub(crate) fn next_turn(&mut self, variable: Name, place: usize) -> Result<bool, Trouble<Exit>>
+    fn next_turn(&mut self, variable: Name, place: usize) -> Result<bool, Trouble<Exit>>
         ensures { Acts (next_turn variable place (seen self.old)) (seen self.new) result }
     {
         let (limit, step) = self.limit_and_step(place);
@@ -104,6 +165,21 @@ impl Running {
         } else {
             self.storage.number(name)
         }
+    }
+}
+
+/// One move where a loop has a turn, and another where it has none.
+fn by_turn(
+    has_turn: Result<bool, Trouble<Exit>>,
+    again: Move,
+    over: Move,
+) -> Result<Move, Trouble<Exit>>
+    ensures { result ≡ turned has_turn again over }
+{
+    match has_turn {
+        Ok(true) => Ok(again),
+        Ok(false) => Ok(over),
+        Err(trouble) => Err(trouble),
     }
 }
 

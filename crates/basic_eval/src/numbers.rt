@@ -1,21 +1,26 @@
 //! Operators between numbers, and the sum of texts.
 
-ghost use Rattle.std.specs.Prelude.{◌≡◌, drop};
+ghost use Rattle.std.specs.Prelude.{◌≡◌, drop, neg_ℤ};
+ghost use Rattle.basic_values.specs.Bits.{negated};
+ghost use Rattle.basic_values.specs.Numbers.{wrap};
 ghost use Rattle.job_model.specs.Act.{◌then◌};
 ghost use Rattle.polish_code.specs.Walk.{top, pushed};
+ghost use Rattle.program_model.specs.declared.values.Value.TheVariants as value;
+ghost use Rattle.program_model.specs.Job.{number};
 ghost use Rattle.program_model.specs.Operators.{operated, sum_of};
 ghost use Rattle.basic_eval.specs.Acting.{Acts, Pushes, led, seen};
 
 use crate::exits::{Exit, Move};
 use crate::stack::Stack;
 use crate::state::Running;
-use crate::values::{number, take_pair};
+use crate::values::{number, take_pair, take_top};
 use basic_tree::Operator;
 use basic_values::{Int, Trouble, concat};
 use program_model::Value;
 
 impl Running {
     /// An operator between the last two values.
+    #[inline(never)]
     pub(crate) fn operate(
         &self,
         operator: Operator,
@@ -87,4 +92,30 @@ pub(crate) fn push(stack: &mut Stack<Value>, value: Value) -> Result<Move, Troub
 {
     stack.push(value)?;
     Ok(Move::Pass(0))
+}
+
+/// Puts a number on the stack.
+#[inline(never)]
+pub(crate) fn push_number(stack: &mut Stack<Value>, number: Int) -> Result<Move, Trouble<Exit>>
+    ensures { Pushes (value.Number number) stack.old stack.new result }
+{
+    push(stack, Value::Number(number))
+}
+
+/// Negates the last value.
+#[inline(never)]
+pub(crate) fn negate(stack: &mut Stack<Value>) -> Result<Move, Trouble<Exit>>
+    ensures { Pushes (value.Number (wrap (neg_ℤ (number (top stack.old))))) (drop 1 stack.old) stack.new result }
+{
+    let value = take_top(stack);
+    push(stack, Value::Number(number(&value).neg()))
+}
+
+/// Turns the bits of the last value round.
+#[inline(never)]
+pub(crate) fn complement(stack: &mut Stack<Value>) -> Result<Move, Trouble<Exit>>
+    ensures { Pushes (value.Number (negated (number (top stack.old)))) (drop 1 stack.old) stack.new result }
+{
+    let value = take_top(stack);
+    push(stack, Value::Number(number(&value).not()))
 }

@@ -1,6 +1,7 @@
 //! PRINT: what its items write on the terminal.
 
-ghost use Rattle.std.specs.Prelude.{◌≡◌, drop, OnOk};
+ghost use Rattle.std.specs.Prelude.{◌≡◌, List, drop};
+ghost use Rattle.program_model.specs.declared.values.Value.{Value};
 ghost use Rattle.basic_tree.specs.declared.parts.Separator.TheVariants.{Comma};
 ghost use Rattle.job_model.specs.Act.{Gives};
 ghost use Rattle.job_model.specs.Texts.{line_end};
@@ -14,11 +15,12 @@ use crate::exits::{Exit, Move};
 use crate::stack::Stack;
 use crate::state::Running;
 use crate::values::{number, take_top};
-use basic_values::{NoMemory, Trouble};
+use basic_values::Trouble;
 use program_model::Value;
 
 impl Running {
     /// Writes the last value.
+    #[inline(never)]
     pub(crate) fn print_value(&mut self, stack: &mut Stack<Value>) -> Result<Move, Trouble<Exit>>
         ensures { Acts
             (Gives (Pass 0 (drop 1 stack.old))
@@ -33,6 +35,7 @@ impl Running {
     }
 
     /// Spaces up to the column of the last value.
+    #[inline(never)]
     pub(crate) fn print_tab(&mut self, stack: &mut Stack<Value>) -> Result<Move, Trouble<Exit>>
         ensures { Acts
             (Gives (Pass 0 (drop 1 stack.old))
@@ -45,16 +48,24 @@ impl Running {
     }
 
     /// Moves to the next zone.
-    pub(crate) fn next_zone(&mut self) -> Result<(), NoMemory>
-        ensures { OnOk result (seen self.new ≡ separated Comma (seen self.old)) }
+    #[inline(never)]
+    pub(crate) fn next_zone(&mut self) -> Result<Move, Trouble<Exit>>
+        ensures { (stack : List Value) → Acts
+            (Gives (Pass 0 stack) (separated Comma (seen self.old)))
+            (seen self.new) (led stack result) }
     {
-        self.screen.zone()
+        self.screen.zone()?;
+        Ok(Move::Pass(0))
     }
 
     /// Ends the line.
-    pub(crate) fn end_line(&mut self) -> Result<(), NoMemory>
-        ensures { OnOk result (seen self.new ≡ written line_end (seen self.old)) }
+    #[inline(never)]
+    pub(crate) fn end_line(&mut self) -> Result<Move, Trouble<Exit>>
+        ensures { (stack : List Value) → Acts
+            (Gives (Pass 0 stack) (written line_end (seen self.old)))
+            (seen self.new) (led stack result) }
     {
-        self.screen.write(b"\r\n")
+        self.screen.write(b"\r\n")?;
+        Ok(Move::Pass(0))
     }
 }

@@ -29,6 +29,7 @@ const DATA_FORMAT_ERROR: u8 = 50;
 
 impl Running {
     /// Takes the next item of DATA, without the blanks around it.
+    #[inline(never)]
     pub(crate) fn take_item(
         &mut self,
         words: &[Text],
@@ -50,6 +51,7 @@ impl Running {
     }
 
     /// An item becomes a value, a text or a number.
+    #[inline(never)]
     pub(crate) fn judge(
         &self,
         is_text: bool,

@@ -1,24 +1,26 @@
 //! The act of an item.
 
-ghost use Rattle.std.specs.Prelude.{◌≡◌, ◌-◌, false};
+ghost use Rattle.std.specs.Prelude.{◌≡◌, ◌-◌, false, Err};
+ghost use Rattle.basic_values.specs.declared.failures.Trouble.TheVariants as trouble;
 ghost use Rattle.polish_code.specs.Walk.{item_act};
-ghost use Rattle.basic_eval.specs.declared.exits.Move.TheVariants as move;
-ghost use Rattle.basic_eval.specs.Acting.{Acts, alone, is_call, led, seen, turned};
+ghost use Rattle.basic_eval.specs.declared.exits.Exit.TheVariants as exit;
+ghost use Rattle.basic_eval.specs.Acting.{Acts, alone, is_call, led, seen};
 
 use crate::exits::{Exit, Move};
-use crate::numbers::push;
+use crate::numbers::{complement, negate, push_number};
 use crate::spots::Spot;
 use crate::stack::Stack;
 use crate::state::Running;
-use crate::values::{copied, is_true, number, take_top, wrapped};
+use crate::values::{discard, take_truth, wrapped};
 use basic_values::{Text, Trouble};
 use polish_code::Item;
-use program_model::Value;
+use program_model::{Home, Value};
 
 impl Running {
     /// Does what an item does that calls no function of the program: `behind` items stand up to it
     /// and with it. What it leads to is given, or why the program goes no further; where memory
-    /// runs out nothing is told.
+    /// runs out nothing is told. Each act stays out of line, so that this has
+    /// no frame of its own.
     pub fn step(
         &mut self,
         words: &[Text],
@@ -33,51 +35,24 @@ impl Running {
     {
         match item {
             Item::Start(_) => Ok(Move::To(behind.saturating_sub(1))),
-            Item::Arrive(home) => {
-                self.run_at(*home);
-                Ok(Move::Pass(0))
-            }
-            Item::Number(number) => push(stack, Value::Number(wrapped(*number))),
-            Item::Quoted(text) => {
-                let text = copied(self.alloc, text.as_bytes())?;
-                push(stack, Value::Text(text))
-            }
-            Item::Load(name) => {
-                let value = self.held(*name)?;
-                push(stack, value)
-            }
-            Item::LoadElement { name, count } => self.load_element(*name, *count as usize, stack),
+            Item::Arrive(home) => self.arrive(home),
+            Item::Number(number) => push_number(stack, wrapped(*number)),
+            Item::Quoted(text) => self.quote(text, stack),
+            Item::Load(name) => self.load(name, stack),
+            Item::LoadElement { name, count } => self.load_element(name, *count as usize, stack),
             Item::Apply { function, count } => self.apply(*function, *count as usize, stack),
-            Item::Negate => {
-                let value = take_top(stack);
-                push(stack, Value::Number(number(&value).neg()))
-            }
-            Item::Complement => {
-                let value = take_top(stack);
-                push(stack, Value::Number(number(&value).not()))
-            }
+            Item::Negate => negate(stack),
+            Item::Complement => complement(stack),
             Item::Operate(operator) => self.operate(*operator, stack),
             Item::Compare(relation) => self.relate(*relation, stack),
-            Item::Store(name) => self.store(*name, stack),
-            Item::StoreElement { name, count } => self.store_element(*name, *count as usize, stack),
-            Item::Discard => {
-                stack.drop_last(1);
-                Ok(Move::Pass(0))
-            }
-            Item::Answer => {
-                self.answer(take_top(stack))?;
-                Ok(Move::Pass(0))
-            }
+            Item::Store(name) => self.store(name, stack),
+            Item::StoreElement { name, count } => self.store_element(name, *count as usize, stack),
+            Item::Discard => discard(stack),
+            Item::Answer => self.answer_last(stack),
             Item::PrintValue => self.print_value(stack),
             Item::PrintTab => self.print_tab(stack),
-            Item::Zone => {
-                self.next_zone()?;
-                Ok(Move::Pass(0))
-            }
-            Item::EndLine => {
-                self.end_line()?;
-                Ok(Move::Pass(0))
-            }
+            Item::Zone => self.next_zone(),
+            Item::EndLine => self.end_line(),
             Item::Call { .. } => unreachable!(),
             Item::AskItems { prompt, count } => self.ask_items(prompt, *count as usize, stack),
             Item::AskLine => self.ask_line(stack),
@@ -88,103 +63,80 @@ impl Running {
                 Ok(Move::Pass(0))
             }
             Item::Jump(to) => Ok(Move::To(*to as usize)),
-            Item::JumpIf(to) => Ok(if is_true(&take_top(stack)) {
+            Item::JumpIf(to) => Ok(if take_truth(stack) {
                 Move::To(*to as usize)
             } else {
                 Move::Pass(0)
             }),
             Item::Skip(count) => Ok(Move::Pass(*count as usize)),
-            Item::SkipUnless(count) => Ok(Move::Pass(if is_true(&take_top(stack)) {
+            Item::SkipUnless(count) => Ok(Move::Pass(if take_truth(stack) {
                 0
             } else {
                 *count as usize
             })),
-            Item::SkipIf(count) => Ok(Move::Pass(if is_true(&take_top(stack)) {
+            Item::SkipIf(count) => Ok(Move::Pass(if take_truth(stack) {
                 *count as usize
             } else {
                 0
             })),
-            Item::BackIf(count) => Ok(if is_true(&take_top(stack)) {
-                back(behind, *count)
+            Item::BackIf(count) => Ok(if take_truth(stack) {
+                Move::To(back(behind, *count))
             } else {
                 Move::Pass(0)
             }),
-            Item::BackUnless(count) => Ok(if is_true(&take_top(stack)) {
+            Item::BackUnless(count) => Ok(if take_truth(stack) {
                 Move::Pass(0)
             } else {
-                back(behind, *count)
+                Move::To(back(behind, *count))
             }),
             Item::Open {
                 variable,
                 place,
                 to,
-            } => by_turn(
-                self.open(*variable, *place as usize, stack),
-                Move::Pass(0),
-                Move::To(*to as usize),
-            ),
+            } => self.open_or_go(variable, *place as usize, *to as usize, stack),
             Item::OpenOrSkip {
                 variable,
                 place,
                 count,
-            } => by_turn(
-                self.open(*variable, *place as usize, stack),
-                Move::Pass(0),
-                Move::Pass(*count as usize),
-            ),
+            } => self.open_or_skip(variable, *place as usize, *count as usize, stack),
             Item::Step {
                 variable,
                 place,
                 to,
-            } => by_turn(
-                self.next_turn(*variable, *place as usize),
-                Move::To(*to as usize),
-                Move::Pass(0),
-            ),
+            } => self.turn_or_pass(variable, *place as usize, *to as usize),
             Item::StepBack {
                 variable,
                 place,
                 count,
-            } => by_turn(
-                self.next_turn(*variable, *place as usize),
-                back(behind, *count),
-                Move::Pass(0),
-            ),
-            Item::Gosub { home, to } => self.go_sub(behind, *home, *to as usize),
+            } => self.turn_or_pass(variable, *place as usize, back(behind, *count)),
+            Item::Gosub { home, to } => self.go_sub(behind, home, *to as usize),
             Item::Return => self.go_back(),
             Item::OnGoto(places) => self.on_goto(places.as_slice(), stack),
             Item::OnGosub { home, places } => {
-                self.on_gosub(behind, *home, places.as_slice(), stack)
+                self.on_gosub(behind, home, places.as_slice(), stack)
             }
             Item::OnError(line) => self.set_handler(*line),
             Item::Resume(to) => self.resume(*to),
-            Item::Stop(home) => Err(Trouble::Refused(Exit::Stopped(Spot::new(behind, *home)))),
+            Item::Stop(home) => stopped(behind, home),
             Item::End => Err(Trouble::Refused(Exit::Ended)),
             Item::Leave => Ok(Move::Away),
         }
     }
 }
 
-/// So many items back.
-fn back(behind: usize, count: u32) -> Move
-    ensures { result ≡ move.To (behind - 1 - count) }
+/// The place so many items back.
+fn back(behind: usize, count: u32) -> usize
+    ensures { result ≡ behind - 1 - count }
 {
-    Move::To(behind.saturating_sub(1).saturating_sub(count as usize))
+    behind.saturating_sub(1).saturating_sub(count as usize)
 }
 
-/// One move where a loop has a turn, and another where it has none.
-fn by_turn(
-    has_turn: Result<bool, Trouble<Exit>>,
-    again: Move,
-    over: Move,
-) -> Result<Move, Trouble<Exit>>
-    ensures { result ≡ turned has_turn again over }
+/// A STOP, behind which CONT goes on.
+#[inline(never)]
+fn stopped(behind: usize, home: &Home) -> Result<Move, Trouble<Exit>>
+    ensures { result ≡ Err (trouble.Refused (exit.Stopped (record { behind = behind; home = home.now }))) }
 {
-    match has_turn {
-        Ok(true) => Ok(again),
-        Ok(false) => Ok(over),
-        Err(trouble) => Err(trouble),
-    }
+    Err(Trouble::Refused(Exit::Stopped(Spot::new(behind, *home))))
 }
 
 /// Whether an item calls a function of the program.

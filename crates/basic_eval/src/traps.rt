@@ -13,6 +13,7 @@ use basic_values::Trouble;
 
 impl Running {
     /// ON ERROR: the handler's line, or none. An error that is being handled is reported then.
+    #[inline(never)]
     pub(crate) fn set_handler(&mut self, line: Option<u16>) -> Result<Move, Trouble<Exit>>
         ensures { (stack : List Value) → Acts
             (left_to (goes (Pass 0 stack)) (handled_by line self.old.trap) (seen self.old))
@@ -28,6 +29,7 @@ impl Running {
     }
 
     /// RESUME: to the statement in which the error came, or to an item.
+    #[inline(never)]
     pub(crate) fn resume(&mut self, to: Option<u32>) -> Result<Move, Trouble<Exit>>
         ensures { Acts
             (leads_back To To to (resumed self.old.trap) (seen self.old))

@@ -1,6 +1,7 @@
 //! Values that lie on the stack: a missing one counts as 0, and as an empty text.
 
-ghost use Rattle.std.specs.Prelude.{◌≡◌, ◌≤◌, drop, length, pos, IfOk};
+ghost use Rattle.std.specs.Prelude.{◌≡◌, ◌≤◌, drop, length, pos, IfOk, Ok};
+ghost use Rattle.basic_eval.specs.declared.exits.Move.TheVariants as move;
 ghost use Rattle.basic_values.specs.declared.texts.TheConstants.{MOST_BYTES};
 ghost use Rattle.basic_values.specs.Numbers.{wrap};
 ghost use Rattle.polish_code.specs.Walk.{top};
@@ -8,8 +9,9 @@ ghost use Rattle.program_model.specs.Job.{number, text};
 ghost use Rattle.program_model.specs.Operators.{is_true, truth};
 ghost use Rattle.program_model.specs.Functions.{number_at, text_at};
 
+use crate::exits::{Exit, Move};
 use crate::stack::Stack;
-use basic_values::{Int, NoMemory, Text};
+use basic_values::{Int, NoMemory, Text, Trouble};
 use program_model::Value;
 use std::alloc::Global;
 
@@ -98,6 +100,25 @@ pub(crate) fn take_top(stack: &mut Stack<Value>) -> Value
         Some(value) => value,
         None => Value::Number(Int::new(0)),
     }
+}
+
+/// Takes the last value off the stack, and tells whether it counts as true.
+#[inline(never)]
+pub(crate) fn take_truth(stack: &mut Stack<Value>) -> bool
+    ensures value { result ≡ is_true (top stack.old) }
+    ensures rest { stack.new ≡ drop 1 stack.old }
+{
+    is_true(&take_top(stack))
+}
+
+/// Takes the last value off the stack, and the next item follows.
+#[inline(never)]
+pub(crate) fn discard(stack: &mut Stack<Value>) -> Result<Move, Trouble<Exit>>
+    ensures result { result ≡ Ok (move.Pass 0) }
+    ensures rest { stack.new ≡ drop 1 stack.old }
+{
+    stack.drop_last(1);
+    Ok(Move::Pass(0))
 }
 
 /// Takes the last two values off the stack, and gives the last one second.

@@ -1,8 +1,8 @@
 //! Variables and elements of arrays, and the result of a running function.
 
 ghost use Rattle.std.specs.Prelude.{◌≡◌, drop, IfOk, OnOk};
-ghost use Rattle.job_model.specs.Act.{◌then◌};
-ghost use Rattle.polish_code.specs.Walk.{top, taken, pushed, passed};
+ghost use Rattle.job_model.specs.Act.{Gives, ◌then◌};
+ghost use Rattle.polish_code.specs.Walk.{top, taken, pushed, passed, Pass};
 ghost use Rattle.program_model.specs.Calls.{answered};
 ghost use Rattle.program_model.specs.Control.{base_of};
 ghost use Rattle.program_model.specs.declared.values.Value.TheVariants as value;
@@ -14,37 +14,49 @@ use crate::exits::{Exit, Move};
 use crate::numbers::push;
 use crate::stack::Stack;
 use crate::state::Running;
-use crate::values::{copied, number, number_at};
+use crate::values::{copied, number, number_at, take_top};
 use basic_tree::Name;
 use basic_values::{Int, NoMemory, Stop, Text, Trouble};
 use program_model::{Frame, Value};
 use std::alloc::Global;
 
 impl Running {
-    /// What a variable holds.
-    pub(crate) fn held(&self, name: Name) -> Result<Value, NoMemory>
-        ensures { IfOk result (λ value. value ≡ held name (seen self.now)) }
+    /// Puts a copy of a text on the stack.
+    #[inline(never)]
+    pub(crate) fn quote(&self, text: &Text, stack: &mut Stack<Value>) -> Result<Move, Trouble<Exit>>
+        ensures { Acts (pushed stack.old (value.Text text.now) (seen self.now)) (seen self.now) (led stack.new result) }
     {
-        if !name.text {
-            return Ok(Value::Number(self.storage.number(name)));
+        let text = copied(self.alloc, text.as_bytes())?;
+        push(stack, Value::Text(text))
+    }
+
+    /// Puts what a variable holds on the stack.
+    #[inline(never)]
+    pub(crate) fn load(&self, name: &Name, stack: &mut Stack<Value>) -> Result<Move, Trouble<Exit>>
+        ensures { Acts (pushed stack.old (held name.now (seen self.now)) (seen self.now)) (seen self.now) (led stack.new result) }
+    {
+        if name.text {
+            let text = copied(self.alloc, self.storage.text(*name))?;
+            push(stack, Value::Text(text))
+        } else {
+            push(stack, Value::Number(self.storage.number(*name)))
         }
-        let text = copied(self.alloc, self.storage.text(name))?;
-        Ok(Value::Text(text))
     }
 
     /// The element of an array, by the last so many values.
+    #[inline(never)]
     pub(crate) fn load_element(
         &self,
-        name: Name,
+        name: &Name,
         count: usize,
         stack: &mut Stack<Value>,
     ) -> Result<Move, Trouble<Exit>>
         ensures { Acts
-            (element name (taken count stack.old) (seen self.now)
+            (element name.now (taken count stack.old) (seen self.now)
             then pushed (drop count stack.old))
             (seen self.now) (led stack.new result) }
     {
-        match self.element(name, stack.last(count)) {
+        match self.element(*name, stack.last(count)) {
             Ok(value) => {
                 stack.drop_last(count);
                 push(stack, value)
@@ -73,13 +85,17 @@ impl Running {
     }
 
     /// Stores the last value, which stays.
-    pub(crate) fn store(&mut self, name: Name, stack: &Stack<Value>) -> Result<Move, Trouble<Exit>>
+    #[inline(never)]
+    pub(crate) fn store(&mut self, name: &Name, stack: &Stack<Value>) -> Result<Move, Trouble<Exit>>
         ensures { Acts
-            (stored name (top stack.now) (seen self.old) then passed stack.now)
+            (stored name.now (top stack.now) (seen self.old) then passed stack.now)
             (seen self.new) (led stack.now result) }
     {
-        let value = copy_top(self.alloc, stack)?;
-        match self.keep(name, value) {
+        let kept = match stack.newest() {
+            Some(value) => self.keep_copy(*name, value),
+            None => self.keep_number(*name, Int::new(0)),
+        };
+        match kept {
             Ok(()) => Ok(Move::Pass(0)),
             Err(Trouble::Refused(why)) => Err(Trouble::Refused(why)),
             Err(Trouble::NoMemory) => Err(Trouble::NoMemory),
@@ -87,14 +103,15 @@ impl Running {
     }
 
     /// Stores the value below the last so many, which are the subscripts. It stays.
+    #[inline(never)]
     pub(crate) fn store_element(
         &mut self,
-        name: Name,
+        name: &Name,
         count: usize,
         stack: &mut Stack<Value>,
     ) -> Result<Move, Trouble<Exit>>
         ensures { Acts
-            (stored_at name (taken count stack.old) (top (drop count stack.old)) (seen self.old)
+            (stored_at name.now (taken count stack.old) (top (drop count stack.old)) (seen self.old)
             then passed (drop count stack.old))
             (seen self.new) (led stack.new result) }
     {
@@ -103,20 +120,10 @@ impl Running {
         let second = second(subscripts);
         stack.drop_last(count);
         let value = copy_top(self.alloc, stack)?;
-        match self.keep_at(name, first, second, value) {
+        match self.keep_at(*name, first, second, value) {
             Ok(()) => Ok(Move::Pass(0)),
             Err(Trouble::Refused(why)) => Err(Trouble::Refused(why)),
             Err(Trouble::NoMemory) => Err(Trouble::NoMemory),
-        }
-    }
-
-    /// Stores a value to a variable.
-    pub(crate) fn keep(&mut self, name: Name, value: Value) -> Result<(), Trouble<Exit>>
-        ensures { Acts (stored name value (seen self.old)) (seen self.new) result }
-    {
-        match value {
-            Value::Number(number) => self.keep_number(name, number),
-            Value::Text(text) => self.keep_text(name, text),
         }
     }
 
@@ -206,8 +213,19 @@ impl Running {
         }
     }
 
+    /// The last value is the result of the innermost call.
+    #[inline(never)]
+    pub(crate) fn answer_last(&mut self, stack: &mut Stack<Value>) -> Result<Move, Trouble<Exit>>
+        ensures { Acts
+            (Gives (Pass 0 (drop 1 stack.old)) (answered (top stack.old) (seen self.old)))
+            (seen self.new) (led stack.new result) }
+    {
+        self.answer(take_top(stack))?;
+        Ok(Move::Pass(0))
+    }
+
     /// The result of the innermost call, where there is one.
-    pub(crate) fn answer(&mut self, value: Value) -> Result<(), NoMemory>
+    fn answer(&mut self, value: Value) -> Result<(), NoMemory>
         ensures { OnOk result (seen self.new ≡ answered value (seen self.old)) }
     {
         match self.frames.pop() {

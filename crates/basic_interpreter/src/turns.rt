@@ -1,13 +1,14 @@
 //! Statement after statement, and where errors lead.
 
 ghost use Rattle.program_code.specs.Places.{code_kept};
-ghost use Rattle.std.specs.Prelude.{◌≡◌, option_map};
-ghost use Rattle.basic_eval.specs.Acting.{seen};
+ghost use Rattle.std.specs.Prelude.{◌≡◌, Some, option_map};
+ghost use Rattle.job_model.specs.Act.{Breaks};
+ghost use Rattle.basic_eval.specs.Acting.{break_of, seen};
 ghost use Rattle.basic_interpreter.specs.Doing.{Does, left_by, led_by_traps, first_half, second_half, code_does};
 ghost use Rattle.basic_interpreter.specs.Meaning.{left_of};
 
 use crate::clock::Clock;
-use crate::statements::{items, statement};
+use crate::statements::{onward, statement};
 use basic_eval::{Exit, Running, Stack};
 use basic_values::Trouble;
 use monitor_calls::Port;
@@ -29,13 +30,18 @@ pub(crate) fn turns<P: Port>(
 {
     let mut stack = Stack::new(state.alloc);
     let mut place = from;
-    while let Some(to) = first_half(code, place, &mut stack, state, clock, port)? {
-        match second_half(code, to, &mut stack, state, clock, port)? {
-            Some(next) => place = next,
-            None => return Ok(()),
+    loop {
+        let to = match first_half(code, place, &mut stack, state, clock, port) {
+            Ok(Some(to)) => to,
+            Ok(None) => return Ok(()),
+            Err(trouble) => return Err(trouble),
+        };
+        match second_half(code, to, &mut stack, state, clock, port) {
+            Ok(Some(next)) => place = next,
+            Ok(None) => return Ok(()),
+            Err(trouble) => return Err(trouble),
         }
     }
-    Ok(())
 }
 
 /// The first half of a turn: from a place on up to the start of a statement, or to none where a
@@ -52,7 +58,7 @@ pub(crate) fn first_half<P: Port>(
     ensures { Does P.who P.log port.old port.new clock.old clock.new
         (first_half (code_kept code.now) place (seen state.old)) (left_by result (seen state.new)) }
 {
-    let half = items(code, place, stack, state, clock, port);
+    let half = onward(code, place, stack, state, clock, port);
     led_by_traps(code, half, state)
 }
 
@@ -97,10 +103,19 @@ fn led_by_traps(
 {
     match half {
         Ok(to) => Ok(to),
-        Err(Trouble::Refused(why)) => match state.catch(why) {
-            Ok(line) => Ok(Some(code.place_of(line))),
-            Err(why) => Err(Trouble::Refused(why)),
-        },
+        Err(Trouble::Refused(why)) => caught(code, why, state),
         Err(Trouble::NoMemory) => Err(Trouble::NoMemory),
+    }
+}
+
+/// Where a program is led that goes no further.
+#[inline(never)]
+fn caught(code: &Code, why: Exit, state: &mut Running) -> Result<Option<usize>, Trouble<Exit>>
+    ensures { Some (led_by_traps (code_kept code.now) (Breaks (break_of why) (seen state.old)))
+        ≡ left_by result (seen state.new) }
+{
+    match state.catch(why) {
+        Ok(line) => Ok(Some(code.place_of(line))),
+        Err(why) => Err(Trouble::Refused(why)),
     }
 }

@@ -1,16 +1,19 @@
 //! Variables.
 
 ghost use Rattle.std.specs.Prelude.{◌≡◌};
+ghost use Rattle.std.specs.BTreeMap.{IsOrdered};
 ghost use Rattle.job_memory.specs.declared.contents.Content.TheVariants as content;
-ghost use Rattle.job_memory.specs.Answers.{Stores};
+ghost use Rattle.job_memory.specs.Answers.{Stores, Overwrites, Renumbers};
 ghost use Rattle.job_memory.specs.Contents.{size_in, number_in, text_in, LiesInBuffer};
 ghost use Rattle.job_memory.specs.Memory.{variable, store, room_of};
+ghost use Rattle.job_memory.specs.Names.{name_cmp};
 
 use crate::contents::{Content, MOST_ROOM, number_of, size, text_of};
 use crate::memory::Memory;
 use basic_tree::Name;
 use basic_values::{Halt, Int, Text, Trouble};
 use record_fields::{Buffers, Part, lend};
+use std::collections::BTreeMap;
 
 impl Memory {
     /// The number of a variable: 0 where nothing is stored.
@@ -40,6 +43,9 @@ impl Memory {
     pub fn set_number(&mut self, name: Name, value: Int) -> Result<(), Trouble<Halt>>
         ensures { Stores name (content.Number value) self.old self.new result }
     {
+        if overwrite(&mut self.variables, name, value) {
+            return Ok(());
+        }
         self.put(name, Content::Number(value))
     }
 
@@ -86,5 +92,31 @@ impl Memory {
             Some(content) => size(content),
             None => 0,
         }
+    }
+}
+
+/// Puts a number in the place of another, which takes as much room. It tells whether one was there; if
+/// not, nothing changes.
+fn overwrite(variables: &mut BTreeMap<Name, Content>, name: Name, value: Int) -> bool
+    requires { IsOrdered name_cmp variables.old }
+    ensures overwrites { Overwrites name value variables.old.entries variables.new.entries result }
+    ensures still_ordered { IsOrdered name_cmp variables.new }
+{
+    match variables.get_mut(&name) {
+        Some(place) => renumber(place, value),
+        None => false,
+    }
+}
+
+/// Puts a number in the place of another. It tells whether that was one.
+fn renumber(place: &mut Content, value: Int) -> bool
+    ensures { Renumbers value place.old place.new result }
+{
+    match place {
+        Content::Number(number) => {
+            *number = value;
+            true
+        }
+        Content::Own(_) | Content::Fielded { .. } => false,
     }
 }

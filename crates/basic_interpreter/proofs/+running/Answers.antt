@@ -1,4 +1,4 @@
-use Rattle.std.proofs.Common.{drop, ◌≡◌, ◌+◌, ◌<◌, ◌≤◌, List, ◌∷◌, length, refl, ap, ◌∙◌, arith, get_or, min, suc}
+use Rattle.std.proofs.Common.{drop, ◌≡◌, ◌+◌, ◌<◌, ◌≤◌, List, [], ◌∷◌, length, refl, ap, ◌∙◌, arith, get_or, min, suc}
 use Rattle.basic_values.specs.declared.failures.Trouble.TheVariants as trouble
 use Rattle.program_model.specs.Job.{Job}
 use Rattle.program_model.specs.declared.values.Value.{Value}
@@ -88,11 +88,11 @@ statements::items-loop-at-preserved g t c =
     let stands = item_at code.items at one lt (c.index-items-at.is ∙ ap (λ (items : List Item). get_or items at one) c.items-items.ensures) in
     let j = seen c.loop-at.state in
     let k = seen c.one.new.state in
-    let done = rw c.in-Pass.is at c.in_ok-count.ensures in
+    let done = rw (c.in-Ok-Pass.is, c.in-Ok-Pass.field-0-is) at c.one.ensures in
     record {
       depth = item_keeps code (at + 1) one c.loop-at.stack j k done ∙ c.loop-at.invariant.depth;
       means = comes_on c.loop-at.invariant.means
-          (item_passes code at one lt stands c.loop-at.stack j c.in-Pass.count c.past-at.result c.one.new.stack k (c.past-at.ensures ∙ ap (λ (items : List Item). min (at + 1 + c.in-Pass.count) (length items)) c.items-items.ensures) done);
+          (item_passes code at one lt stands c.loop-at.stack j c.in-Ok-Pass.count c.past-at.result c.one.new.stack k (c.past-at.ensures ∙ ap (λ (items : List Item). min (at + 1 + c.in-Ok-Pass.count) (length items)) c.items-items.ensures) done);
     }
 
 pub statements::items-returns-in-Start : goal.statements::items-returns-in-Start
@@ -104,8 +104,8 @@ statements::items-returns-in-Start g t c =
     let stands = item_at code.items at one lt (c.index-items-at.is ∙ ap (λ (items : List Item). get_or items at one) c.items-items.ensures) in
     comes_does c.loop-at.invariant.means (start_leads code at c.in-Start.field-0 lt (stands ∙ ap (λ (i : Item). i ∷ drop (suc at) code.items) c.in-Start.is) c.loop-at.stack (seen c.loop-at.state))
 
-pub statements::items-returns-in_err-count : goal.statements::items-returns-in_err-count
-statements::items-returns-in_err-count g t c =
+pub statements::items-returns-in-Err : goal.statements::items-returns-in-Err
+statements::items-returns-in-Err g t c =
     let code = code_kept c.args.code.now in
     let at = c.loop-at.at in
     let one = c.index-items-at.result in
@@ -113,12 +113,11 @@ statements::items-returns-in_err-count g t c =
     let stands = item_at code.items at one lt (c.index-items-at.is ∙ ap (λ (items : List Item). get_or items at one) c.items-items.ensures) in
     let j = seen c.loop-at.state in
     let k = seen c.one.new.state in
-    let e = c.in_err-count.field-0.0 in
-    does_to (as_error e c.from_residual.result k c.from_residual.ensures.1)
-    (comes_does c.loop-at.invariant.means (item_leads code at one lt stands c.loop-at.stack j (λ n. error_then (goes_on code at n) e k) c.in_err-count.ensures))
+    let e = c.in-Err.trouble in
+    comes_does c.loop-at.invariant.means (item_leads code at one lt stands c.loop-at.stack j (λ n. error_then (goes_on code at n) e k) (rw c.in-Err.is at c.one.ensures))
 
-pub statements::items-returns-in-To : goal.statements::items-returns-in-To
-statements::items-returns-in-To g t c =
+pub statements::items-returns-in-Ok-To : goal.statements::items-returns-in-Ok-To
+statements::items-returns-in-Ok-To g t c =
     let code = code_kept c.args.code.now in
     let at = c.loop-at.at in
     let one = c.index-items-at.result in
@@ -126,10 +125,10 @@ statements::items-returns-in-To g t c =
     let stands = item_at code.items at one lt (c.index-items-at.is ∙ ap (λ (items : List Item). get_or items at one) c.items-items.ensures) in
     let j = seen c.loop-at.state in
     let k = seen c.one.new.state in
-    comes_does c.loop-at.invariant.means (item_leads code at one lt stands c.loop-at.stack j (λ n. refl) (rw c.in-To.is at c.in_ok-count.ensures))
+    comes_does c.loop-at.invariant.means (item_leads code at one lt stands c.loop-at.stack j (λ n. refl) (rw (c.in-Ok-To.is, c.in-Ok-To.field-0-is) at c.one.ensures))
 
-pub statements::items-returns-in-Away : goal.statements::items-returns-in-Away
-statements::items-returns-in-Away g t c =
+pub statements::items-returns-in-Ok-Away : goal.statements::items-returns-in-Ok-Away
+statements::items-returns-in-Ok-Away g t c =
     let code = code_kept c.args.code.now in
     let at = c.loop-at.at in
     let one = c.index-items-at.result in
@@ -137,7 +136,7 @@ statements::items-returns-in-Away g t c =
     let stands = item_at code.items at one lt (c.index-items-at.is ∙ ap (λ (items : List Item). get_or items at one) c.items-items.ensures) in
     let j = seen c.loop-at.state in
     let k = seen c.one.new.state in
-    comes_does c.loop-at.invariant.means (item_leads code at one lt stands c.loop-at.stack j (λ n. refl) (rw c.in-Away.is at c.in_ok-count.ensures))
+    comes_does c.loop-at.invariant.means (item_leads code at one lt stands c.loop-at.stack j (λ n. refl) (rw (c.in-Ok-Away.is, c.in-Ok-Away.field-0-is) at c.one.ensures))
 
 pub statements::items-returns : goal.statements::items-returns
 statements::items-returns g t c =
@@ -147,36 +146,38 @@ statements::items-returns g t c =
 
 -- ONE ITEM
 
-pub statements::one-returns-in_err-value-in-Call : goal.statements::one-returns-in_err-value-in-Call
-statements::one-returns-in_err-value-in-Call g t c =
+pub statements::call_last-returns-in_err-value : goal.statements::call_last-returns-in_err-value
+statements::call_last-returns-in_err-value g t c behind =
     let are = c.last-arguments.ensures in
     let j = seen c.args.state.now in
     let k = seen c.call.new.state in
-    let e = c.in_err-value-in-Call.field-0.0 in
-    rw c.in-Call.is
-    (does_to (as_error_led c.args.stack.now e c.from_residual.result k c.from_residual.ensures.1) (call_fails (code_kept c.args.code.now) c.args.behind c.in-Call.function c.in-Call.parameters c.in-Call.count c.in-Call.body c.args.stack.now c.last-arguments.result.now j are e k (rw c.as_slice.ensures at c.in_err-value-in-Call.ensures)))
+    let e = c.in_err-value.field-0.0 in
+    does_to (as_error_led c.args.stack.now e c.from_residual.result k c.from_residual.ensures.1) (call_fails (code_kept c.args.code.now) behind c.args.function.now c.args.parameters.now c.args.count c.args.body.now c.args.stack.now c.last-arguments.result.now j are e k (rw c.as_slice.ensures at c.in_err-value.ensures))
 
-pub statements::one-returns-in_err-push-in-Call : goal.statements::one-returns-in_err-push-in-Call
-statements::one-returns-in_err-push-in-Call g t c =
+pub statements::call_last-returns-in_err-push : goal.statements::call_last-returns-in_err-push
+statements::call_last-returns-in_err-push g t c behind =
     let are = c.last-arguments.ensures in
     let j = seen c.args.state.now in
     let k = seen c.call.new.state in
-    rw c.in-Call.is
-    (does_to (as_error_led c.push.new.self trouble.NoMemory c.from_residual-in_err-push-in-Call.result k c.from_residual-in_err-push-in-Call.ensures.1)
-    (call_is_lost (code_kept c.args.code.now) c.args.behind c.in-Call.function c.in-Call.parameters c.in-Call.count c.in-Call.body c.args.stack.now c.last-arguments.result.now j are c.in_ok-value-in-Call.value k (rw c.as_slice.ensures at c.in_ok-value-in-Call.ensures)))
+    does_to (as_error_led c.push.new.self trouble.NoMemory c.from_residual-in_err-push.result k c.from_residual-in_err-push.ensures.1)
+    (call_is_lost (code_kept c.args.code.now) behind c.args.function.now c.args.parameters.now c.args.count c.args.body.now c.args.stack.now c.last-arguments.result.now j are c.in_ok-value.value k (rw c.as_slice.ensures at c.in_ok-value.ensures))
+
+pub statements::call_last-returns : goal.statements::call_last-returns
+statements::call_last-returns g t c behind =
+    let are = c.last-arguments.ensures in
+    let j = seen c.args.state.now in
+    let k = seen c.call.new.state in
+    let v = c.in_ok-value.value in
+    let is = c.in_ok-push.ensures ∙ ap (λ (l : List Value). v ∷ l) c.drop_last.ensures in
+    call_pushes (code_kept c.args.code.now) behind c.args.function.now c.args.parameters.now c.args.count c.args.body.now c.args.stack.now c.last-arguments.result.now j are v c.push.new.self k is (rw c.as_slice.ensures at c.in_ok-value.ensures)
+
+pub statements::one-returns-in-Call : goal.statements::one-returns-in-Call
+statements::one-returns-in-Call g t c =
+    rw c.in-Call.is (c.call_last.ensures c.args.behind)
 
 pub statements::one-step-requires : goal.statements::one-step-requires
 statements::one-step-requires g t c =
     no_call c.args.item.now (λ f xs count body. c.in_default.not-Call f xs count body)
-
-pub statements::one-returns-in_ok-push-in-Call : goal.statements::one-returns-in_ok-push-in-Call
-statements::one-returns-in_ok-push-in-Call g t c =
-    let are = c.last-arguments.ensures in
-    let j = seen c.args.state.now in
-    let k = seen c.call.new.state in
-    let v = c.in_ok-value-in-Call.value in
-    let is = c.in_ok-push-in-Call.ensures ∙ ap (λ (l : List Value). v ∷ l) c.drop_last.ensures in
-    rw c.in-Call.is (call_pushes (code_kept c.args.code.now) c.args.behind c.in-Call.function c.in-Call.parameters c.in-Call.count c.in-Call.body c.args.stack.now c.last-arguments.result.now j are v c.push.new.self k is (rw c.as_slice.ensures at c.in_ok-value-in-Call.ensures))
 
 pub statements::one-returns-in_default : goal.statements::one-returns-in_default
 statements::one-returns-in_default g t c =
@@ -185,29 +186,40 @@ statements::one-returns-in_default g t c =
 
 -- A STATEMENT
 
-pub statements::statement-returns-in_err-items : goal.statements::statement-returns-in_err-items
-statements::statement-returns-in_err-items g t c =
-    let e = c.in_err-items.field-0.0 in
-    does_to (as_error e c.from_residual.result (seen c.items.new.state) c.from_residual.ensures.1) (statement_broken (code_kept c.args.code.now) c.args.from (seen c.args.state.now) (seen c.items.new.state) e c.in_err-items.ensures)
-
-pub statements::statement-items-requires-in-Some : goal.statements::statement-items-requires-in-Some
-statements::statement-items-requires-in-Some g t c κs within =
-    let h : length c.items.new.state.frames ≡ length c.args.state.now.frames = items_keep (code_kept c.args.code.now) c.args.from (seen c.args.state.now) (seen c.items.new.state) c.in_ok-items.ensures in
+pub statements::statement-onward-requires : goal.statements::statement-onward-requires
+statements::statement-onward-requires g t c κs within =
+    let h : length c.items.new.state.frames ≡ length c.args.state.now.frames = items_keep (code_kept c.args.code.now) c.args.from (seen c.args.state.now) (seen c.items.new.state) (rw (c.in-Ok-Some.is, c.in-Ok-Some.field-0-is) at c.items.ensures) in
     (omega (arith, h), within)
 
-pub statements::statement-returns-in-None : goal.statements::statement-returns-in-None
-statements::statement-returns-in-None g t c =
-    statement_left (code_kept c.args.code.now) c.args.from (seen c.args.state.now) (seen c.items.new.state) (rw c.in-None.is at c.in_ok-items.ensures)
+pub statements::statement-returns-in-Ok-Some : goal.statements::statement-returns-in-Ok-Some
+statements::statement-returns-in-Ok-Some g t c =
+    statement_goes_on (code_kept c.args.code.now) c.args.from (seen c.args.state.now) (seen c.items.new.state) c.in-Ok-Some.to (rw (c.in-Ok-Some.is, c.in-Ok-Some.field-0-is) at c.items.ensures) c.onward.ensures
 
-pub statements::statement-returns-in-Some : goal.statements::statement-returns-in-Some
-statements::statement-returns-in-Some g t c =
-    statement_goes_on (code_kept c.args.code.now) c.args.from (seen c.args.state.now) (seen c.items.new.state) c.in-Some.to (rw c.in-Some.is at c.in_ok-items.ensures) c.items-in-Some.ensures
+pub statements::statement-returns-in-Ok-None : goal.statements::statement-returns-in-Ok-None
+statements::statement-returns-in-Ok-None g t c =
+    statement_left (code_kept c.args.code.now) c.args.from (seen c.args.state.now) (seen c.items.new.state) (rw (c.in-Ok-None.is, c.in-Ok-None.field-0-is) at c.items.ensures)
+
+pub statements::statement-returns-in-Err : goal.statements::statement-returns-in-Err
+statements::statement-returns-in-Err g t c =
+    statement_broken (code_kept c.args.code.now) c.args.from (seen c.args.state.now) (seen c.items.new.state) c.in-Err.trouble (rw c.in-Err.is at c.items.ensures)
+
+-- UP TO A START
+
+pub statements::onward-returns-in-Some-Start : goal.statements::onward-returns-in-Some-Start
+statements::onward-returns-in-Some-Start g t c =
+    let code = code_kept c.args.code.now in
+    let at = c.args.from in
+    let one = c.in-Some-Start.field-0.now in
+    let found = c.in-Some-Start.ensures.lookup in
+    let lt : at < length code.items = omega (arith, found.3.0, ap length c.items.ensures) in
+    let stands = item_at code.items at one lt (found.1 ∙ ap (λ (items : List Item). get_or items at one) c.items.ensures) in
+    start_leads code at c.in-Some-Start.field-0-0 lt (stands ∙ ap (λ (i : Item). i ∷ drop (suc at) code.items) c.in-Some-Start.field-0-is) [] (seen c.args.state.now)
 
 -- THE HALVES OF A TURN
 
 pub turns::first_half-returns : goal.turns::first_half-returns
 turns::first_half-returns g t c =
-    first_does (code_kept c.args.code.now) c.args.place (seen c.args.state.now) c.items-half.ensures c.led_by_traps.ensures
+    first_does (code_kept c.args.code.now) c.args.place (seen c.args.state.now) c.onward-half.ensures c.led_by_traps.ensures
 
 pub turns::second_half-returns-in_err-take_unit-in-Start : goal.turns::second_half-returns-in_err-take_unit-in-Start
 turns::second_half-returns-in_err-take_unit-in-Start g t c =
@@ -258,73 +270,73 @@ turns::second_half-returns-in_default g t c =
 
 -- TURN AFTER TURN
 
-pub turns::turns-loop-stack-init : goal.turns::turns-loop-stack-init
-turns::turns-loop-stack-init g t c =
+pub turns::turns-loop-to-init : goal.turns::turns-loop-to-init
+turns::turns-loop-to-init g t c =
     record { depth = refl; means = comes_first }
 
-pub turns::turns-returns-in_err-to : goal.turns::turns-returns-in_err-to
-turns::turns-returns-in_err-to g t c =
+pub turns::turns-returns-in-Err : goal.turns::turns-returns-in-Err
+turns::turns-returns-in-Err g t c =
     let code = code_kept c.args.code.now in
-    let j = seen c.loop-stack.state in
+    let j = seen c.loop-to.state in
     let k = seen c.first_half.new.state in
-    let e = c.in_err-to.field-0.0 in
-    comes_does c.loop-stack.invariant.means (does_to (as_error_run e c.from_residual.result k c.from_residual.ensures.1) (broken_in_first code c.loop-stack.place j k e c.in_err-to.ensures))
+    let e = c.in-Err.trouble in
+    comes_does c.loop-to.invariant.means (broken_in_first code c.loop-to.place j k e (rw c.in-Err.is at c.first_half.ensures))
 
 pub turns::turns-second_half-requires : goal.turns::turns-second_half-requires
 turns::turns-second_half-requires g t c κs within =
     let code = code_kept c.args.code.now in
-    let j = seen c.loop-stack.state in
+    let j = seen c.loop-to.state in
     let k = seen c.first_half.new.state in
-    let h : length c.first_half.new.state.frames ≡ length c.loop-stack.state.frames = first_keeps code c.loop-stack.place j k c.in_ok-to.ensures in
-    let i = c.loop-stack.invariant.depth in
+    let h : length c.first_half.new.state.frames ≡ length c.loop-to.state.frames = first_keeps code c.loop-to.place j k (rw (c.in-Ok-Some.is, c.in-Ok-Some.field-0-is) at c.first_half.ensures) in
+    let i = c.loop-to.invariant.depth in
     (omega (arith, h, i), within)
 
-pub turns::turns-returns-in_err-next : goal.turns::turns-returns-in_err-next
-turns::turns-returns-in_err-next g t c =
+pub turns::turns-returns-in-Err-second_half : goal.turns::turns-returns-in-Err-second_half
+turns::turns-returns-in-Err-second_half g t c =
     let code = code_kept c.args.code.now in
-    let j = seen c.loop-stack.state in
+    let j = seen c.loop-to.state in
     let k = seen c.first_half.new.state in
     let l = seen c.second_half.new.state in
-    let first = rw c.in-Some.is at c.in_ok-to.ensures in
-    let e = c.in_err-next.field-0.0 in
-    comes_does c.loop-stack.invariant.means (does_to (as_error_run e c.from_residual-in_err-next.result l c.from_residual-in_err-next.ensures.1) (broken_in_second code c.loop-stack.place c.in-Some.to j k l first e c.in_err-next.ensures))
+    let first = rw (c.in-Ok-Some.is, c.in-Ok-Some.field-0-is) at c.first_half.ensures in
+    let e = c.in-Err-second_half.trouble in
+    comes_does c.loop-to.invariant.means (broken_in_second code c.loop-to.place c.in-Ok-Some.to j k l first e (rw c.in-Err-second_half.is at c.second_half.ensures))
 
-pub turns::turns-loop-stack-smaller : goal.turns::turns-loop-stack-smaller
-turns::turns-loop-stack-smaller g t c =
+pub turns::turns-loop-to-smaller : goal.turns::turns-loop-to-smaller
+turns::turns-loop-to-smaller g t c =
     let code = code_kept c.args.code.now in
-    let j = seen c.loop-stack.state in
+    let j = seen c.loop-to.state in
     let k = seen c.first_half.new.state in
     let l = seen c.second_half.new.state in
-    let first = rw c.in-Some.is at c.in_ok-to.ensures in
-    let a : units_left c.first_half.new.clock ≤ units_left c.loop-stack.clock = no_more k first in
-    let b : units_left c.second_half.new.clock < units_left c.first_half.new.clock = spends code c.in-Some.to k l c.in_ok-next.ensures in
+    let first = rw (c.in-Ok-Some.is, c.in-Ok-Some.field-0-is) at c.first_half.ensures in
+    let a : units_left c.first_half.new.clock ≤ units_left c.loop-to.clock = no_more k first in
+    let b : units_left c.second_half.new.clock < units_left c.first_half.new.clock = spends code c.in-Ok-Some.to k l (rw (c.in-Ok-Some-second_half.is, c.in-Ok-Some-second_half.field-0-is) at c.second_half.ensures) in
     omega (arith, a, b)
 
-pub turns::turns-loop-stack-preserved : goal.turns::turns-loop-stack-preserved
-turns::turns-loop-stack-preserved g t c =
+pub turns::turns-loop-to-preserved : goal.turns::turns-loop-to-preserved
+turns::turns-loop-to-preserved g t c =
     let code = code_kept c.args.code.now in
-    let j = seen c.loop-stack.state in
+    let j = seen c.loop-to.state in
     let k = seen c.first_half.new.state in
     let l = seen c.second_half.new.state in
-    let first = rw c.in-Some.is at c.in_ok-to.ensures in
-    let second = rw c.in-Some-2.is at c.in_ok-next.ensures in
+    let first = rw (c.in-Ok-Some.is, c.in-Ok-Some.field-0-is) at c.first_half.ensures in
+    let second = rw (c.in-Ok-Some-second_half.is, c.in-Ok-Some-second_half.field-0-is) at c.second_half.ensures in
     record {
-      depth = second_keeps code c.in-Some.to k l second ∙ first_keeps code c.loop-stack.place j k first ∙ c.loop-stack.invariant.depth;
-      means = comes_on c.loop-stack.invariant.means (next_turn code c.loop-stack.place c.in-Some.to j k l first c.in-Some-2.next second);
+      depth = second_keeps code c.in-Ok-Some.to k l second ∙ first_keeps code c.loop-to.place j k first ∙ c.loop-to.invariant.depth;
+      means = comes_on c.loop-to.invariant.means (next_turn code c.loop-to.place c.in-Ok-Some.to j k l first c.in-Ok-Some-second_half.next second);
     }
 
-pub turns::turns-returns-in-None : goal.turns::turns-returns-in-None
-turns::turns-returns-in-None g t c =
+pub turns::turns-returns-in-Ok-None-second_half : goal.turns::turns-returns-in-Ok-None-second_half
+turns::turns-returns-in-Ok-None-second_half g t c =
     let code = code_kept c.args.code.now in
-    let j = seen c.loop-stack.state in
+    let j = seen c.loop-to.state in
     let k = seen c.first_half.new.state in
     let l = seen c.second_half.new.state in
-    let first = rw c.in-Some.is at c.in_ok-to.ensures in
-    comes_does c.loop-stack.invariant.means (left_in_second code c.loop-stack.place c.in-Some.to j k l first (rw c.in-None.is at c.in_ok-next.ensures))
+    let first = rw (c.in-Ok-Some.is, c.in-Ok-Some.field-0-is) at c.first_half.ensures in
+    comes_does c.loop-to.invariant.means (left_in_second code c.loop-to.place c.in-Ok-Some.to j k l first (rw (c.in-Ok-None-second_half.is, c.in-Ok-None-second_half.field-0-is) at c.second_half.ensures))
 
-pub turns::turns-returns : goal.turns::turns-returns
-turns::turns-returns g t c =
+pub turns::turns-returns-in-Ok-None : goal.turns::turns-returns-in-Ok-None
+turns::turns-returns-in-Ok-None g t c =
     let code = code_kept c.args.code.now in
-    let j = seen c.loop-stack.state in
+    let j = seen c.loop-to.state in
     let k = seen c.first_half.new.state in
-    comes_does c.loop-stack.invariant.means (left_in_first code c.loop-stack.place j k (rw c.in_default.is at c.in_ok-to.ensures))
+    comes_does c.loop-to.invariant.means (left_in_first code c.loop-to.place j k (rw (c.in-Ok-None.is, c.in-Ok-None.field-0-is) at c.first_half.ensures))
