@@ -4,3 +4,4 @@ mod Rows
 pub mod Sessions
 pub mod Shrinking
 pub mod Talks
+pub mod Names
