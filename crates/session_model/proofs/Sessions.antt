@@ -25,9 +25,9 @@ use Rattle.program_model.specs.Soundness.{refusal_of, refusal_now}
 use Rattle.stage_forms.specs.Stage.{are_in_stage}
 use Rattle.session_model.specs.Commands.{Login, Naming, Nameless, Named, Misnamed, Range, Command, Hello, Bye, New, Rename, ListLines, Delete, Run, RunFile, Continue, Old, Save, Unsave, Catalog, Cataloging, OfOwn, OfAccount, OfNone, Numbered, Immediate, command_of}
 use Rattle.session_model.specs.Editing.{Edited, Accepted, Refused, edited}
-use Rattle.session_model.specs.ProgramFiles.{spec_read, own_spec, is_blank_text, saved_pages, program_on}
+use Rattle.session_model.specs.ProgramFiles.{spec_read, spec_or_own, is_blank_text, saved_pages, program_on}
 use Rattle.session_model.specs.Texts.{not_in_stage}
-use Rattle.session_model.specs.Talk.{Session, Step, answered, says, keys_are, entered, hello, leave, begins_new, renames, headed, lists, deletes, takes_edit, broken_off, tried, by_name, with_name_of, with_name_or_own, loaded, loads, reads_old, old, saves_as, saves, kills_file, unsaves, with_screen, catalogs_of, catalogs, rests, runs_loaded, reads_and_runs, runs_file, program_by, outlived, outlives, reported, run_is_over, runs_unless, begun, goes_on, line_unless, immediate, visitor_acts, user_acts, acts, line_acts, with_next, session, opening}
+use Rattle.session_model.specs.Talk.{Session, Step, answered, says, keys_are, entered, hello, leave, begins_new, renames, headed, lists, deletes, takes_edit, broken_off, tried, by_name, with_name_of, loaded, loads, reads_old, old, saves_as, saves, kills_file, unsaves, with_screen, catalogs_of, catalogs, rests, runs_loaded, reads_and_runs, runs_file, program_by, outlived, outlives, reported, run_is_over, runs_unless, begun, goes_on, line_unless, immediate, visitor_acts, user_acts, acts, line_acts, with_next, session, opening}
 use Rattle.job_model.specs.Texts.{line_end}
 use Rattle.job_model.specs.Follow.{Path, here, asked, quiet, tick, gone}
 use Rattle.job_model.specs.Play.{Clock}
@@ -108,9 +108,6 @@ module _ {R : Type 0} (n : ℕ) where
   pub with_name_keeps : (own : Account) (tail : List ℕ) (act : Spec → Session R → Step R) (s : Session R) → Fewer n s.job → ((spec : Spec) → Keeps n (act spec s)) → Keeps n (with_name_of own tail act s)
   with_name_keeps own tail act s h f = either_keeps (is_blank_text tail) _ _ h (by_name_keeps (spec_read own tail) act s h f)
 
-  name_or_own_keeps : (own : Account) (tail : List ℕ) (act : Spec → Session R → Step R) (s : Session R) → Fewer n s.job → ((spec : Spec) → Keeps n (act spec s)) → Keeps n (with_name_or_own own tail act s)
-  name_or_own_keeps own tail act s h f = either_keeps (is_blank_text tail) _ _ (f (own_spec own s.name)) (by_name_keeps (spec_read own tail) act s h f)
-
   loads_keeps : (name : List ℕ) (o : Option Lines) (s : Session R) → Fewer n s.job → Keeps n (loads name o s)
   loads_keeps name None s h = h
   loads_keeps name (Some lines) s h = h
@@ -121,10 +118,10 @@ module _ {R : Type 0} (n : ℕ) where
 
   saves_keeps : (own : Account) (kind : OpenKind) (tail : List ℕ) (s : Session R) → Fewer n s.job → Keeps n (saves own kind tail s)
   saves_keeps own kind tail s h =
-      name_or_own_keeps own tail (saves_as kind) s h (λ spec. tried_keeps (λ _. s) _ (writes_pages spec.name kind spec.code (saved_pages s.lines)) (λ _. h) (λ _ s g. g))
+      by_name_keeps (spec_or_own own s.name tail) (saves_as kind) s h (λ spec. tried_keeps (λ _. s) _ (writes_pages spec.name kind spec.code (saved_pages s.lines)) (λ _. h) (λ _ s g. g))
 
   unsaves_keeps : (own : Account) (tail : List ℕ) (s : Session R) → Fewer n s.job → Keeps n (unsaves own tail s)
-  unsaves_keeps own tail s h = name_or_own_keeps own tail kills_file s h (λ spec. tried_keeps (λ _. s) _ (kills spec.name) (λ _. h) (λ _ s g. g))
+  unsaves_keeps own tail s h = by_name_keeps (spec_or_own own s.name tail) kills_file s h (λ spec. tried_keeps (λ _. s) _ (kills spec.name) (λ _. h) (λ _ s g. g))
 
   catalogs_of_keeps : (owner : Account) (s : Session R) → Fewer n s.job → Keeps n (catalogs_of owner s)
   catalogs_of_keeps owner s h = tried_keeps (with_screen s) _ (catalog_from owner 0 MOST_FILES s.job.screen) (λ _. h) (λ _ s g. g)

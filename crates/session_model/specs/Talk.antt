@@ -38,7 +38,7 @@ use Rattle.program_model.specs.Soundness.{refusal_of, refusal_now}
 use Rattle.stage_forms.specs.Stage.{are_in_stage}
 use Rattle.terminal_line.specs.Columns.{column_of, fresh_text}
 use Rattle.session_model.specs.Editing.{Edited, Accepted, Refused, edited}
-use Rattle.session_model.specs.ProgramFiles.{spec_read, own_spec, is_blank_text, saved_pages, program_on}
+use Rattle.session_model.specs.ProgramFiles.{spec_read, spec_or_own, is_blank_text, saved_pages, program_on}
 use Rattle.session_model.specs.Texts.{ready, please_say_hello, invalid_entry, already_logged_in, illegal_command, not_in_stage, bye, illegal_file_name, fault_line, halt_line, cant_continue, refusal_text, lowering_text}
 
 -- THE SESSION
@@ -175,11 +175,6 @@ abbrev pub with_name_of : {R : Type 0} → Account → List ℕ → (Spec → Se
 with_name_of own tail act s =
     if is_blank_text tail then answered illegal_command s else by_name (spec_read own tail) act s
 
--- SAVE, REPLACE and UNSAVE: without a name they take that of the program in memory
-abbrev pub with_name_or_own : {R : Type 0} → Account → List ℕ → (Spec → Session R → Step R) → Session R → Step R
-with_name_or_own own tail act s =
-    if is_blank_text tail then act (own_spec own s.name) s else by_name (spec_read own tail) act s
-
 -- the program that was read is in memory, and all is as NEW leaves it
 abbrev pub loaded : {R : Type 0} → List ℕ → Lines → Session R → Session R
 loaded name lines s = with_lines lines (named name (emptied s))
@@ -202,14 +197,14 @@ saves_as kind spec s =
     on_files (writes_pages spec.name kind spec.code (saved_pages s.lines)) (λ _ s. answered [] s) s
 
 abbrev pub saves : {R : Type 0} → Account → OpenKind → List ℕ → Session R → Step R
-saves own kind tail s = with_name_or_own own tail (saves_as kind) s
+saves own kind tail s = by_name (spec_or_own own s.name tail) (saves_as kind) s
 
 -- UNSAVE, which does not look at the code
 abbrev pub kills_file : {R : Type 0} → Spec → Session R → Step R
 kills_file spec s = on_files (kills spec.name) (λ _ s. answered [] s) s
 
 abbrev pub unsaves : {R : Type 0} → Account → List ℕ → Session R → Step R
-unsaves own tail s = with_name_or_own own tail kills_file s
+unsaves own tail s = by_name (spec_or_own own s.name tail) kills_file s
 
 -- CAT
 abbrev pub with_screen : {R : Type 0} → Session R → List ℕ → Session R
