@@ -123,18 +123,18 @@ module _ (p : Program) where
   old_low own tail s =
       if_low (is_blank_text tail) _ _ _ _ refl
       (by_name_low (spec_read own tail) (reads_old judge_of) (reads_old judge_of) s
-      (λ spec. tried_low (λ _. s) _ _ (reads_pages spec.name spec.code) (λ pages s. loads_low spec.name.stem (program_on judge_of pages) s)))
+      (λ spec. tried_low (λ _. s) (λ pages s. loads spec.name.stem (program_on judge_of pages) s) (λ pages s. loads spec.name.stem (program_on judge_of pages) s) (reads_pages spec.name spec.code) (λ pages s. loads_low spec.name.stem (program_on judge_of pages) s)))
 
   saves_low : (own : Account) (kind : OpenKind) (tail : List ℕ) (s : Session Position) → saves own kind tail (low s) ≡ lows (saves own kind tail s)
   saves_low own kind tail s =
       by_name_low (spec_or_own own s.name tail) (saves_as kind) (saves_as kind) s
-      (λ spec. tried_low (λ _. s) _ _ (writes_pages spec.name kind spec.code (saved_pages s.lines)) (λ _ s. refl))
+      (λ spec. tried_low (λ _. s) (λ _ s. answered [] s) (λ _ s. answered [] s) (writes_pages spec.name kind spec.code (saved_pages s.lines)) (λ _ s. refl))
 
   unsaves_low : (own : Account) (tail : List ℕ) (s : Session Position) → unsaves own tail (low s) ≡ lows (unsaves own tail s)
-  unsaves_low own tail s = by_name_low (spec_or_own own s.name tail) kills_file kills_file s (λ spec. tried_low (λ _. s) _ _ (kills spec.name) (λ _ s. refl))
+  unsaves_low own tail s = by_name_low (spec_or_own own s.name tail) kills_file kills_file s (λ spec. tried_low (λ _. s) (λ _ s. answered [] s) (λ _ s. answered [] s) (kills spec.name) (λ _ s. refl))
 
   catalogs_of_low : (owner : Account) (s : Session Position) → catalogs_of owner (low s) ≡ lows (catalogs_of owner s)
-  catalogs_of_low owner s = tried_low (with_screen s) _ _ (catalog_from owner 0 MOST_FILES s.job.screen) (λ _ s. refl)
+  catalogs_of_low owner s = tried_low (with_screen s) (λ _ s. answered [] s) (λ _ s. answered [] s) (catalog_from owner 0 MOST_FILES s.job.screen) (λ _ s. refl)
 
   catalogs_low : (own : Account) (of : Cataloging) (s : Session Position) → catalogs own of (low s) ≡ lows (catalogs own of s)
   catalogs_low own OfOwn s = catalogs_of_low own s
@@ -266,17 +266,17 @@ module _ (p : Program) where
   old_fits : (own : Account) (tail : List ℕ) (s : Session Position) → StopFits p s → Fit (old judge_of own tail s)
   old_fits own tail s h =
       if_fits (is_blank_text tail) _ _ h
-      (by_name_fits (spec_read own tail) (reads_old judge_of) s h (λ spec. tried_fits (λ _. s) _ (reads_pages spec.name spec.code) (λ _. h) (λ pages s g. loads_fits spec.name.stem (program_on judge_of pages) s g)))
+      (by_name_fits (spec_read own tail) (reads_old judge_of) s h (λ spec. tried_fits (λ _. s) (λ pages s. loads spec.name.stem (program_on judge_of pages) s) (reads_pages spec.name spec.code) (λ _. h) (λ pages s g. loads_fits spec.name.stem (program_on judge_of pages) s g)))
 
   saves_fits : (own : Account) (kind : OpenKind) (tail : List ℕ) (s : Session Position) → StopFits p s → Fit (saves own kind tail s)
   saves_fits own kind tail s h =
-      by_name_fits (spec_or_own own s.name tail) (saves_as kind) s h (λ spec. tried_fits (λ _. s) _ (writes_pages spec.name kind spec.code (saved_pages s.lines)) (λ _. h) (λ _ s g. g))
+      by_name_fits (spec_or_own own s.name tail) (saves_as kind) s h (λ spec. tried_fits (λ _. s) (λ _ s. answered [] s) (writes_pages spec.name kind spec.code (saved_pages s.lines)) (λ _. h) (λ _ s g. g))
 
   unsaves_fits : (own : Account) (tail : List ℕ) (s : Session Position) → StopFits p s → Fit (unsaves own tail s)
-  unsaves_fits own tail s h = by_name_fits (spec_or_own own s.name tail) kills_file s h (λ spec. tried_fits (λ _. s) _ (kills spec.name) (λ _. h) (λ _ s g. g))
+  unsaves_fits own tail s h = by_name_fits (spec_or_own own s.name tail) kills_file s h (λ spec. tried_fits (λ _. s) (λ _ s. answered [] s) (kills spec.name) (λ _. h) (λ _ s g. g))
 
   catalogs_of_fits : (owner : Account) (s : Session Position) → StopFits p s → Fit (catalogs_of owner s)
-  catalogs_of_fits owner s h = tried_fits (with_screen s) _ (catalog_from owner 0 MOST_FILES s.job.screen) (λ _. h) (λ _ s g. g)
+  catalogs_of_fits owner s h = tried_fits (with_screen s) (λ _ s. answered [] s) (catalog_from owner 0 MOST_FILES s.job.screen) (λ _. h) (λ _ s g. g)
 
   catalogs_fits : (own : Account) (of : Cataloging) (s : Session Position) → StopFits p s → Fit (catalogs own of s)
   catalogs_fits own OfOwn s h = catalogs_of_fits own s h

@@ -114,17 +114,17 @@ module _ {R : Type 0} (n : ℕ) where
 
   old_keeps : (judge : Judge) (own : Account) (tail : List ℕ) (s : Session R) → Fewer n s.job → Keeps n (old judge own tail s)
   old_keeps judge own tail s h =
-      with_name_keeps own tail (reads_old judge) s h (λ spec. tried_keeps (λ _. s) _ (reads_pages spec.name spec.code) (λ _. h) (λ pages s g. loads_keeps spec.name.stem (program_on judge pages) s g))
+      with_name_keeps own tail (reads_old judge) s h (λ spec. tried_keeps (λ _. s) (λ pages s. loads spec.name.stem (program_on judge pages) s) (reads_pages spec.name spec.code) (λ _. h) (λ pages s g. loads_keeps spec.name.stem (program_on judge pages) s g))
 
   saves_keeps : (own : Account) (kind : OpenKind) (tail : List ℕ) (s : Session R) → Fewer n s.job → Keeps n (saves own kind tail s)
   saves_keeps own kind tail s h =
-      by_name_keeps (spec_or_own own s.name tail) (saves_as kind) s h (λ spec. tried_keeps (λ _. s) _ (writes_pages spec.name kind spec.code (saved_pages s.lines)) (λ _. h) (λ _ s g. g))
+      by_name_keeps (spec_or_own own s.name tail) (saves_as kind) s h (λ spec. tried_keeps (λ _. s) (λ _ s. answered [] s) (writes_pages spec.name kind spec.code (saved_pages s.lines)) (λ _. h) (λ _ s g. g))
 
   unsaves_keeps : (own : Account) (tail : List ℕ) (s : Session R) → Fewer n s.job → Keeps n (unsaves own tail s)
-  unsaves_keeps own tail s h = by_name_keeps (spec_or_own own s.name tail) kills_file s h (λ spec. tried_keeps (λ _. s) _ (kills spec.name) (λ _. h) (λ _ s g. g))
+  unsaves_keeps own tail s h = by_name_keeps (spec_or_own own s.name tail) kills_file s h (λ spec. tried_keeps (λ _. s) (λ _ s. answered [] s) (kills spec.name) (λ _. h) (λ _ s g. g))
 
   catalogs_of_keeps : (owner : Account) (s : Session R) → Fewer n s.job → Keeps n (catalogs_of owner s)
-  catalogs_of_keeps owner s h = tried_keeps (with_screen s) _ (catalog_from owner 0 MOST_FILES s.job.screen) (λ _. h) (λ _ s g. g)
+  catalogs_of_keeps owner s h = tried_keeps (with_screen s) (λ _ s. answered [] s) (catalog_from owner 0 MOST_FILES s.job.screen) (λ _. h) (λ _ s g. g)
 
   catalogs_keeps : (own : Account) (of : Cataloging) (s : Session R) → Fewer n s.job → Keeps n (catalogs own of s)
   catalogs_keeps own OfOwn s h = catalogs_of_keeps own s h
@@ -188,7 +188,7 @@ module _ (n : ℕ) where
 
   runs_file_keeps : (judge : Judge) (most : ℕ) (own : Account) (tail : List ℕ) (s : Session Position) → Fewer n s.job → Keeps n (runs_file judge most own tail s)
   runs_file_keeps judge most own tail s h =
-      with_name_keeps n own tail (reads_and_runs judge most) s h (λ spec. tried_keeps n (λ _. s) _ (reads_pages spec.name spec.code) (λ _. h) (λ pages s g. runs_loaded_keeps judge most spec.name.stem (program_on judge pages) s g))
+      with_name_keeps n own tail (reads_and_runs judge most) s h (λ spec. tried_keeps n (λ _. s) (λ pages s. runs_loaded judge most spec.name.stem (program_on judge pages) s) (reads_pages spec.name spec.code) (λ _. h) (λ pages s g. runs_loaded_keeps judge most spec.name.stem (program_on judge pages) s g))
 
   user_keeps : (judge : Judge) (most : ℕ) (own : Account) (command : Command) (s : Session Position) → Fewer n s.job → Keeps n (user_acts judge most own command s)
   user_keeps judge most own (Run with_name) s h = let p = program_by judge s.lines in unless_keeps (refusal_of p) p most (begun p (headed with_name s)) (headed_keeps n with_name s h)
