@@ -1,22 +1,28 @@
 -- What an act on files leaves of a session, and how the session goes on.
 use Rattle.std.proofs.Common.{◌≡◌, ℕ, List, Bool, true, false, Option, Some, None, Result, Ok, Err, refl, sym, ap, subst, ◌∙◌}
-use Rattle.std.specs.Prelude.{IfOk, if◌then◌else◌}
+use Rattle.std.specs.Prelude.{IfOk, IfErr, if◌then◌else◌}
 use Rattle.basic_values.specs.declared.failures.NoMemory.{NoMemory}
 use Rattle.basic_values.specs.declared.failures.Stop.{Stop}
 use Rattle.basic_values.specs.declared.failures.Stop.TheVariants as stop
 use Rattle.basic_tree.specs.MachineJudge.{judge_of}
+use Rattle.monitor_calls.specs.declared.names.Account.{Account}
 use Rattle.monitor_calls.specs.Pairs.{Pair}
+use Rattle.file_names.specs.declared.spec.Spec.{Spec}
+use Rattle.file_names.specs.Names.{Spells, refusal_of}
 use Rattle.job_model.specs.Act.{Act, Gives, Breaks, Break, Faulted, Halted, Gone}
 use Rattle.job_model.specs.Play.{Clock}
 use Rattle.job_model.specs.Follow.{Follows, unless_memory, answered_by}
 use Rattle.job_model.proofs.Follows.{follows_to, follows_on, follows_same, follows_forget}
-use Rattle.program_files.proofs.Acts.{follows_ends}
+use Rattle.program_files.proofs.Acts.{follows_ends, reaches_ends}
 use Rattle.program_files.specs.Channels.{FileAct}
 use Rattle.program_model.specs.Program.{Program, Position}
 use Rattle.polish_code.specs.Walk.{Spot}
+use Rattle.session_model.proofs.Names.{names_are_read_lem}
+use Rattle.session_model.specs.ProgramFiles.{program_extension, spec_read, is_blank_text}
+use Rattle.session_model.specs.Texts.{illegal_command, fault_line}
 use Rattle.session_model.specs.Serving.{FollowsSession}
 use Rattle.session_model.specs.Talk as talk
-use Rattle.session_model.specs.Talk.{Step, broken_off, tried, on_files}
+use Rattle.session_model.specs.Talk.{Step, answered, broken_off, tried, on_files, by_name, with_name_of}
 use Rattle.command_level.specs.declared.session.Session.{Session}
 use Rattle.command_level.specs.declared.session.Onward.{Onward}
 use Rattle.command_level.specs.Onwards.{goes}
@@ -27,6 +33,28 @@ use Rattle.command_level.proofs.Ends.{ok_map}
 use Rattle.command_level.proofs.Lows.{Fit, lows, broken_low, broken_fits}
 use Rattle.command_level.proofs.Serving.{serves_same, serves_nothing}
 use Rattle.command_level.proofs.SessionLemmas.{session_on, session_forget}
+
+-- NAMES
+
+module _ {R : Type 0} (own : Account) (tail : List ℕ) (act : Spec → talk.Session R → Step R) (s : talk.Session R) where
+  abbrev by_blank : Bool → Step R
+  by_blank blank = if blank then answered illegal_command s else by_name (spec_read own tail) act s
+
+  pub name_missing : is_blank_text tail ≡ true → with_name_of own tail act s ≡ answered illegal_command s
+  name_missing blank = ap by_blank blank
+
+  pub name_told : (spec : Spec) → is_blank_text tail ≡ false → Ok spec ≡ spec_read own tail → with_name_of own tail act s ≡ act spec s
+  name_told spec blank named = ap by_blank blank ∙ ap (λ (r : Result Spec ℕ). by_name r act s) (sym named)
+
+  pub name_refused : (number : ℕ) → is_blank_text tail ≡ false → Err number ≡ spec_read own tail → with_name_of own tail act s ≡ answered (fault_line number) s
+  name_refused number blank named = ap by_blank blank ∙ ap (λ (r : Result Spec ℕ). by_name r act s) (sym named)
+
+-- what the reading of a name says of it
+pub spec_is : (own : Account) (extension text : List ℕ) (r : Result Spec ℕ) → extension ≡ program_extension → IfOk r (λ spec. Spells own extension text spec)
+    → IfErr r (λ fault. (fault ≡ refusal_of text) × ((spec : Spec) → Spells own extension text spec → ⊥)) → r ≡ spec_read own text
+spec_is own extension text (Ok spec) is spelled none = sym ((names_are_read_lem own text).read spec (subst (λ (e : List ℕ). Spells own e text spec) is spelled))
+spec_is own extension text (Err fault) is some refused =
+    ap Err refused.0 ∙ sym ((names_are_read_lem own text).refused (λ spec spelled. refused.1 spec (subst (λ (e : List ℕ). Spells own e text spec) (sym is) spelled)))
 
 module _ {P W : Type 0} {who : P → W} {log : P → List Pair} where
   -- it gave a value
@@ -70,7 +98,7 @@ module _ {P W : Type 0} {who : P → W} {log : P → List Pair} where
         pairs = f.pairs;
         grew = f.grew;
         bound = 0;
-        reaches = λ most le. (tried_gives (λ _. s) (next most) value tt f).reaches;
+        reaches = λ most le. reaches_ends (λ _. s) (λ value q. next most value s) (λ why q. broken_off why s) (λ _. refl) c c act f.pairs (Some (Gives value tt)) f.reaches;
       } in
       record { left = g.left; leaves = g.leaves; follows = session_on first g.follows }
 
@@ -93,20 +121,20 @@ module _ {P W : Type 0} {who : P → W} {log : P → List Pair} where
       → Follows who log p q c c act (answered_by (Err e) tt) → IfOk result (λ on. stopped_by e (seen old) ≡ Some (goes on (seen new))) → Serves who log p q c c (λ most. on_files act (next most) s) new result
   file_broke_run {A} {p} {q} {c} {act} old new s st next e result f told = by_stop e f told
     where
-      first : (why : Break ⊥) → Follows who log p q c c act (Some (Breaks why tt)) → broken_off {R = Position} Gone s ≡ Breaks Gone s → FollowsSession who log p q c c (λ most. on_files act (next most) s) (Some (λ most. broken_off why s))
-      first why f gone = record {
+      first : (why : Break ⊥) → Follows who log p q c c act (Some (Breaks why tt)) → FollowsSession who log p q c c (λ most. on_files act (next most) s) (Some (λ most. broken_off why s))
+      first why f = record {
         pairs = f.pairs;
         grew = f.grew;
         bound = 0;
-        reaches = λ most le. (follows_ends (λ _. s) (λ value q. next most value s) (λ why q. broken_off why s) (λ _. refl) f).reaches;
+        reaches = λ most le. reaches_ends (λ _. s) (λ value q. next most value s) (λ why q. broken_off why s) (λ _. refl) c c act f.pairs (Some (Breaks why tt)) f.reaches;
       }
 
       by_stop : (e : Stop) → Follows who log p q c c act (answered_by (Err e) tt) → IfOk result (λ on. stopped_by e (seen old) ≡ Some (goes on (seen new))) → Serves who log p q c c (λ most. on_files act (next most) s) new result
-      by_stop (stop.Fault number) f told = broken_serves old new s st (Faulted number) result told (first (Faulted number) f refl)
-      by_stop (stop.Halt halt) f told = broken_serves old new s st (Halted halt) result told (first (Halted halt) f refl)
-      by_stop stop.Expired f told = broken_serves old new s st Gone result told (first Gone f refl)
+      by_stop (stop.Fault number) f told = broken_serves old new s st (Faulted number) result told (first (Faulted number) f)
+      by_stop (stop.Halt halt) f told = broken_serves old new s st (Halted halt) result told (first (Halted halt) f)
+      by_stop stop.Expired f told = broken_serves old new s st Gone result told (first Gone f)
       by_stop stop.NoMemory f told = lost result told
         where
           lost : (result : Result Onward NoMemory) → IfOk result (λ on. None ≡ Some (goes on (seen new))) → Serves who log p q c c (λ most. on_files act (next most) s) new result
           lost (Ok on) e = absurd (cc)
-          lost (Err none) e = record { left = None; leaves = refl; follows = record { pairs = f.pairs; grew = f.grew; bound = 0; reaches = λ most le. (follows_ends (λ _. s) (λ value q. next most value s) (λ why q. broken_off why s) (λ _. refl) f).reaches } }
+          lost (Err none) e = record { left = None; leaves = refl; follows = record { pairs = f.pairs; grew = f.grew; bound = 0; reaches = λ most le. reaches_ends (λ _. s) (λ value q. next most value s) (λ why q. broken_off why s) (λ _. refl) c c act f.pairs None f.reaches } }

@@ -15,7 +15,6 @@ use Rattle.basic_tree.specs.Trees.{LineTree}
 use Rattle.monitor_calls.specs.Volumes.{is_between}
 use Rattle.line_editor.specs.declared.text.EditRefusal.{EditRefusal}
 use Rattle.line_editor.specs.declared.text.EditRefusal.TheVariants as edit
-use Rattle.line_editor.specs.declared.files.TheConstants.{DATA_FORMAT}
 use Rattle.line_editor.specs.Lines.{Lines, stored, IsNumber, Fits, IsTreeOf, AreTrees}
 use Rattle.line_editor.specs.Edits.{RefusesFor}
 use Rattle.line_editor.specs.Files.{file_text, file_lines, IsKept, kept, IsBad, AreKept, HasBad, ReadsFile}
@@ -24,7 +23,6 @@ use Rattle.stage_forms.specs.Stage.{are_in_stage}
 use Rattle.session_model.specs.Editing.{Edited, Accepted, Refused, fits, judged, is_later}
 use Rattle.session_model.specs.ProgramFiles.{accepted, filed, line_kept, and_then_kept, lines_kept, are_lines_in_stage, if_in_stage, program_on}
 use Rattle.session_model.specs.Texts.{illegal_line_number, too_many_lines}
-use Rattle.command_level.specs.Filing.{HasProgram}
 use Rattle.command_level.proofs.EditLemmas.{numbered, misnumbered, fitting, too_long, room, no_room, spelled, refused}
 
 -- ONE LINE
@@ -60,8 +58,8 @@ refused_line : (number : ℕ) (rest : List ℕ) (lines : Lines) (why : EditRefus
 refused_line number rest lines edit.Number nay = ap (λ (b : Bool). by_number number lines rest (b && fits number rest)) (misnumbered number nay)
 refused_line number rest lines edit.TooLong (is, nay) =
     ap (by_number number lines rest) (not_both (is_between 1 most_number number) (fits number rest) (numbered number is) (too_long number rest nay))
-refused_line number rest lines (edit.Line refusal) (is, (few, refuses)) = filed_as number rest lines (grammar.RefusedFor refusal.cause) is few (refused rest refusal refuses)
-refused_line number rest lines edit.TooMany (is, (few, spells, nay)) =
+refused_line number rest lines (edit.Line refusal) (is, few, refuses) = filed_as number rest lines (grammar.RefusedFor refusal.cause) is few (refused rest refusal refuses)
+refused_line number rest lines edit.TooMany (is, few, spells, nay) =
     filed_as number rest lines (grammar.HasTree spells.0) is few (spelled rest spells.0 spells.1) ∙ ap (by_room number rest lines) (no_room number lines nay)
 
 bad_line : (text : List ℕ) (lines : Lines) → IsBad text lines → line_kept judge_of text lines ≡ None
@@ -98,9 +96,9 @@ pub read_later : (pages : List (List ℕ)) (lines : Lines) → ReadsFile pages (
 read_later pages lines reads stage =
     ap on_pages (all_kept (file_lines (file_text pages)) [] lines reads) ∙ ap (λ (b : Bool). if b then Some lines else None) stage
 
-pub read_bad : (pages : List (List ℕ)) (e : Trouble ℕ) → ReadsFile pages (Err e) → HasProgram (program_on judge_of pages) (Err e)
-read_bad pages (trouble.Refused fault) (is, bad) = (ap on_pages (one_bad (file_lines (file_text pages)) [] bad), is)
-read_bad pages trouble.NoMemory reads = tt
+pub read_bad : (pages : List (List ℕ)) (failed : Trouble ℕ) (fault : ℕ) → failed ≡ trouble.Refused fault → ReadsFile pages (Err failed) → program_on judge_of pages ≡ None
+read_bad pages failed fault is reads =
+    let bad = subst (λ (e : Trouble ℕ). ReadsFile pages (Err e)) is reads in ap on_pages (one_bad (file_lines (file_text pages)) [] bad.1)
 
 -- THE STAGE
 
@@ -122,3 +120,11 @@ lines_by_trees [] (tree ∷ trees) h = absurd h
 lines_by_trees (line ∷ lines) [] h = absurd h
 lines_by_trees (line ∷ lines) (tree ∷ trees) (same, is, others) =
     λ i. tree_later line.1 tree.1 is i && lines_by_trees lines trees others i
+
+-- ONE TREE AFTER ANOTHER
+
+pub stage_goes_on : (all rest : List (ℕ × Line)) (tree : ℕ × Line) (b : Bool) → all ≡ tree ∷ rest → b ≡ are_in_stage (line_of tree.1) → b ≡ true → trees_in_stage all ≡ trees_in_stage rest
+stage_goes_on all rest tree b at is yes_ = ap trees_in_stage at ∙ ap (λ (x : Bool). x && trees_in_stage rest) (sym is ∙ yes_)
+
+pub stage_stops : (all rest : List (ℕ × Line)) (tree : ℕ × Line) (b : Bool) → all ≡ tree ∷ rest → b ≡ are_in_stage (line_of tree.1) → b ≡ false → trees_in_stage all ≡ false
+stage_stops all rest tree b at is no_ = ap trees_in_stage at ∙ ap (λ (x : Bool). x && trees_in_stage rest) (sym is ∙ no_)

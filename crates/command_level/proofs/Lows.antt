@@ -91,7 +91,7 @@ module _ (p : Program) where
 
   -- FILES
 
-  broken_low : (why : Break ⊥) (s : Session Position) → broken_off why (low s) ≡ lows (broken_off why s)
+  pub broken_low : (why : Break ⊥) (s : Session Position) → broken_off why (low s) ≡ lows (broken_off why s)
   broken_low (Faulted number) s = refl
   broken_low (Halted halt) s = refl
   broken_low Gone s = refl
@@ -243,7 +243,7 @@ module _ (p : Program) where
   if_fits true m k e f = e
   if_fits false m k e f = f
 
-  broken_fits : (why : Break ⊥) (s : Session Position) → StopFits p s → Fit (broken_off why s)
+  pub broken_fits : (why : Break ⊥) (s : Session Position) → StopFits p s → Fit (broken_off why s)
   broken_fits (Faulted number) s h = h
   broken_fits (Halted halt) s h = h
   broken_fits Gone s h = h

@@ -12,16 +12,16 @@ use Rattle.session_model.specs.ProgramFiles.{pages_in, pages_of, saved_pages}
 
 module _ (n : ℕ) (page rest text : List ℕ) (zeros : ℕ) (long : length page ≡ n) (joined : page ++ rest ≡ text ++ replicate zeros 0) where
   total : n + length rest ≡ length text + zeros
-  total = omega (arith, long, length-append page rest, ap length joined, length-append text (replicate zeros 0), length-replicate zeros 0)
+  total = omega (arith, long, length-append page rest, ap length joined, length-append text (replicate zeros 0), length-replicate {A = ℕ} zeros 0)
 
   first_as : zeros ≤ n → page ≡ take n (text ++ replicate n 0)
   first_as few =
       let whole = text ++ replicate zeros 0 in
-      let enough : n ≤ length whole = omega (arith, length-append text (replicate zeros 0), length-replicate zeros 0, total) in
+      let enough : n ≤ length whole = omega (arith, length-append text (replicate zeros 0), length-replicate {A = ℕ} zeros 0, total) in
       let all : zeros + (n - zeros) ≡ n = omega arith in
       sym (take-append_seam page rest) ∙ ap (λ (k : ℕ). take k (page ++ rest)) long ∙ ap (take n) joined
       ∙ sym (take-append-le n whole (replicate (n - zeros) 0) enough)
-      ∙ ap (take n) (append_assoc text (replicate zeros 0) (replicate (n - zeros) 0) ∙ ap (λ (l : List ℕ). text ++ l) (replicate-append-replicate zeros (n - zeros) 0 ∙ ap (λ (k : ℕ). replicate k 0) all))
+      ∙ ap (take n) (append_assoc text (replicate zeros 0) (replicate (n - zeros) 0) ∙ ap (λ (l : List ℕ). text ++ l) (replicate-append-replicate {A = ℕ} zeros (n - zeros) 0 ∙ ap (λ (k : ℕ). replicate k 0) all))
 
   rest_as : n ≤ length text → rest ≡ drop n text ++ replicate zeros 0
   rest_as le =
@@ -59,13 +59,12 @@ pages_as (page ∷ next ∷ pages) text zeros (one, others) few joined =
 
 paged_is : (text : List ℕ) (pages : List (List ℕ)) → IsPaged text pages → pages ≡ pages_of text
 paged_is text pages paged =
-    let few = paged.few in
-    let whole = length_whole pages paged.whole in
-    let joined = ap length paged.holds in
-    let sum = length-append text (replicate paged.zeros 0) in
-    let zeros = length-replicate paged.zeros 0 in
+    let zeros : ℕ = paged.zeros in
+    let few : zeros < 512 = paged.few in
+    let whole : length (concat pages) ≡ 512 * length pages = length_whole pages paged.whole in
+    let long : length (concat pages) ≡ length text + zeros = ap length paged.holds ∙ length-append text (replicate zeros 0) ∙ ap (λ (n : ℕ). length text + n) (length-replicate {A = ℕ} zeros 0) in
     let count : length pages ≡ (length text + 511) / 512 = omega arith in
-    pages_as pages text paged.zeros paged.whole few paged.holds ∙ ap (λ (k : ℕ). pages_in k text) count
+    pages_as pages text zeros paged.whole few paged.holds ∙ ap (λ (k : ℕ). pages_in k text) count
 
 pub saved_is : (lines : Lines) (pages : List (List ℕ)) → IsPaged (listing lines) pages → pages ≡ saved_pages lines
 saved_is lines pages paged = paged_is (listing lines) pages paged

@@ -9,7 +9,7 @@ ghost use Rattle.session_model.specs.ProgramFiles.{program_extension, is_blank_t
 ghost use Rattle.session_model.specs.Talk.{answered, catalogs, catalogs_of, kills_file, loaded, loads, old, reads_old, saves, saves_as, unsaves};
 ghost use Rattle.session_model.specs.Texts.{fault_line};
 ghost use Rattle.command_level.specs.Seen.{seen, cataloging_seen, name_seen};
-ghost use Rattle.command_level.specs.Filing.{HasProgram, stopped_by};
+ghost use Rattle.command_level.specs.Filing.{stopped_by};
 ghost use Rattle.command_level.specs.Onwards.{goes};
 
 use crate::catalogs::Cataloging;
@@ -67,13 +67,13 @@ impl Session {
             loads name (program_on judge_of pages.now) (seen self.old)
             ≡ goes onward (seen self.new)) }
     {
-        match program_on(alloc, pages) {
-            Ok(text) => {
+        let found = program_on(alloc, pages)?;
+        match found {
+            Some(text) => {
                 self.load(alloc, name, text)?;
                 self.answer(b"")
             }
-            Err(Trouble::Refused(fault)) => self.refuse_by(fault),
-            Err(Trouble::NoMemory) => Err(NoMemory),
+            None => self.refuse_by(Fault::new(DATA_FORMAT)),
         }
     }
 
@@ -228,14 +228,19 @@ impl Session {
 }
 
 /// The program on these pages, where there is one whose statements are all of this stage.
-pub(crate) fn program_on(alloc: Global, pages: &[Page]) -> Result<ProgramText, Trouble<Fault>>
-    ensures { HasProgram (program_on judge_of pages.now) result }
+pub(crate) fn program_on(alloc: Global, pages: &[Page]) -> Result<Option<ProgramText>, NoMemory>
+    ensures { IfOk result (λ found. found ≡ program_on judge_of pages.now) }
 {
-    let text = ProgramText::from_file(alloc, pages)?;
-    if are_lines_in_stage(&text) {
-        Ok(text)
-    } else {
-        Err(Trouble::Refused(Fault::new(DATA_FORMAT)))
+    match ProgramText::from_file(alloc, pages) {
+        Ok(text) => {
+            if are_lines_in_stage(&text) {
+                Ok(Some(text))
+            } else {
+                Ok(None)
+            }
+        }
+        Err(Trouble::Refused(_)) => Ok(None),
+        Err(Trouble::NoMemory) => Err(NoMemory),
     }
 }
 

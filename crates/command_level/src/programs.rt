@@ -19,10 +19,11 @@ use crate::filing::{is_blank_text, program_on, spec_read};
 use crate::judging::{cause_text, refusal_text, tree_of};
 use crate::session::{ILLEGAL_COMMAND, NOT_IN_STAGE, Onward, Session};
 use basic_tree::Line;
-use basic_values::{LINE_LENGTH, NoMemory, Trouble};
+use basic_values::{Fault, LINE_LENGTH, NoMemory, Trouble};
 use entrances::{Clock, Exit, Stop, clear, continue_program, run_line, run_program, write_ending};
 use file_names::Spec;
 use itoa::Buffer;
+use line_editor::DATA_FORMAT;
 use lowering::{loops_in_line, loops_in_program, lower, lower_now};
 use monitor_calls::{Account, Page, Port, Short};
 use program_code::Code;
@@ -124,13 +125,13 @@ impl Session {
             (λ most. runs_loaded judge_of most name (program_on judge_of pages.now) s)
             self.new result }
     {
-        match program_on(alloc, pages) {
-            Ok(text) => {
+        let found = program_on(alloc, pages)?;
+        match found {
+            Some(text) => {
                 self.load(alloc, name, text)?;
                 self.run_program(alloc, false, clock, port)
             }
-            Err(Trouble::Refused(fault)) => self.refuse_by(fault),
-            Err(Trouble::NoMemory) => Err(NoMemory),
+            None => self.refuse_by(Fault::new(DATA_FORMAT)),
         }
     }
 

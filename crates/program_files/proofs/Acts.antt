@@ -110,7 +110,7 @@ module _ {K L P S A B : Type 0} (put : P → S) (given : A → P → Act L S B) 
   path_ends c d m m' ps (gone {e = i} {s = s} {pairs = rs} h g p) =
       gone h g (subst (λ (t : Act L S B). Path i t rs d (ended m')) (at_gone s) (path_ends i d (Breaks Gone s) m' rs p))
 
-  reaches_ends : (c d : Clock) (m : Act K P A) (ps : List Pair) (left : Option (Act K P A)) → Reaches c m ps d left → Reaches c (ended m) ps d (option_map ended left)
+  pub reaches_ends : (c d : Clock) (m : Act K P A) (ps : List Pair) (left : Option (Act K P A)) → Reaches c m ps d left → Reaches c (ended m) ps d (option_map ended left)
   reaches_ends c d m ps (Some t) p = path_ends c d m t ps p
   reaches_ends c d m ps None p = (p.0, ended p.1, path_ends c p.0 m p.1 ps p.2)
 
