@@ -1,16 +1,23 @@
 -- A session with the places of a program's code does the same, where it runs no program; and so it does at the end of one.
-use Rattle.std.proofs.Common.{◌≡◌, ℕ, List, [], ◌∷◌, ◌++◌, Option, Some, None, Result, refl, sym, ap, ◌∙◌, Bool, true, false}
+use Rattle.std.proofs.Common.{◌≡◌, ℕ, List, [], ◌∷◌, ◌++◌, Option, Some, None, Result, Ok, Err, refl, sym, ap, ◌∙◌, Bool, true, false}
+use Rattle.std.specs.Prelude.{if◌then◌else◌}
 use Rattle.std.specs.Option.{option_map}
 use Rattle.basic_values.specs.declared.failures.Trouble.{Trouble}
 use Rattle.basic_tree.specs.MachineJudge.{judge_of}
 use Rattle.basic_tree.specs.Trees.{StatementTree}
 use Rattle.error_trap.specs.Trapping.{untouched}
 use Rattle.monitor_calls.specs.declared.names.Account.{Account}
+use Rattle.monitor_calls.specs.declared.files.OpenKind.{OpenKind}
 use Rattle.monitor_calls.specs.declared.calls.Request.TheVariants as request
 use Rattle.monitor_calls.specs.declared.calls.Reply.{Reply}
 use Rattle.monitor_calls.specs.declared.calls.Reply.TheVariants.{Done, Failed}
-use Rattle.job_model.specs.Act.{Act, Gives, Breaks, Asks, Break, Faulted, Halted, Gone, Left, break_over, over}
+use Rattle.job_model.specs.Act.{Act, Gives, Breaks, Asks, Takes, Break, Faulted, Halted, Gone, Left, break_over, over}
 use Rattle.job_model.specs.Asking.{counts_as}
+use Rattle.file_names.specs.declared.spec.Spec.{Spec}
+use Rattle.program_files.specs.declared.catalogs.TheConstants.{MOST_FILES}
+use Rattle.program_files.specs.Catalogs.{catalog_from}
+use Rattle.program_files.specs.Channels.{kills}
+use Rattle.program_files.specs.Programs.{reads_pages, writes_pages}
 use Rattle.program_model.specs.Program.{Program, Position, statements_of}
 use Rattle.program_model.specs.Job as program
 use Rattle.program_model.specs.Job.{Job}
@@ -23,9 +30,10 @@ use Rattle.basic_eval.specs.declared.exits.Exit.{Exit}
 use Rattle.basic_eval.specs.declared.exits.Exit.TheVariants as exit
 use Rattle.basic_eval.specs.Acting.{break_of}
 use Rattle.basic_interpreter.specs.Meaning.{Came, went, left_a_body, no_memory}
-use Rattle.session_model.specs.Commands.{Login, Naming, Nameless, Named, Misnamed, Range, Command, Hello, Bye, New, Rename, ListLines, Delete, Numbered}
+use Rattle.session_model.specs.Commands.{Login, Naming, Nameless, Named, Misnamed, Range, Command, Hello, Bye, New, Rename, ListLines, Delete, Old, Save, Unsave, Catalog, Cataloging, OfOwn, OfAccount, OfNone, Numbered}
 use Rattle.session_model.specs.Editing.{Edited, Accepted, Refused, edited}
-use Rattle.session_model.specs.Talk.{Session, Step, Leaving, with_job, says, with_lines, named, no_name, answered, entered, hello, leave, log_out, emptied, begins_new, renames, headed, lists, deletes, takes_edit, rests, visitor_acts, outlives, reported, run_is_over, stop_by}
+use Rattle.session_model.specs.ProgramFiles.{spec_read, spec_or_own, is_blank_text, saved_pages, program_on}
+use Rattle.session_model.specs.Talk.{Session, Step, Leaving, with_job, says, with_lines, named, no_name, answered, entered, hello, leave, log_out, emptied, begins_new, renames, headed, lists, deletes, takes_edit, broken_off, tried, by_name, loaded, loads, reads_old, old, saves_as, saves, kills_file, unsaves, with_screen, catalogs_of, catalogs, rests, visitor_acts, outlives, reported, run_is_over, stop_by}
 use Rattle.session_model.specs.Talk as talk
 use Rattle.line_editor.specs.Lines.{Lines}
 use Rattle.session_model.specs.Texts.{illegal_file_name}
@@ -77,13 +85,73 @@ module _ (p : Program) where
   edit_low (Accepted lines) s = refl
   edit_low (Refused text) s = refl
 
-  pub rests_low : (command : Command) (s : Session Position) → rests judge_of command (low s) ≡ lows (rests judge_of command s)
-  rests_low (New naming) s = new_low naming s
-  rests_low (Rename naming) s = renames_low naming s
-  rests_low (ListLines with_name range) s = lists_low with_name range s
-  rests_low (Delete range) s = deletes_low range s
-  rests_low (Numbered number rest) s = edit_low (edited judge_of number rest s.lines) s
-  rests_low command s = refl
+  if_low : (b : Bool) (m k : Step Spot) (m' k' : Step Position) → m ≡ lows m' → k ≡ lows k' → (if b then m else k) ≡ lows (if b then m' else k')
+  if_low true m k m' k' e f = e
+  if_low false m k m' k' e f = f
+
+  -- FILES
+
+  pub broken_low : (why : Break ⊥) (s : Session Position) → broken_off why (low s) ≡ lows (broken_off why s)
+  broken_low (Faulted number) s = refl
+  broken_low (Halted halt) s = refl
+  broken_low Gone s = refl
+  broken_low (Left none) s = absurd none
+
+  tried_low : {Q A : Type 0} (whole : Q → Session Position) (next : A → Session Spot → Step Spot) (next' : A → Session Position → Step Position) (act : Act ⊥ Q A)
+      → ((a : A) (s : Session Position) → next a (low s) ≡ lows (next' a s)) → tried (λ q. low (whole q)) next act ≡ lows (tried whole next' act)
+  tried_low whole next next' (Gives a q) h = h a (whole q)
+  tried_low whole next next' (Breaks why q) h = broken_low why (whole q)
+  tried_low whole next next' (Asks r by) h = λ i. Asks r (λ x. tried_low whole next next' (by x) h i)
+  tried_low whole next next' (Takes q rest) h = λ i. Takes (low (whole q)) (tried_low whole next next' rest h i)
+
+  by_name_low : (named : Result Spec ℕ) (act : Spec → Session Spot → Step Spot) (act' : Spec → Session Position → Step Position) (s : Session Position) → ((spec : Spec) → act spec (low s) ≡ lows (act' spec s))
+      → by_name named act (low s) ≡ lows (by_name named act' s)
+  by_name_low (Ok spec) act act' s h = h spec
+  by_name_low (Err number) act act' s h = refl
+
+  abbrev loaded_from : List ℕ → Lines → Session Spot → Job Spot → Session Spot
+  loaded_from name lines s j = with_lines lines (named name (with_lines [] (with_job j s)))
+
+  pub loaded_low : (name : List ℕ) (lines : Lines) (s : Session Position) → loaded name lines (low s) ≡ low (loaded name lines s)
+  loaded_low name lines s = ap (loaded_from name lines (low s)) (sym (low_cleared p [] p s.job))
+
+  loads_low : (name : List ℕ) (o : Option Lines) (s : Session Position) → loads name o (low s) ≡ lows (loads name o s)
+  loads_low name None s = refl
+  loads_low name (Some lines) s = ap (answered []) (loaded_low name lines s)
+
+  old_low : (own : Account) (tail : List ℕ) (s : Session Position) → old judge_of own tail (low s) ≡ lows (old judge_of own tail s)
+  old_low own tail s =
+      if_low (is_blank_text tail) _ _ _ _ refl
+      (by_name_low (spec_read own tail) (reads_old judge_of) (reads_old judge_of) s
+      (λ spec. tried_low (λ _. s) (λ pages s. loads spec.name.stem (program_on judge_of pages) s) (λ pages s. loads spec.name.stem (program_on judge_of pages) s) (reads_pages spec.name spec.code) (λ pages s. loads_low spec.name.stem (program_on judge_of pages) s)))
+
+  saves_low : (own : Account) (kind : OpenKind) (tail : List ℕ) (s : Session Position) → saves own kind tail (low s) ≡ lows (saves own kind tail s)
+  saves_low own kind tail s =
+      by_name_low (spec_or_own own s.name tail) (saves_as kind) (saves_as kind) s
+      (λ spec. tried_low (λ _. s) (λ _ s. answered [] s) (λ _ s. answered [] s) (writes_pages spec.name kind spec.code (saved_pages s.lines)) (λ _ s. refl))
+
+  unsaves_low : (own : Account) (tail : List ℕ) (s : Session Position) → unsaves own tail (low s) ≡ lows (unsaves own tail s)
+  unsaves_low own tail s = by_name_low (spec_or_own own s.name tail) kills_file kills_file s (λ spec. tried_low (λ _. s) (λ _ s. answered [] s) (λ _ s. answered [] s) (kills spec.name) (λ _ s. refl))
+
+  catalogs_of_low : (owner : Account) (s : Session Position) → catalogs_of owner (low s) ≡ lows (catalogs_of owner s)
+  catalogs_of_low owner s = tried_low (with_screen s) (λ _ s. answered [] s) (λ _ s. answered [] s) (catalog_from owner 0 MOST_FILES s.job.screen) (λ _ s. refl)
+
+  catalogs_low : (own : Account) (of : Cataloging) (s : Session Position) → catalogs own of (low s) ≡ lows (catalogs own of s)
+  catalogs_low own OfOwn s = catalogs_of_low own s
+  catalogs_low own (OfAccount owner) s = catalogs_of_low owner s
+  catalogs_low own OfNone s = refl
+
+  pub rests_low : (own : Account) (command : Command) (s : Session Position) → rests judge_of own command (low s) ≡ lows (rests judge_of own command s)
+  rests_low own (New naming) s = new_low naming s
+  rests_low own (Rename naming) s = renames_low naming s
+  rests_low own (ListLines with_name range) s = lists_low with_name range s
+  rests_low own (Delete range) s = deletes_low range s
+  rests_low own (Old tail) s = old_low own tail s
+  rests_low own (Save kind tail) s = saves_low own kind tail s
+  rests_low own (Unsave tail) s = unsaves_low own tail s
+  rests_low own (Catalog of) s = catalogs_low own of s
+  rests_low own (Numbered number rest) s = edit_low (edited judge_of number rest s.lines) s
+  rests_low own command s = refl
 
   entered_low : (account : Account) (reply : Reply) (s : Session Position) → entered account reply (low s) ≡ lows (entered account reply s)
   entered_low account Done s = refl
@@ -171,14 +239,62 @@ module _ (p : Program) where
   edit_fits (Accepted lines) s h = tt
   edit_fits (Refused text) s h = h
 
-  pub rests_fits : (command : Command) (s : Session Position) → StopFits p s → Fit (rests judge_of command s)
-  rests_fits Bye s h = λ reply. h
-  rests_fits (New naming) s h = new_fits naming s h
-  rests_fits (Rename naming) s h = renames_fits naming s h
-  rests_fits (ListLines with_name range) s h = lists_fits with_name range s h
-  rests_fits (Delete range) s h = deletes_fits range s h
-  rests_fits (Numbered number rest) s h = edit_fits (edited judge_of number rest s.lines) s h
-  rests_fits command s h = h
+  if_fits : (b : Bool) (m k : Step Position) → Fit m → Fit k → Fit (if b then m else k)
+  if_fits true m k e f = e
+  if_fits false m k e f = f
+
+  pub broken_fits : (why : Break ⊥) (s : Session Position) → StopFits p s → Fit (broken_off why s)
+  broken_fits (Faulted number) s h = h
+  broken_fits (Halted halt) s h = h
+  broken_fits Gone s h = h
+  broken_fits (Left none) s h = absurd none
+
+  tried_fits : {Q A : Type 0} (whole : Q → Session Position) (next : A → Session Position → Step Position) (act : Act ⊥ Q A) → ((q : Q) → StopFits p (whole q)) → ((a : A) (s : Session Position) → StopFits p s → Fit (next a s)) → Fit (tried whole next act)
+  tried_fits whole next (Gives a q) h f = f a (whole q) (h q)
+  tried_fits whole next (Breaks why q) h f = broken_fits why (whole q) (h q)
+  tried_fits whole next (Asks r by) h f = λ x. tried_fits whole next (by x) h f
+  tried_fits whole next (Takes q rest) h f = (h q, tried_fits whole next rest h f)
+
+  by_name_fits : (named : Result Spec ℕ) (act : Spec → Session Position → Step Position) (s : Session Position) → StopFits p s → ((spec : Spec) → Fit (act spec s)) → Fit (by_name named act s)
+  by_name_fits (Ok spec) act s h f = f spec
+  by_name_fits (Err number) act s h f = h
+
+  loads_fits : (name : List ℕ) (o : Option Lines) (s : Session Position) → StopFits p s → Fit (loads name o s)
+  loads_fits name None s h = h
+  loads_fits name (Some lines) s h = tt
+
+  old_fits : (own : Account) (tail : List ℕ) (s : Session Position) → StopFits p s → Fit (old judge_of own tail s)
+  old_fits own tail s h =
+      if_fits (is_blank_text tail) _ _ h
+      (by_name_fits (spec_read own tail) (reads_old judge_of) s h (λ spec. tried_fits (λ _. s) (λ pages s. loads spec.name.stem (program_on judge_of pages) s) (reads_pages spec.name spec.code) (λ _. h) (λ pages s g. loads_fits spec.name.stem (program_on judge_of pages) s g)))
+
+  saves_fits : (own : Account) (kind : OpenKind) (tail : List ℕ) (s : Session Position) → StopFits p s → Fit (saves own kind tail s)
+  saves_fits own kind tail s h =
+      by_name_fits (spec_or_own own s.name tail) (saves_as kind) s h (λ spec. tried_fits (λ _. s) (λ _ s. answered [] s) (writes_pages spec.name kind spec.code (saved_pages s.lines)) (λ _. h) (λ _ s g. g))
+
+  unsaves_fits : (own : Account) (tail : List ℕ) (s : Session Position) → StopFits p s → Fit (unsaves own tail s)
+  unsaves_fits own tail s h = by_name_fits (spec_or_own own s.name tail) kills_file s h (λ spec. tried_fits (λ _. s) (λ _ s. answered [] s) (kills spec.name) (λ _. h) (λ _ s g. g))
+
+  catalogs_of_fits : (owner : Account) (s : Session Position) → StopFits p s → Fit (catalogs_of owner s)
+  catalogs_of_fits owner s h = tried_fits (with_screen s) (λ _ s. answered [] s) (catalog_from owner 0 MOST_FILES s.job.screen) (λ _. h) (λ _ s g. g)
+
+  catalogs_fits : (own : Account) (of : Cataloging) (s : Session Position) → StopFits p s → Fit (catalogs own of s)
+  catalogs_fits own OfOwn s h = catalogs_of_fits own s h
+  catalogs_fits own (OfAccount owner) s h = catalogs_of_fits owner s h
+  catalogs_fits own OfNone s h = h
+
+  pub rests_fits : (own : Account) (command : Command) (s : Session Position) → StopFits p s → Fit (rests judge_of own command s)
+  rests_fits own Bye s h = λ reply. h
+  rests_fits own (New naming) s h = new_fits naming s h
+  rests_fits own (Rename naming) s h = renames_fits naming s h
+  rests_fits own (ListLines with_name range) s h = lists_fits with_name range s h
+  rests_fits own (Delete range) s h = deletes_fits range s h
+  rests_fits own (Old tail) s h = old_fits own tail s h
+  rests_fits own (Save kind tail) s h = saves_fits own kind tail s h
+  rests_fits own (Unsave tail) s h = unsaves_fits own tail s h
+  rests_fits own (Catalog of) s h = catalogs_fits own of s h
+  rests_fits own (Numbered number rest) s h = edit_fits (edited judge_of number rest s.lines) s h
+  rests_fits own command s h = h
 
   entered_fits : (account : Account) (reply : Reply) (s : Session Position) → StopFits p s → Fit (entered account reply s)
   entered_fits account Done s h = h

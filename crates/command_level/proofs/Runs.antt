@@ -218,24 +218,25 @@ module _ {P W : Type 0} {who : P → W} {log : P → List Pair} where
 
   -- behind it
   pub serves_user : {p q : P} {c d : Clock} (new : Session) (s : talk.Session Position) (line bytes : List ℕ) (command : Command) (account : Account) (result : Result Onward NoMemory) → s.account ≡ Some account → command ≡ command_of bytes → bytes ≡ line
-      → Serves who log p q c d (λ most. user_acts judge_of most command (says (line ++ line_end) s)) new result
+      → Serves who log p q c d (λ most. user_acts judge_of most account command (says (line ++ line_end) s)) new result
       → Serves who log p q c d (λ most. line_acts judge_of most line s) new result
   serves_user new s line bytes command account result known is same f =
       let t = says (line ++ line_end) s in
-      serves_from (λ most. ap (λ (o : Option Account). acts judge_of most o (command_of line) t) known ∙ ap (λ (k : Command). user_acts judge_of most k t) (sym (is ∙ ap command_of same))) f
+      serves_from (λ most. ap (λ (o : Option Account). acts judge_of most o (command_of line) t) known ∙ ap (λ (k : Command). user_acts judge_of most account k t) (sym (is ∙ ap command_of same))) f
 
   -- what runs no program
-  pub serves_other : {p q : P} {c : Clock} (old new : Session) (s : talk.Session Position) (st : Stands old s) (command : Command) (result : Result Onward NoMemory) → ((most : ℕ) → user_acts judge_of most command s ≡ rests judge_of command s)
-      → Follows who log p q c c (rests judge_of command (seen old)) (unless_memory result (λ on. goes on (seen new)))
-      → Serves who log p q c c (λ most. user_acts judge_of most command s) new result
-  serves_other old new s st command result is f =
+  pub serves_other : {p q : P} {c : Clock} (old new : Session) (s : talk.Session Position) (st : Stands old s) (own : Account) (command : Command) (result : Result Onward NoMemory) → ((most : ℕ) → user_acts judge_of most own command s ≡ rests judge_of own command s)
+      → Follows who log p q c c (rests judge_of own command (seen old)) (unless_memory result (λ on. goes on (seen new)))
+      → Serves who log p q c c (λ most. user_acts judge_of most own command s) new result
+  serves_other old new s st own command result is f =
       serves_from is
-      (serves_rest st.program new result (rests judge_of command s) (follows_from (sym (rests_low st.program command s) ∙ ap (rests judge_of command) st.low) f) (rests_fits st.program command s st.fits))
+      (serves_rest st.program new result (rests judge_of own command s) (follows_from (sym (rests_low st.program own command s) ∙ ap (rests judge_of own command) st.low) f) (rests_fits st.program own command s st.fits))
 
 -- a command that is none of those that run a program
-pub other_rests : (command : code.Command) (most : ℕ) (s : talk.Session Position) → ((w : Bool) → command ≡ variant.Run w → ⊥) → (command ≡ variant.Continue → ⊥) → ((b : Bor (List ℕ)) → command ≡ variant.Immediate b → ⊥)
-    → user_acts judge_of most (command_seen command) s ≡ rests judge_of (command_seen command) s
-other_rests (variant.Run w) most s h i k = absurd (h w refl)
-other_rests variant.Continue most s h i k = absurd (i refl)
-other_rests (variant.Immediate b) most s h i k = absurd (k b refl)
-other_rests command most s h i k = refl
+pub other_rests : (own : Account) (command : code.Command) (most : ℕ) (s : talk.Session Position) → ((w : Bool) → command ≡ variant.Run w → ⊥) → ((b : Bor (List ℕ)) → command ≡ variant.RunFile b → ⊥) → (command ≡ variant.Continue → ⊥) → ((b : Bor (List ℕ)) → command ≡ variant.Immediate b → ⊥)
+    → user_acts judge_of most own (command_seen command) s ≡ rests judge_of own (command_seen command) s
+other_rests own (variant.Run w) most s h f i k = absurd (h w refl)
+other_rests own (variant.RunFile b) most s h f i k = absurd (f b refl)
+other_rests own variant.Continue most s h f i k = absurd (i refl)
+other_rests own (variant.Immediate b) most s h f i k = absurd (k b refl)
+other_rests own command most s h f i k = refl

@@ -11,15 +11,12 @@ ghost use Rattle.command_level.specs.Onwards.{goes};
 use crate::commands::Naming;
 use crate::judging::{is_later, refusal_text};
 use crate::ranges::Range;
-use crate::session::{NOT_IN_STAGE, Onward, Session};
+use crate::session::{ILLEGAL_COMMAND, NOT_IN_STAGE, Onward, Session};
 use basic_values::{LINE_LENGTH, NoMemory, Trouble};
 use entrances::clear;
 use line_editor::{EditRefusal, Numbered, ProgramText};
 use monitor_calls::Short;
 use std::alloc::Global;
-
-/// The answer to a command with a wrong tail.
-const ILLEGAL_COMMAND: &[u8] = b"?Illegal command\r\n";
 
 /// The answer to a name that is none.
 const ILLEGAL_FILE_NAME: &[u8] = b"?Illegal file name\r\n";
@@ -44,7 +41,7 @@ impl Session {
     }
 
     /// No line, and what a program finds that begins.
-    fn empty(&mut self, alloc: Global) -> Result<(), NoMemory>
+    pub(crate) fn empty(&mut self, alloc: Global) -> Result<(), NoMemory>
         ensures { OnOk result (seen self.new ≡ emptied (seen self.old)) }
     {
         self.text = ProgramText::new(alloc);

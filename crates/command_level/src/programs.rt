@@ -8,21 +8,26 @@ ghost use Rattle.session_model.specs.Talk as talk;
 ghost use Rattle.std.specs.Option.{option_map};
 ghost use Rattle.basic_eval.specs.Acting.{break_of};
 ghost use Rattle.entrances.specs.Stopping.{leaving_of};
-ghost use Rattle.session_model.specs.Talk.{answered, begun, does_line, goes_on, headed, immediate, program_by, outlived, reported, run_is_over, runs, stop_by};
+ghost use Rattle.session_model.specs.Talk.{answered, begun, does_line, goes_on, headed, immediate, program_by, outlived, reads_and_runs, reported, run_is_over, runs, runs_file, runs_loaded, stop_by};
+ghost use Rattle.session_model.specs.ProgramFiles.{program_on};
 ghost use Rattle.session_model.specs.Texts.{lowering_text};
 ghost use Rattle.command_level.specs.Onwards.{goes};
 ghost use Rattle.command_level.specs.Seen.{seen};
 ghost use Rattle.command_level.specs.Standing.{Serves, Stands, is_gone, line_ends, low_session, run_ends};
 
+use crate::filing::{is_blank_text, program_on, spec_read};
 use crate::judging::{cause_text, refusal_text, tree_of};
-use crate::session::{NOT_IN_STAGE, Onward, Session};
+use crate::session::{ILLEGAL_COMMAND, NOT_IN_STAGE, Onward, Session};
 use basic_tree::Line;
-use basic_values::{LINE_LENGTH, NoMemory, Trouble};
+use basic_values::{Fault, LINE_LENGTH, NoMemory, Trouble};
 use entrances::{Clock, Exit, Stop, clear, continue_program, run_line, run_program, write_ending};
+use file_names::Spec;
 use itoa::Buffer;
+use line_editor::DATA_FORMAT;
 use lowering::{loops_in_line, loops_in_program, lower, lower_now};
-use monitor_calls::Port;
+use monitor_calls::{Account, Page, Port, Short};
 use program_code::Code;
+use program_files::read_pages;
 use program_model::LowerRefusal;
 use stage_forms::is_in_stage;
 use std::alloc::Global;
@@ -64,6 +69,70 @@ impl Session {
         self.stop = None;
         let loops = loops_in_program(alloc, self.text.program())?;
         clear(&mut self.running, loops)
+    }
+
+    /// RUN with a name.
+    pub(crate) fn run_file<P: Port>(
+        &mut self,
+        alloc: Global,
+        own: Account,
+        tail: &[u8],
+        clock: &mut Clock,
+        port: &mut P,
+    ) -> Result<Onward, NoMemory>
+        ensures { (s : talk.Session Position) → Stands self.old s
+            → Serves P.who P.log port.old port.new clock.old clock.new
+            (λ most. runs_file judge_of most own tail.now s) self.new result }
+    {
+        if is_blank_text(tail) {
+            return self.answer(ILLEGAL_COMMAND);
+        }
+        match spec_read(own, tail) {
+            Ok(spec) => self.read_and_run(alloc, &spec, clock, port),
+            Err(fault) => self.refuse_by(fault),
+        }
+    }
+
+    /// A program is read, and runs.
+    fn read_and_run<P: Port>(
+        &mut self,
+        alloc: Global,
+        spec: &Spec,
+        clock: &mut Clock,
+        port: &mut P,
+    ) -> Result<Onward, NoMemory>
+        ensures { (s : talk.Session Position) → Stands self.old s
+            → Serves P.who P.log port.old port.new clock.old clock.new
+            (λ most. reads_and_runs judge_of most spec.now s) self.new result }
+    {
+        match read_pages(alloc, port, spec.name, spec.code) {
+            Ok(pages) => { self.run_pages(alloc, spec.name.stem, pages.as_slice(), clock, port) }
+            Err(stop) => self.break_off(stop),
+        }
+    }
+
+    /// The program on these pages comes into memory, and runs.
+    fn run_pages<P: Port>(
+        &mut self,
+        alloc: Global,
+        name: Short,
+        pages: &[Page],
+        clock: &mut Clock,
+        port: &mut P,
+    ) -> Result<Onward, NoMemory>
+        ensures { (s : talk.Session Position) → Stands self.old s
+            → Serves P.who P.log port.old port.new clock.old clock.new
+            (λ most. runs_loaded judge_of most name (program_on judge_of pages.now) s)
+            self.new result }
+    {
+        let found = program_on(alloc, pages)?;
+        match found {
+            Some(text) => {
+                self.load(alloc, name, text)?;
+                self.run_program(alloc, false, clock, port)
+            }
+            None => self.refuse_by(Fault::new(DATA_FORMAT)),
+        }
     }
 
     /// CONT.

@@ -154,7 +154,7 @@ impl Session {
         let command = command_of(bytes);
         match self.account {
             None => self.visitor_acts(alloc, &command, port),
-            Some(_) => self.user_acts(alloc, &command, clock, port),
+            Some(account) => self.user_acts(alloc, account, &command, clock, port),
         }
     }
 
@@ -185,6 +185,7 @@ impl Session {
     fn user_acts<P: Port>(
         &mut self,
         alloc: Global,
+        account: Account,
         command: &Command<'_>,
         clock: &mut Clock,
         port: &mut P,
@@ -192,13 +193,14 @@ impl Session {
         requires { IsShort (command_seen command.now) }
         ensures { (s : talk.Session Position) → Stands self.old s
             → Serves P.who P.log port.old port.new clock.old clock.new
-            (λ most. user_acts judge_of most (command_seen command.now) s) self.new result }
+            (λ most. user_acts judge_of most account (command_seen command.now) s) self.new result }
     {
         match command {
             Command::Run { with_name } => self.run_program(alloc, *with_name, clock, port),
+            Command::RunFile(tail) => self.run_file(alloc, account, tail, clock, port),
             Command::Continue => self.continue_program(alloc, clock, port),
             Command::Immediate(statement) => self.run_statement(alloc, statement, clock, port),
-            _ => self.rest(alloc, command, port),
+            _ => self.rest(alloc, account, command, port),
         }
     }
 
@@ -207,12 +209,13 @@ impl Session {
     fn rest<P: Port>(
         &mut self,
         alloc: Global,
+        account: Account,
         command: &Command<'_>,
         port: &mut P,
     ) -> Result<Onward, NoMemory>
         requires { IsShort (command_seen command.now) }
         ensures { (clock : play.Clock) → Follows P.who P.log port.old port.new clock clock
-            (rests judge_of (command_seen command.now) (seen self.old))
+            (rests judge_of account (command_seen command.now) (seen self.old))
             (unless_memory result (λ onward. goes onward (seen self.new))) }
     {
         match command {
@@ -228,7 +231,10 @@ impl Session {
             Command::ListLines { with_name, range } => self.list(*with_name, *range),
             Command::Delete(range) => self.delete(*range),
             Command::WrongTail => self.answer(ILLEGAL_COMMAND),
-            Command::Later => self.answer(NOT_IN_STAGE),
+            Command::Old(tail) => self.old(alloc, account, tail, port),
+            Command::Save { kind, tail } => self.save(alloc, account, *kind, tail, port),
+            Command::Unsave(tail) => self.unsave(alloc, account, tail, port),
+            Command::Catalog(of) => self.catalog(alloc, account, *of, port),
             Command::Numbered(line) => self.edit(alloc, line),
             _ => Ok(Onward::Next),
         }

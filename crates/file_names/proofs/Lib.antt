@@ -1,4 +1,4 @@
 mod FrontLemmas
-mod ReadingLaws
+pub mod ReadingLaws
 mod SpecLaws
-mod WritingLaws
+pub mod WritingLaws

@@ -1,8 +1,9 @@
 //! One key line each: what it shows before the login and behind it.
 
 use crate::talks::{
-    FLOATING_LITERAL, FLOATING_NAME, HELLO, ILLEGAL_NUMBER, IMMEDIATE, NOT_IN_STAGE, OPEN_STRING,
-    STRAY_BYTE, SYNTAX, TOO_DEEP, TOO_WIDE, assert_lines, assert_talk, assert_user, assert_visitor,
+    FLOATING_LITERAL, FLOATING_NAME, HELLO, ILLEGAL_COMMAND, ILLEGAL_NAME, ILLEGAL_NUMBER,
+    IMMEDIATE, NOT_IN_STAGE, OPEN_STRING, STRAY_BYTE, SYNTAX, TOO_DEEP, TOO_WIDE, assert_lines,
+    assert_talk, assert_user, assert_visitor,
 };
 use monitor_calls::Reply;
 use std::alloc::{AllocGlobal, Global};
@@ -148,15 +149,22 @@ fn lines_that_are_for_programs(rt: HostRuntime) -> Result<(), Fail> {
 }
 
 #[test]
-fn words_of_a_later_stage(rt: HostRuntime) -> Result<(), Fail> {
-    for word in ["OLD", "SAVE", "REPLACE", "UNSAVE", "CAT", " save", "Cat"] {
-        assert_user(&rt, word, NOT_IN_STAGE)?;
+fn words_of_commands_on_files(rt: HostRuntime) -> Result<(), Fail> {
+    for word in ["OLD", "SAVE", "REPLACE", "UNSAVE", " save"] {
         let behind = format!(in rt.alloc(); "{word}& 1.5 \"")?;
-        assert_user(&rt, behind.as_str(), NOT_IN_STAGE)?;
+        assert_user(&rt, behind.as_str(), ILLEGAL_NAME)?;
         let longer = format!(in rt.alloc(); "{word}Q")?;
         assert_user(&rt, longer.as_str(), FLOATING_NAME)?;
     }
-    Ok(())
+    for tail in [
+        " X", " 0,1", " 255,1", " 1,255", " [1,2", " 1,2]", " [1,2]X", " 1/2", "[]", " $", " 01,2",
+    ] {
+        let line = format!(in rt.alloc(); "CAT{tail}")?;
+        assert_user(&rt, line.as_str(), ILLEGAL_COMMAND)?;
+    }
+    assert_user(&rt, "OLD", ILLEGAL_COMMAND)?;
+    assert_user(&rt, " old \t", ILLEGAL_COMMAND)?;
+    assert_user(&rt, "CATQ", FLOATING_NAME)
 }
 
 #[test]

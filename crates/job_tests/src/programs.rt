@@ -25,7 +25,7 @@ fn run_and_its_tails(rt: HostRuntime) -> Result<(), Fail> {
             ("RUNNH 10", ILLEGAL_COMMAND),
             ("RENAME DEMO", READY),
             ("RUN", "DEMO\n 1 \nReady\n"),
-            ("RUN DEMO", "?Not in this stage\nReady\n"),
+            ("RUN DK:DEMO", "?Device not available\nReady\n"),
             ("RUNS", "?Floating variable\nReady\n"),
             ("CONT 10", ILLEGAL_COMMAND),
             ("CONT", CANT),
@@ -67,7 +67,7 @@ fn what_does_not_forbid_cont(rt: HostRuntime) -> Result<(), Fail> {
         ("PRINT 1%/0%", "?Division by 0\nReady\n"),
         ("END", READY),
         ("PRINT I%; FOR I%=1% TO 2%", " 1  2 \nReady\n"),
-        ("CAT", "?Not in this stage\nReady\n"),
+        ("OLD DEMO-", "?Illegal file name\nReady\n"),
     ] {
         assert_lines(
             &rt,

@@ -2,7 +2,8 @@
 
 use basic_values::{Fault, KeyLine};
 use command_level::serve;
-use monitor_calls::{Reply, ReplyRoom, Request, ScriptPort};
+use file_names::print;
+use monitor_calls::{OpenKind, Page, Reply, ReplyRoom, Request, ScriptPort};
 use std::alloc::{AllocGlobal, Global};
 use std::process::Abort;
 use std::str;
@@ -13,6 +14,10 @@ pub(crate) const HELLO: &str = "HELLO 100,5;DEMO";
 pub(crate) const WRONG: &str = "Invalid entry - try again";
 
 pub(crate) const NOT_IN_STAGE: &str = "?Not in this stage\nReady\n";
+
+pub(crate) const ILLEGAL_COMMAND: &str = "?Illegal command\nReady\n";
+
+pub(crate) const ILLEGAL_NAME: &str = "?Illegal file name\nReady\n";
 
 pub(crate) const IMMEDIATE: &str = "?Illegal in immediate mode\nReady\n";
 
@@ -46,6 +51,26 @@ pub(crate) fn failed(number: u8) -> Reply {
     Reply::Failed(Fault::new(number))
 }
 
+/// A block that begins with this text, with CR and LF where it has LF.
+pub(crate) fn block(rt: &(impl AllocGlobal + Abort), text: &str) -> Result<Reply, Fail> {
+    let mut bytes = with_returns(rt.alloc(), text)?;
+    assert!(rt; bytes.len() <= 512);
+    bytes.resize(512, 0)?;
+    let mut page = Page::new(rt.alloc())?;
+    assert!(rt; bytes.len() == 512);
+    page.fill(bytes.as_slice());
+    Ok(Reply::Block(page))
+}
+
+/// A file of so many blocks is open.
+pub(crate) fn opened(blocks: u16) -> Reply {
+    Reply::Opened {
+        blocks,
+        read: true,
+        write: true,
+    }
+}
+
 /// The text with CR and LF where it has LF.
 fn with_returns(alloc: Global, text: &str) -> Result<Vec<u8>, Fail> {
     let mut bytes = Vec::new(alloc);
@@ -58,7 +83,7 @@ fn with_returns(alloc: Global, text: &str) -> Result<Vec<u8>, Fail> {
     Ok(bytes)
 }
 
-fn same_reply(alloc: Global, reply: &Reply) -> Result<Reply, Fail> {
+pub(crate) fn same_reply(alloc: Global, reply: &Reply) -> Result<Reply, Fail> {
     let room = ReplyRoom::of(alloc, reply)?;
     Ok(reply.again(room))
 }
@@ -69,6 +94,12 @@ fn reply_told(alloc: Global, reply: &Reply) -> Result<String, Fail> {
         Reply::Done => Ok(String::from_str(alloc, "Done")?),
         Reply::Failed(fault) => Ok(format!(in alloc; "Failed {}", fault.number())?),
         Reply::Expired => Ok(String::from_str(alloc, "Expired")?),
+        Reply::Opened { blocks, .. } => Ok(format!(in alloc; "Opened {blocks}")?),
+        Reply::Block(_) => Ok(String::from_str(alloc, "Block")?),
+        Reply::Name { name, .. } => {
+            let printed = print(name);
+            Ok(format!(in alloc; "Name {}", str::from_utf8(printed.as_slice())?)?)
+        }
         _ => Ok(String::from_str(alloc, "another")?),
     }
 }
@@ -83,7 +114,39 @@ fn request_told(alloc: Global, request: &Request) -> Result<String, Fail> {
         }
         Request::Logout => Ok(String::from_str(alloc, "Logout")?),
         Request::Tick => Ok(String::from_str(alloc, "Tick")?),
+        Request::OpenFile {
+            name,
+            kind,
+            code,
+            ..
+        } => {
+            let printed = print(name);
+            let (kind, name) = (kind_told(*kind), str::from_utf8(printed.as_slice())?);
+            match code {
+                Some(code) => Ok(format!(in alloc; "{kind} {name}<{code}>")?),
+                None => Ok(format!(in alloc; "{kind} {name}")?),
+            }
+        }
+        Request::CloseFile { channel } => Ok(format!(in alloc; "Close {channel}")?),
+        Request::Get { block, .. } => Ok(format!(in alloc; "Get {block}")?),
+        Request::Put { block, .. } => Ok(format!(in alloc; "Put {block}")?),
+        Request::Kill { name } => {
+            let printed = print(name);
+            Ok(format!(in alloc; "Kill {}", str::from_utf8(printed.as_slice())?)?)
+        }
+        Request::Directory { owner, index } => {
+            Ok(format!(in alloc; "Directory {},{} {index}", owner.project, owner.programmer)?)
+        }
         _ => Ok(String::from_str(alloc, "another")?),
+    }
+}
+
+fn kind_told(kind: OpenKind) -> &'static str {
+    match kind {
+        OpenKind::Input => "Input",
+        OpenKind::Output => "Output",
+        OpenKind::Either => "Either",
+        OpenKind::Fresh => "Fresh",
     }
 }
 
@@ -164,4 +227,37 @@ pub(crate) fn assert_lines(
     screen.push_str("Bye\n")?;
     let log = "Login 100,5;DEMO Done\nLogout Done\n";
     assert_talk(rt, keys.as_slice(), &[Reply::Done], screen.as_str(), log)
+}
+
+/// Asserts what lines show behind the login, and what they ask with these replies. Each is given with
+/// what it shows.
+pub(crate) fn assert_files(
+    rt: &(impl AllocGlobal + Abort),
+    lines: &[(&str, &str)],
+    replies: &[Reply],
+    asked: &str,
+) -> Result<(), Fail> {
+    let mut keys = Vec::new(rt.alloc());
+    keys.push(HELLO)?;
+    let mut screen = format!(in rt.alloc(); "{HELLO}\nReady\n")?;
+    for (line, shown) in lines {
+        keys.push(*line)?;
+        screen.push_str(line)?;
+        screen.push_str("\n")?;
+        screen.push_str(shown)?;
+    }
+    screen.push_str("Bye\n")?;
+    let mut script = Vec::new(rt.alloc());
+    script.push(Reply::Done)?;
+    for reply in replies {
+        script.push(same_reply(rt.alloc(), reply)?)?;
+    }
+    let log = format!(in rt.alloc(); "Login 100,5;DEMO Done\n{asked}Logout Done\n")?;
+    assert_talk(
+        rt,
+        keys.as_slice(),
+        script.as_slice(),
+        screen.as_str(),
+        log.as_str(),
+    )
 }

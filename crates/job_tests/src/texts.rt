@@ -1,14 +1,10 @@
 //! The text of a program: what is typed, and what is listed of it.
 
-use crate::talks::{ILLEGAL_NUMBER, SYNTAX, assert_lines};
+use crate::talks::{ILLEGAL_COMMAND, ILLEGAL_NAME, ILLEGAL_NUMBER, SYNTAX, assert_lines};
 use std::alloc::AllocGlobal;
 use std::test::Fail;
 
 const READY: &str = "Ready\n";
-
-const ILLEGAL_COMMAND: &str = "?Illegal command\nReady\n";
-
-const ILLEGAL_NAME: &str = "?Illegal file name\nReady\n";
 
 #[test]
 fn lines_stand_in_the_order_of_their_numbers(rt: HostRuntime) -> Result<(), Fail> {

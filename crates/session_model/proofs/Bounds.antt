@@ -1,13 +1,13 @@
 -- A bound on statements changes nothing of a session, as long as units do not reach it.
 use Rattle.std.proofs.Common.{◌≡◌, ℕ, zero, suc, ◌<◌, ◌≤◌, List, [], ◌∷◌, ◌++◌, Option, Some, None, refl, ap, arith}
-use Rattle.std.specs.Prelude.{Bool, true, false, if◌then◌else◌}
+use Rattle.std.specs.Prelude.{Bool, true, false, if◌then◌else◌, Result, Ok, Err}
 use Rattle.monitor_calls.specs.declared.calls.Request.TheVariants.{Tick}
 use Rattle.monitor_calls.specs.declared.calls.Reply.{Reply}
 use Rattle.monitor_calls.specs.declared.names.Account.{Account}
 use Rattle.basic_tree.specs.LineVerdicts.{Verdict, HasTree, RefusedFor, Judge}
 use Rattle.basic_tree.specs.SpellingStatements.{line_statements}
 use Rattle.basic_tree.specs.Trees.{StatementTree}
-use Rattle.job_model.specs.Act.{Act, Takes, Break, Gone, ◌then◌, over}
+use Rattle.job_model.specs.Act.{Act, Gives, Breaks, Asks, Takes, Break, Gone, ◌then◌, over}
 use Rattle.job_model.specs.Play.{Clock, counted, ticked, is_quiet, lets_on, play, play_tick, Broke, Finished, behind_ask}
 use Rattle.job_model.specs.Texts.{line_end}
 use Rattle.program_model.specs.declared.refusals.LowerRefusal.{LowerRefusal}
@@ -20,9 +20,13 @@ use Rattle.program_model.specs.Running.{dimension_program, runs_cleared, continu
 use Rattle.program_model.specs.Soundness.{refusal_of, refusal_now}
 use Rattle.program_model.proofs.BoundLemmas.{same, and_then, bounds_enough_from}
 use Rattle.stage_forms.specs.Stage.{are_in_stage}
-use Rattle.session_model.specs.Commands.{Command, Run, Continue, Immediate, command_of}
-use Rattle.session_model.specs.Texts.{not_in_stage}
-use Rattle.session_model.specs.Talk.{Session, Step, answered, says, keys_are, outlived, outlives, reported, run_is_over, runs_unless, begun, goes_on, line_unless, immediate, program_by, headed, user_acts, acts, line_acts, with_next, session}
+use Rattle.file_names.specs.declared.spec.Spec.{Spec}
+use Rattle.line_editor.specs.Lines.{Lines}
+use Rattle.program_files.specs.Programs.{reads_pages}
+use Rattle.session_model.specs.ProgramFiles.{spec_read, is_blank_text, program_on}
+use Rattle.session_model.specs.Commands.{Command, Run, RunFile, Continue, Immediate, command_of}
+use Rattle.session_model.specs.Texts.{not_in_stage, illegal_command}
+use Rattle.session_model.specs.Talk.{Session, Step, answered, says, keys_are, outlived, outlives, reported, run_is_over, runs_unless, begun, goes_on, line_unless, immediate, program_by, headed, tried, by_name, loaded, runs_loaded, reads_and_runs, user_acts, acts, line_acts, with_next, session}
 
 outlives_alike : {R A : Type 0} (n : ℕ) (over : Break (program.Leaving R) → Job R → Session R) (s : Session R) (m m' : program.Deed R A) → Alike n m m' → Alike n (outlives over s m) (outlives over s m')
 outlives_alike n over s m m' gives = gives
@@ -37,6 +41,14 @@ over_alike n ways put m m' breaks = breaks
 over_alike n ways put m m' (asks {n = i} {r = r} {k = k} {k' = k'} e) = asks (λ x. over_alike n ways put (k x) (k' x) (e x))
 over_alike n ways put m m' spent = spent
 over_alike n ways put m m' (takes {n = i} {s = j} {m = k} {m' = k'} e) = takes (over_alike i ways put k k' e)
+
+-- what goes on alike behind an act on files
+tried_alike : {R P A : Type 0} (n : ℕ) (whole : P → Session R) (next next' : A → Session R → Step R) (act : Act ⊥ P A) → ((k : ℕ) (a : A) (s : Session R) → k ≤ n → Alike k (next a s) (next' a s)) → Alike n (tried whole next act) (tried whole next' act)
+tried_alike n whole next next' (Gives a p) f = f n a (whole p) (omega arith)
+tried_alike n whole next next' (Breaks why p) f = same n _
+tried_alike n whole next next' (Asks r by) f = asks (λ x. tried_alike n whole next next' (by x) f)
+tried_alike zero whole next next' (Takes p rest) f = spent
+tried_alike (suc n) whole next next' (Takes p rest) f = takes (tried_alike n whole next next' rest (λ k a s le. f k a s (omega (arith, le))))
 
 module _ (judge : Judge) (n most more : ℕ) (less : n < most) (less' : n < more) where
   cleared_alike : (p : Program) (j : Job Position) → Alike n (runs_cleared p most j) (runs_cleared p more j)
@@ -71,15 +83,32 @@ module _ (judge : Judge) (n most more : ℕ) (less : n < most) (less' : n < more
   immediate_alike (RefusedFor cause) s = same n _
   immediate_alike (HasTree tree) s = line_alike (are_in_stage (line_statements tree)) (line_statements tree) (answered not_in_stage s) s
 
-  user_alike : (command : Command) (s : Session Position) → Alike n (user_acts judge most command s) (user_acts judge more command s)
-  user_alike (Run with_name) s = let p = program_by judge s.lines in unless_alike (refusal_of p) p (begun p (headed with_name s))
-  user_alike Continue s = on_alike (program_by judge s.lines) s.stop s
-  user_alike (Immediate statement) s = immediate_alike (judge statement) s
-  user_alike command s = same n _
+  runs_loaded_alike : (name : List ℕ) (o : Option Lines) (s : Session Position) → Alike n (runs_loaded judge most name o s) (runs_loaded judge more name o s)
+  runs_loaded_alike name None s = same n _
+  runs_loaded_alike name (Some lines) s = let p = program_by judge lines in unless_alike (refusal_of p) p (begun p (loaded name lines s))
+
+module _ (judge : Judge) (n most more : ℕ) (less : n < most) (less' : n < more) where
+  by_name_alike : (named : Result Spec ℕ) (s : Session Position) → Alike n (by_name named (reads_and_runs judge most) s) (by_name named (reads_and_runs judge more) s)
+  by_name_alike (Err number) s = same n _
+  by_name_alike (Ok spec) s =
+      tried_alike n (λ _. s) _ _ (reads_pages spec.name spec.code)
+      (λ k pages s le. runs_loaded_alike judge k most more (omega (arith, le, less)) (omega (arith, le, less')) spec.name.stem (program_on judge pages) s)
+
+  file_alike : (b : Bool) (m : Step Position) (named : Result Spec ℕ) (s : Session Position)
+      → Alike n (if b then m else by_name named (reads_and_runs judge most) s) (if b then m else by_name named (reads_and_runs judge more) s)
+  file_alike true m named s = same n m
+  file_alike false m named s = by_name_alike named s
+
+  user_alike : (own : Account) (command : Command) (s : Session Position) → Alike n (user_acts judge most own command s) (user_acts judge more own command s)
+  user_alike own (RunFile tail) s = file_alike (is_blank_text tail) (answered illegal_command s) (spec_read own tail) s
+  user_alike own (Run with_name) s = let p = program_by judge s.lines in unless_alike judge n most more less less' (refusal_of p) p (begun p (headed with_name s))
+  user_alike own Continue s = on_alike judge n most more less less' (program_by judge s.lines) s.stop s
+  user_alike own (Immediate statement) s = immediate_alike judge n most more less less' (judge statement) s
+  user_alike own command s = same n _
 
   acts_alike : (o : Option Account) (command : Command) (s : Session Position) → Alike n (acts judge most o command s) (acts judge more o command s)
   acts_alike None command s = same n _
-  acts_alike (Some account) command s = user_alike command s
+  acts_alike (Some account) command s = user_alike account command s
 
 turn_alike : (judge : Judge) (n most more : ℕ) (count : ℕ) → n < most → n < more → ((k : ℕ) (s : Session Position) → k ≤ n → Alike k (session judge most count s) (session judge more count s))
     → (keys : List (List ℕ)) (s : Session Position)

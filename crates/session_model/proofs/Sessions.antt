@@ -1,25 +1,33 @@
 -- A session takes no more key lines than there are at first.
 use Rattle.std.proofs.Common.{◌≡◌, ℕ, zero, suc, ◌≤◌, List, [], ◌∷◌, ◌++◌, length, Bool, true, false, Option, Some, None, refl, arith}
-use Rattle.std.specs.Prelude.{if◌then◌else◌}
+use Rattle.std.specs.Prelude.{if◌then◌else◌, Result, Ok, Err}
 use Rattle.monitor_calls.specs.declared.names.Account.{Account}
+use Rattle.monitor_calls.specs.declared.files.OpenKind.{OpenKind}
 use Rattle.monitor_calls.specs.declared.calls.Request.TheVariants as request
 use Rattle.monitor_calls.specs.declared.calls.Reply.{Reply}
 use Rattle.monitor_calls.specs.declared.calls.Reply.TheVariants.{Done, Failed}
 use Rattle.basic_tree.specs.LineVerdicts.{Verdict, HasTree, RefusedFor, Judge}
 use Rattle.basic_tree.specs.SpellingStatements.{line_statements}
 use Rattle.basic_tree.specs.Trees.{StatementTree}
-use Rattle.job_model.specs.Act.{Gives, Breaks, Asks, Takes, ◌then◌, Break, Faulted, Halted, Gone, Left}
+use Rattle.job_model.specs.Act.{Act, Gives, Breaks, Asks, Takes, ◌then◌, Break, Faulted, Halted, Gone, Left}
 use Rattle.job_model.specs.Asking.{counts_as}
+use Rattle.file_names.specs.declared.spec.Spec.{Spec}
+use Rattle.line_editor.specs.Lines.{Lines}
+use Rattle.program_files.specs.declared.catalogs.TheConstants.{MOST_FILES}
+use Rattle.program_files.specs.Catalogs.{catalog_from}
+use Rattle.program_files.specs.Channels.{kills}
+use Rattle.program_files.specs.Programs.{reads_pages, writes_pages}
 use Rattle.program_model.specs.declared.refusals.LowerRefusal.{LowerRefusal}
 use Rattle.program_model.specs.Program.{Program, Position}
 use Rattle.program_model.specs.Job as program
 use Rattle.program_model.specs.Job.{Job}
 use Rattle.program_model.specs.Soundness.{refusal_of, refusal_now}
 use Rattle.stage_forms.specs.Stage.{are_in_stage}
-use Rattle.session_model.specs.Commands.{Login, Naming, Nameless, Named, Misnamed, Range, Command, Hello, Bye, New, Rename, ListLines, Delete, Run, Continue, Numbered, Immediate, command_of}
+use Rattle.session_model.specs.Commands.{Login, Naming, Nameless, Named, Misnamed, Range, Command, Hello, Bye, New, Rename, ListLines, Delete, Run, RunFile, Continue, Old, Save, Unsave, Catalog, Cataloging, OfOwn, OfAccount, OfNone, Numbered, Immediate, command_of}
 use Rattle.session_model.specs.Editing.{Edited, Accepted, Refused, edited}
+use Rattle.session_model.specs.ProgramFiles.{spec_read, spec_or_own, is_blank_text, saved_pages, program_on}
 use Rattle.session_model.specs.Texts.{not_in_stage}
-use Rattle.session_model.specs.Talk.{Session, Step, answered, says, keys_are, entered, hello, leave, begins_new, renames, headed, lists, deletes, takes_edit, rests, program_by, outlived, outlives, reported, run_is_over, runs_unless, begun, goes_on, line_unless, immediate, visitor_acts, user_acts, acts, line_acts, with_next, session, opening}
+use Rattle.session_model.specs.Talk.{Session, Step, answered, says, keys_are, entered, hello, leave, begins_new, renames, headed, lists, deletes, takes_edit, broken_off, tried, by_name, with_name_of, loaded, loads, reads_old, old, saves_as, saves, kills_file, unsaves, with_screen, catalogs_of, catalogs, rests, runs_loaded, reads_and_runs, runs_file, program_by, outlived, outlives, reported, run_is_over, runs_unless, begun, goes_on, line_unless, immediate, visitor_acts, user_acts, acts, line_acts, with_next, session, opening}
 use Rattle.job_model.specs.Texts.{line_end}
 use Rattle.job_model.specs.Follow.{Path, here, asked, quiet, tick, gone}
 use Rattle.job_model.specs.Play.{Clock}
@@ -75,14 +83,66 @@ module _ {R : Type 0} (n : ℕ) where
   edit_keeps (Accepted lines) s h = h
   edit_keeps (Refused text) s h = h
 
-  rests_keeps : (judge : Judge) (command : Command) (s : Session R) → Fewer n s.job → Keeps n (rests judge command s)
-  rests_keeps judge Bye s h = λ reply. tt
-  rests_keeps judge (New naming) s h = new_keeps naming s h
-  rests_keeps judge (Rename naming) s h = renames_keeps naming s h
-  rests_keeps judge (ListLines with_name range) s h = lists_keeps with_name range s h
-  rests_keeps judge (Delete range) s h = deletes_keeps range s h
-  rests_keeps judge (Numbered number rest) s h = edit_keeps (edited judge number rest s.lines) s h
-  rests_keeps judge command s h = h
+  -- FILES
+
+  either_keeps : (b : Bool) (m m' : Step R) → Keeps n m → Keeps n m' → Keeps n (if b then m else m')
+  either_keeps true m m' h g = h
+  either_keeps false m m' h g = g
+
+  broken_keeps : (why : Break ⊥) (s : Session R) → Fewer n s.job → Keeps n (broken_off why s)
+  broken_keeps (Faulted number) s h = h
+  broken_keeps (Halted halt) s h = h
+  broken_keeps Gone s h = tt
+  broken_keeps (Left none) s h = absurd none
+
+  tried_keeps : {P A : Type 0} (whole : P → Session R) (next : A → Session R → Step R) (act : Act ⊥ P A) → ((p : P) → Fewer n (whole p).job) → ((a : A) (s : Session R) → Fewer n s.job → Keeps n (next a s)) → Keeps n (tried whole next act)
+  tried_keeps whole next (Gives a p) h f = f a (whole p) (h p)
+  tried_keeps whole next (Breaks why p) h f = broken_keeps why (whole p) (h p)
+  tried_keeps whole next (Asks r by) h f = λ x. tried_keeps whole next (by x) h f
+  tried_keeps whole next (Takes p rest) h f = tried_keeps whole next rest h f
+
+  by_name_keeps : (named : Result Spec ℕ) (act : Spec → Session R → Step R) (s : Session R) → Fewer n s.job → ((spec : Spec) → Keeps n (act spec s)) → Keeps n (by_name named act s)
+  by_name_keeps (Ok spec) act s h f = f spec
+  by_name_keeps (Err number) act s h f = h
+
+  pub with_name_keeps : (own : Account) (tail : List ℕ) (act : Spec → Session R → Step R) (s : Session R) → Fewer n s.job → ((spec : Spec) → Keeps n (act spec s)) → Keeps n (with_name_of own tail act s)
+  with_name_keeps own tail act s h f = either_keeps (is_blank_text tail) _ _ h (by_name_keeps (spec_read own tail) act s h f)
+
+  loads_keeps : (name : List ℕ) (o : Option Lines) (s : Session R) → Fewer n s.job → Keeps n (loads name o s)
+  loads_keeps name None s h = h
+  loads_keeps name (Some lines) s h = h
+
+  old_keeps : (judge : Judge) (own : Account) (tail : List ℕ) (s : Session R) → Fewer n s.job → Keeps n (old judge own tail s)
+  old_keeps judge own tail s h =
+      with_name_keeps own tail (reads_old judge) s h (λ spec. tried_keeps (λ _. s) (λ pages s. loads spec.name.stem (program_on judge pages) s) (reads_pages spec.name spec.code) (λ _. h) (λ pages s g. loads_keeps spec.name.stem (program_on judge pages) s g))
+
+  saves_keeps : (own : Account) (kind : OpenKind) (tail : List ℕ) (s : Session R) → Fewer n s.job → Keeps n (saves own kind tail s)
+  saves_keeps own kind tail s h =
+      by_name_keeps (spec_or_own own s.name tail) (saves_as kind) s h (λ spec. tried_keeps (λ _. s) (λ _ s. answered [] s) (writes_pages spec.name kind spec.code (saved_pages s.lines)) (λ _. h) (λ _ s g. g))
+
+  unsaves_keeps : (own : Account) (tail : List ℕ) (s : Session R) → Fewer n s.job → Keeps n (unsaves own tail s)
+  unsaves_keeps own tail s h = by_name_keeps (spec_or_own own s.name tail) kills_file s h (λ spec. tried_keeps (λ _. s) (λ _ s. answered [] s) (kills spec.name) (λ _. h) (λ _ s g. g))
+
+  catalogs_of_keeps : (owner : Account) (s : Session R) → Fewer n s.job → Keeps n (catalogs_of owner s)
+  catalogs_of_keeps owner s h = tried_keeps (with_screen s) (λ _ s. answered [] s) (catalog_from owner 0 MOST_FILES s.job.screen) (λ _. h) (λ _ s g. g)
+
+  catalogs_keeps : (own : Account) (of : Cataloging) (s : Session R) → Fewer n s.job → Keeps n (catalogs own of s)
+  catalogs_keeps own OfOwn s h = catalogs_of_keeps own s h
+  catalogs_keeps own (OfAccount owner) s h = catalogs_of_keeps owner s h
+  catalogs_keeps own OfNone s h = h
+
+  rests_keeps : (judge : Judge) (own : Account) (command : Command) (s : Session R) → Fewer n s.job → Keeps n (rests judge own command s)
+  rests_keeps judge own Bye s h = λ reply. tt
+  rests_keeps judge own (New naming) s h = new_keeps naming s h
+  rests_keeps judge own (Rename naming) s h = renames_keeps naming s h
+  rests_keeps judge own (ListLines with_name range) s h = lists_keeps with_name range s h
+  rests_keeps judge own (Delete range) s h = deletes_keeps range s h
+  rests_keeps judge own (Old tail) s h = old_keeps judge own tail s h
+  rests_keeps judge own (Save kind tail) s h = saves_keeps own kind tail s h
+  rests_keeps judge own (Unsave tail) s h = unsaves_keeps own tail s h
+  rests_keeps judge own (Catalog of) s h = catalogs_keeps own of s h
+  rests_keeps judge own (Numbered number rest) s h = edit_keeps (edited judge number rest s.lines) s h
+  rests_keeps judge own command s h = h
 
   -- PROGRAMS
 
@@ -122,15 +182,24 @@ module _ (n : ℕ) where
   immediate_keeps (HasTree tree) most s h =
       if_keeps (are_in_stage (line_statements tree)) (line_unless (refusal_now (line_statements tree)) (line_statements tree) most s) (answered not_in_stage s) (now_keeps (refusal_now (line_statements tree)) (line_statements tree) most s h) h
 
-  user_keeps : (judge : Judge) (most : ℕ) (command : Command) (s : Session Position) → Fewer n s.job → Keeps n (user_acts judge most command s)
-  user_keeps judge most (Run with_name) s h = let p = program_by judge s.lines in unless_keeps (refusal_of p) p most (begun p (headed with_name s)) (headed_keeps n with_name s h)
-  user_keeps judge most Continue s h = on_keeps (program_by judge s.lines) most s.stop s h
-  user_keeps judge most (Immediate statement) s h = immediate_keeps (judge statement) most s h
-  user_keeps judge most command s h = rests_keeps n judge command s h
+  runs_loaded_keeps : (judge : Judge) (most : ℕ) (name : List ℕ) (o : Option Lines) (s : Session Position) → Fewer n s.job → Keeps n (runs_loaded judge most name o s)
+  runs_loaded_keeps judge most name None s h = h
+  runs_loaded_keeps judge most name (Some lines) s h = let p = program_by judge lines in unless_keeps (refusal_of p) p most (begun p (loaded name lines s)) h
+
+  runs_file_keeps : (judge : Judge) (most : ℕ) (own : Account) (tail : List ℕ) (s : Session Position) → Fewer n s.job → Keeps n (runs_file judge most own tail s)
+  runs_file_keeps judge most own tail s h =
+      with_name_keeps n own tail (reads_and_runs judge most) s h (λ spec. tried_keeps n (λ _. s) (λ pages s. runs_loaded judge most spec.name.stem (program_on judge pages) s) (reads_pages spec.name spec.code) (λ _. h) (λ pages s g. runs_loaded_keeps judge most spec.name.stem (program_on judge pages) s g))
+
+  user_keeps : (judge : Judge) (most : ℕ) (own : Account) (command : Command) (s : Session Position) → Fewer n s.job → Keeps n (user_acts judge most own command s)
+  user_keeps judge most own (Run with_name) s h = let p = program_by judge s.lines in unless_keeps (refusal_of p) p most (begun p (headed with_name s)) (headed_keeps n with_name s h)
+  user_keeps judge most own (RunFile tail) s h = runs_file_keeps judge most own tail s h
+  user_keeps judge most own Continue s h = on_keeps (program_by judge s.lines) most s.stop s h
+  user_keeps judge most own (Immediate statement) s h = immediate_keeps (judge statement) most s h
+  user_keeps judge most own command s h = rests_keeps n judge own command s h
 
   acts_keep : (judge : Judge) (most : ℕ) (account : Option Account) (command : Command) (s : Session Position) → Fewer n s.job → Keeps n (acts judge most account command s)
   acts_keep judge most None command s h = visitor_keeps n command s h
-  acts_keep judge most (Some account) command s h = user_keeps judge most command s h
+  acts_keep judge most (Some account) command s h = user_keeps judge most account command s h
 
 pub line_keeps : (n : ℕ) (judge : Judge) (most : ℕ) (line : List ℕ) (s : Session Position) → Fewer n s.job → Keeps n (line_acts judge most line s)
 line_keeps n judge most line s h = acts_keep n judge most s.account (command_of line) (says (line ++ line_end) s) h

@@ -1,8 +1,9 @@
 -- The talk of a terminal: the requests that its session makes and the bytes that it shows, given its
 -- keys and the replies. A judge says of each line that is a statement which tree the grammar has for
 -- it, or why it refuses it.
-use Rattle.std.specs.Prelude.{◌≡◌, ℕ, zero, suc, Bool, true, false, if◌then◌else◌, List, [], ◌∷◌, ◌++◌, length, map, replicate, Option, Some, None, codes}
+use Rattle.std.specs.Prelude.{◌≡◌, ℕ, zero, suc, Bool, true, false, if◌then◌else◌, List, [], ◌∷◌, ◌++◌, length, map, replicate, Option, Some, None, Result, Ok, Err, codes}
 use Rattle.monitor_calls.specs.declared.names.Account.{Account}
+use Rattle.monitor_calls.specs.declared.files.OpenKind.{OpenKind}
 use Rattle.monitor_calls.specs.declared.calls.Request.{Request}
 use Rattle.monitor_calls.specs.declared.calls.Request.TheVariants as request
 use Rattle.monitor_calls.specs.declared.calls.Reply.{Reply}
@@ -12,13 +13,20 @@ use Rattle.basic_tree.specs.SpellingStatements.{line_statements}
 use Rattle.basic_tree.specs.Trees.{StatementTree}
 use Rattle.error_trap.specs.Trapping.{untouched}
 use Rattle.job_memory.specs.Memory.{empty}
-use Rattle.job_model.specs.Act.{Act, Gives, Breaks, Asks, Takes, Break, Gone, Left, ◌then◌}
+use Rattle.job_model.specs.Act.{Act, Gives, Breaks, Asks, Takes, Break, Faulted, Halted, Gone, Left, ◌then◌}
 use Rattle.job_model.specs.Asking.{ask}
-use Rattle.session_model.specs.Commands.{Login, Naming, Nameless, Named, Misnamed, Range, Command, Hello, Bye, BadBye, Idle, New, Rename, ListLines, Delete, Run, Continue, WrongTail, Later, Numbered, Immediate, command_of}
+use Rattle.session_model.specs.Commands.{Login, Naming, Nameless, Named, Misnamed, Range, Command, Hello, Bye, BadBye, Idle, New, Rename, ListLines, Delete, Run, Continue, WrongTail, Old, RunFile, Save, Unsave, Catalog, Cataloging, OfOwn, OfAccount, OfNone, Numbered, Immediate, command_of}
 use Rattle.job_model.specs.Play.{at_start, fuel_for, play, End, Gave, Broke, Finished, Played, told_by}
 use Rattle.job_model.specs.PlayLaws.{Begins}
 use Rattle.job_model.specs.Texts.{line_end, job_expired}
+use Rattle.file_names.specs.declared.spec.Spec.{Spec}
+use Rattle.line_editor.specs.declared.files.TheConstants.{DATA_FORMAT}
 use Rattle.line_editor.specs.Lines.{Lines, within, without, listing}
+use Rattle.program_files.specs.declared.catalogs.TheConstants.{MOST_FILES}
+use Rattle.program_files.specs.Catalogs.{catalog_from}
+use Rattle.program_files.specs.Channels.{FileAct, kills}
+use Rattle.program_files.specs.Ends.{at_ends}
+use Rattle.program_files.specs.Programs.{reads_pages, writes_pages}
 use Rattle.program_model.specs.declared.refusals.LowerRefusal.{LowerRefusal}
 use Rattle.program_model.specs.Program.{Program, Position}
 use Rattle.program_model.specs.Job.{Job}
@@ -30,7 +38,8 @@ use Rattle.program_model.specs.Soundness.{refusal_of, refusal_now}
 use Rattle.stage_forms.specs.Stage.{are_in_stage}
 use Rattle.terminal_line.specs.Columns.{column_of, fresh_text}
 use Rattle.session_model.specs.Editing.{Edited, Accepted, Refused, edited}
-use Rattle.session_model.specs.Texts.{ready, please_say_hello, invalid_entry, already_logged_in, illegal_command, not_in_stage, bye, illegal_file_name, cant_continue, refusal_text, lowering_text}
+use Rattle.session_model.specs.ProgramFiles.{spec_read, spec_or_own, is_blank_text, saved_pages, program_on}
+use Rattle.session_model.specs.Texts.{ready, please_say_hello, invalid_entry, already_logged_in, illegal_command, not_in_stage, bye, illegal_file_name, fault_line, halt_line, cant_continue, refusal_text, lowering_text}
 
 -- THE SESSION
 
@@ -139,20 +148,94 @@ abbrev pub takes_edit : {R : Type 0} → Edited → Session R → Step R
 takes_edit (Accepted lines) s = Gives tt (with_lines lines s)
 takes_edit (Refused text) s = answered text s
 
--- what runs no program
-abbrev pub rests : {R : Type 0} → Judge → Command → Session R → Step R
-rests judge (Hello login) s = answered already_logged_in s
-rests judge Bye s = log_out s
-rests judge BadBye s = answered illegal_command s
-rests judge Idle s = Gives tt s
-rests judge (New naming) s = begins_new naming s
-rests judge (Rename naming) s = renames naming s
-rests judge (ListLines with_name range) s = lists with_name range s
-rests judge (Delete range) s = deletes range s
-rests judge WrongTail s = answered illegal_command s
-rests judge Later s = answered not_in_stage s
-rests judge (Numbered number rest) s = takes_edit (edited judge number rest s.lines) s
-rests judge other s = Gives tt s
+-- FILES OF PROGRAMS
+
+-- why an act on files broke off: a fault is shown
+abbrev pub broken_off : {R : Type 0} → Break ⊥ → Session R → Step R
+broken_off (Faulted number) s = answered (fault_line number) s
+broken_off (Halted halt) s = answered (halt_line halt) s
+broken_off Gone s = Breaks Gone s
+broken_off (Left none) s = absurd none
+
+-- an act of a part of the session, and how that goes on
+abbrev pub tried : {R P A : Type 0} → (P → Session R) → (A → Session R → Step R) → Act ⊥ P A → Step R
+tried whole next act = at_ends whole (λ value p. next value (whole p)) (λ why p. broken_off why (whole p)) act
+
+-- an act on files, which keep nothing of the session
+abbrev pub on_files : {R A : Type 0} → FileAct A → (A → Session R → Step R) → Session R → Step R
+on_files act next s = tried (λ _. s) next act
+
+-- what is done with the file that is named, or the error that refuses the name
+abbrev pub by_name : {R : Type 0} → Result Spec ℕ → (Spec → Session R → Step R) → Session R → Step R
+by_name (Ok spec) act s = act spec s
+by_name (Err number) act s = answered (fault_line number) s
+
+-- OLD and RUN: a name has to stand behind them
+abbrev pub with_name_of : {R : Type 0} → Account → List ℕ → (Spec → Session R → Step R) → Session R → Step R
+with_name_of own tail act s =
+    if is_blank_text tail then answered illegal_command s else by_name (spec_read own tail) act s
+
+-- the program that was read is in memory, and all is as NEW leaves it
+abbrev pub loaded : {R : Type 0} → List ℕ → Lines → Session R → Session R
+loaded name lines s = with_lines lines (named name (emptied s))
+
+-- OLD: a text that is no program is an error, and nothing has changed
+abbrev pub loads : {R : Type 0} → List ℕ → Option Lines → Session R → Step R
+loads name None s = answered (fault_line DATA_FORMAT) s
+loads name (Some lines) s = answered [] (loaded name lines s)
+
+abbrev pub reads_old : {R : Type 0} → Judge → Spec → Session R → Step R
+reads_old judge spec s =
+    on_files (reads_pages spec.name spec.code) (λ pages s. loads spec.name.stem (program_on judge pages) s) s
+
+abbrev pub old : {R : Type 0} → Judge → Account → List ℕ → Session R → Step R
+old judge own tail s = with_name_of own tail (reads_old judge) s
+
+-- SAVE and REPLACE
+abbrev pub saves_as : {R : Type 0} → OpenKind → Spec → Session R → Step R
+saves_as kind spec s =
+    on_files (writes_pages spec.name kind spec.code (saved_pages s.lines)) (λ _ s. answered [] s) s
+
+abbrev pub saves : {R : Type 0} → Account → OpenKind → List ℕ → Session R → Step R
+saves own kind tail s = by_name (spec_or_own own s.name tail) (saves_as kind) s
+
+-- UNSAVE, which does not look at the code
+abbrev pub kills_file : {R : Type 0} → Spec → Session R → Step R
+kills_file spec s = on_files (kills spec.name) (λ _ s. answered [] s) s
+
+abbrev pub unsaves : {R : Type 0} → Account → List ℕ → Session R → Step R
+unsaves own tail s = by_name (spec_or_own own s.name tail) kills_file s
+
+-- CAT
+abbrev pub with_screen : {R : Type 0} → Session R → List ℕ → Session R
+with_screen s screen = with_job (record s.job { screen = screen }) s
+
+abbrev pub catalogs_of : {R : Type 0} → Account → Session R → Step R
+catalogs_of owner s =
+    tried (with_screen s) (λ _ s. answered [] s) (catalog_from owner 0 MOST_FILES s.job.screen)
+
+abbrev pub catalogs : {R : Type 0} → Account → Cataloging → Session R → Step R
+catalogs own OfOwn s = catalogs_of own s
+catalogs own (OfAccount owner) s = catalogs_of owner s
+catalogs own OfNone s = answered illegal_command s
+
+-- what runs no program, for the account that the session acts for
+abbrev pub rests : {R : Type 0} → Judge → Account → Command → Session R → Step R
+rests judge own (Hello login) s = answered already_logged_in s
+rests judge own Bye s = log_out s
+rests judge own BadBye s = answered illegal_command s
+rests judge own Idle s = Gives tt s
+rests judge own (New naming) s = begins_new naming s
+rests judge own (Rename naming) s = renames naming s
+rests judge own (ListLines with_name range) s = lists with_name range s
+rests judge own (Delete range) s = deletes range s
+rests judge own WrongTail s = answered illegal_command s
+rests judge own (Old tail) s = old judge own tail s
+rests judge own (Save kind tail) s = saves own kind tail s
+rests judge own (Unsave tail) s = unsaves own tail s
+rests judge own (Catalog of) s = catalogs own of s
+rests judge own (Numbered number rest) s = takes_edit (edited judge number rest s.lines) s
+rests judge own other s = Gives tt s
 
 -- PROGRAMS THAT RUN
 
@@ -200,6 +283,18 @@ begun program s = record s { job = cleared program s.job; stop = None }
 abbrev pub runs : Program → ℕ → Session Position → Step Position
 runs program most s = runs_unless (refusal_of program) program most (begun program s)
 
+-- RUN with a name: the program is read as OLD reads it, and runs
+abbrev pub runs_loaded : Judge → ℕ → List ℕ → Option Lines → Session Position → Step Position
+runs_loaded judge most name None s = answered (fault_line DATA_FORMAT) s
+runs_loaded judge most name (Some lines) s = runs (program_by judge lines) most (loaded name lines s)
+
+abbrev pub reads_and_runs : Judge → ℕ → Spec → Session Position → Step Position
+reads_and_runs judge most spec s =
+    on_files (reads_pages spec.name spec.code) (λ pages s. runs_loaded judge most spec.name.stem (program_on judge pages) s) s
+
+abbrev pub runs_file : Judge → ℕ → Account → List ℕ → Session Position → Step Position
+runs_file judge most own tail s = with_name_of own tail (reads_and_runs judge most) s
+
 -- CONT
 abbrev pub goes_on : Program → ℕ → Option (program.Leaving Position) → Session Position → Step Position
 goes_on program most None s = answered cant_continue s
@@ -228,15 +323,16 @@ visitor_acts BadBye s = answered illegal_command s
 visitor_acts other s = Gives tt (says please_say_hello s)
 
 -- a program runs for so many statements at the most
-abbrev pub user_acts : Judge → ℕ → Command → Session Position → Step Position
-user_acts judge most (Run with_name) s = runs (program_by judge s.lines) most (headed with_name s)
-user_acts judge most Continue s = goes_on (program_by judge s.lines) most s.stop s
-user_acts judge most (Immediate statement) s = immediate (judge statement) most s
-user_acts judge most command s = rests judge command s
+abbrev pub user_acts : Judge → ℕ → Account → Command → Session Position → Step Position
+user_acts judge most own (Run with_name) s = runs (program_by judge s.lines) most (headed with_name s)
+user_acts judge most own (RunFile tail) s = runs_file judge most own tail s
+user_acts judge most own Continue s = goes_on (program_by judge s.lines) most s.stop s
+user_acts judge most own (Immediate statement) s = immediate (judge statement) most s
+user_acts judge most own command s = rests judge own command s
 
 abbrev pub acts : Judge → ℕ → Option Account → Command → Session Position → Step Position
 acts judge most None command s = visitor_acts command s
-acts judge most (Some account) command s = user_acts judge most command s
+acts judge most (Some account) command s = user_acts judge most account command s
 
 -- one key line: its echo, and what it asks for
 abbrev pub line_acts : Judge → ℕ → List ℕ → Session Position → Step Position

@@ -321,7 +321,7 @@ fn lines_are_judged_by_the_grammar(rt: HostRuntime) -> Result<(), Fail> {
         ("GOTO 10", "?Illegal in immediate mode"),
         ("LIST", "NONAME"),
         ("RUN", "NONAME"),
-        ("CAT", "?Not in this stage"),
+        ("OLD", "?Illegal command"),
         ("PRINT (2%)", " 2 "),
         ("print 2 + 3%", " 5 "),
     ] {

@@ -1,0 +1,11 @@
+use Rattle.std.proofs.Common.{◌+◌, ◌-◌}
+use Rattle.std.specs.Prelude.{Some}
+use Rattle.job_model.specs.Play.{Clock}
+use Rattle.job_model.specs.Follow.{Follows}
+use Rattle.program_files.specs.Programs.{gets_from}
+use Rattle.program_files.proofs.Pages.{left_to_get}
+use Rattle.program_files.proofs.programs.get_pages.Given as goal
+
+abbrev pub invariant-loop-index : goal.invariant-loop-index
+invariant-loop-index g l =
+    (clock : Clock) → Follows g.P.Port.who g.P.Port.log l.fn.port l.port clock clock (gets_from 1 l.blocks) (Some (left_to_get l.pages.items (l.index + 1) (l.blocks - l.index)))

@@ -1,0 +1,73 @@
+-- What is done on a file through the channel of the command level. Nothing is kept meanwhile.
+use Rattle.std.specs.Prelude.{ℕ, false, List, Option}
+use Rattle.monitor_calls.specs.declared.files.FileName.{FileName}
+use Rattle.monitor_calls.specs.declared.files.OpenKind.{OpenKind}
+use Rattle.monitor_calls.specs.declared.calls.Request.{Request}
+use Rattle.monitor_calls.specs.declared.calls.Request.TheVariants as request
+use Rattle.monitor_calls.specs.declared.calls.Reply.{Reply}
+use Rattle.monitor_calls.specs.declared.calls.Reply.TheVariants.{Done, Opened, Block, Failed}
+use Rattle.job_model.specs.Act.{Act, Gives, Breaks, Break, Faulted, Gone, ◌then◌}
+use Rattle.job_model.specs.Asking.{ask}
+use Rattle.program_files.specs.Ends.{at_ends}
+use Rattle.program_files.specs.declared.channels.TheConstants.{CHANNEL}
+
+abbrev pub FileAct : Type 0 → Type 0
+FileAct A = Act ⊥ Unit A
+
+-- WHAT A REPLY LEADS TO: a refusal is a fault, and what is no reply to the request ends the job
+
+abbrev pub done_by : Reply → FileAct Unit
+done_by Done = Gives tt tt
+done_by (Failed number) = Breaks (Faulted number) tt
+done_by reply = Breaks Gone tt
+
+abbrev pub opened_by : Reply → FileAct ℕ
+opened_by (Opened blocks read write) = Gives blocks tt
+opened_by (Failed number) = Breaks (Faulted number) tt
+opened_by reply = Breaks Gone tt
+
+abbrev pub block_by : Reply → FileAct (List ℕ)
+block_by (Block page) = Gives page tt
+block_by (Failed number) = Breaks (Faulted number) tt
+block_by reply = Breaks Gone tt
+
+-- THE REQUESTS
+
+abbrev pub asks_for : {A : Type 0} → (Reply → FileAct A) → Request → FileAct A
+asks_for by request = ask request tt then λ reply _. by reply
+
+-- it gives how many blocks the file has; the code is for a file that is made
+abbrev pub opens : FileName → OpenKind → Option ℕ → FileAct ℕ
+opens name kind code = asks_for opened_by (request.OpenFile CHANNEL name kind false code)
+
+abbrev pub closes : FileAct Unit
+closes = asks_for done_by (request.CloseFile CHANNEL)
+
+abbrev pub gets : ℕ → FileAct (List ℕ)
+gets block = asks_for block_by (request.Get CHANNEL block)
+
+abbrev pub puts : ℕ → List ℕ → FileAct Unit
+puts block page = asks_for done_by (request.Put CHANNEL block page)
+
+abbrev pub kills : FileName → FileAct Unit
+kills name = asks_for done_by (request.Kill name)
+
+-- THE CHANNEL IS CLOSED BEHIND WHAT WAS DONE, behind a fault too. The first fault is the one that is told.
+
+-- another fault comes too late
+abbrev pub first_told : {A : Type 0} → ℕ → Break ⊥ → FileAct A
+first_told first (Faulted number) = Breaks (Faulted first) tt
+first_told first why = Breaks why tt
+
+-- a fault stands, whatever fault comes behind it
+abbrev pub still_faulted : {A B : Type 0} → ℕ → FileAct A → FileAct B
+still_faulted first act =
+    at_ends (λ u. u) (λ _ _. Breaks (Faulted first) tt) (λ why _. first_told first why) act
+
+abbrev pub closed_after : {A : Type 0} → Break ⊥ → FileAct A
+closed_after (Faulted number) = still_faulted number closes
+closed_after why = Breaks why tt
+
+abbrev pub closed_behind : {A : Type 0} → FileAct A → FileAct A
+closed_behind act =
+    at_ends (λ u. u) (λ value _. closes then λ _ _. Gives value tt) (λ why _. closed_after why) act

@@ -1,0 +1,5 @@
+pub mod Catalogs
+pub mod Channels
+pub mod Ends
+pub mod Programs
+pub mod Taken

@@ -1,0 +1,14 @@
+//! Files of programs over a port: what the commands of the command level ask of the monitor.
+//!
+//! `read_pages` and `write_pages` carry how the pages of a file are read and written through the
+//! channel of the command level, `kill_file` how one is taken away, `show_catalog` what CAT writes.
+//! It stands on `Port` for asking, and on `terminal_line` for the screen.
+#![tactic(auto)]
+
+mod catalogs;
+mod channels;
+mod programs;
+
+pub use catalogs::{MOST_FILES, show_catalog};
+pub use channels::{CHANNEL, kill_file};
+pub use programs::{read_pages, write_pages};
