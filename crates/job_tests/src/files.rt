@@ -155,7 +155,7 @@ fn texts_that_are_no_program(rt: HostRuntime) -> Result<(), Fail> {
 
 #[test]
 fn a_text_of_one_line_too_many(rt: HostRuntime) -> Result<(), Fail> {
-    for (last, shown) in [(1000, READY), (1001, NO_DATA)] {
+    for (last, shown) in [(1000_u32, READY), (1001, NO_DATA)] {
         let mut replies = Vec::new(rt.alloc());
         replies.push(opened(20))?;
         let mut asked = String::from_str(rt.alloc(), "Input [100,5]X.BAS Opened 20\n")?;

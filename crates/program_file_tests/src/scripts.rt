@@ -88,7 +88,7 @@ fn kind_told(kind: OpenKind) -> &'static str {
 }
 
 /// The number of the fault of a stop; 100 where the job's calls are used up.
-pub(crate) fn stop_told(stop: Stop) -> u8 {
+fn stop_told(stop: &Stop) -> u8 {
     match stop {
         Stop::Fault(fault) => fault.number(),
         Stop::Expired => 100,
@@ -105,7 +105,7 @@ pub(crate) fn assert_asked<T: Drop>(
     requests: &str,
     ending: u8,
 ) -> Result<(), Fail> {
-    let number = match outcome {
+    let number = match &outcome {
         Ok(_) => 0,
         Err(stop) => stop_told(stop),
     };
