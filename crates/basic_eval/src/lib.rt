@@ -4,7 +4,8 @@
 //! `state::Running` is the state, seen as the job of the definitions, and `stack::Stack` the values
 //! that items leave for later ones. `Running::step` carries the promise: the new stack and the new
 //! state are those that the item's act gives, or breaks with; where memory runs out nothing is told
-//! of them. It stands on `polish_code`, which has the items and their acts.
+//! of them. Where a program goes no further the state has the reason, so that what an item leads to
+//! is given back without memory. It stands on `polish_code`, which has the items and their acts.
 #![tactic(auto)]
 
 mod calls;

@@ -1,6 +1,7 @@
 //! Stacks, seen with the newest value first.
 
-ghost use Rattle.std.specs.Prelude.{◌≡◌, ◌≤◌, List, [], ◌∷◌, reverse, length, take, drop, OnOk, MatchOption};
+ghost use Rattle.std.specs.Prelude.{◌≡◌, ◌≤◌, List, [], ◌∷◌, OnOk, MatchOption};
+ghost use Rattle.std.specs.Prelude.{reverse, length, take, drop};
 
 use basic_values::NoMemory;
 use std::alloc::Global;
@@ -47,14 +48,18 @@ impl<T: Drop> Stack<T> {
 
     /// Takes the newest value away.
     pub fn pop(&mut self) -> Option<T>
-        ensures { MatchOption result ((self.old ≡ []) × (self.new ≡ [])) (λ value. self.old ≡ value ∷ self.new) }
+        ensures { MatchOption result
+            ((self.old ≡ []) × (self.new ≡ []))
+            (λ value. self.old ≡ value ∷ self.new) }
     {
         self.items.pop()
     }
 
     /// The newest value.
     pub fn newest(&self) -> Option<&T>
-        ensures { MatchOption result (self.entry.now ≡ []) (λ value. self.entry.now ≡ value.now ∷ drop 1 self.entry.now) }
+        ensures { MatchOption result
+            (self.entry.now ≡ [])
+            (λ value. self.entry.now ≡ value.now ∷ drop 1 self.entry.now) }
     {
         self.items.last()
     }

@@ -1,53 +1,56 @@
 //! The act of an item.
 
-ghost use Rattle.std.specs.Prelude.{◌≡◌, ◌-◌, false, Err};
-ghost use Rattle.basic_values.specs.declared.failures.Trouble.TheVariants as trouble;
+ghost use Rattle.std.specs.Prelude.{◌≡◌, ◌-◌, false};
 ghost use Rattle.polish_code.specs.Walk.{item_act};
-ghost use Rattle.basic_eval.specs.declared.exits.Exit.TheVariants as exit;
-ghost use Rattle.basic_eval.specs.Acting.{Acts, alone, is_call, led, seen};
+ghost use Rattle.basic_eval.specs.Acting.{Acts, alone, is_call, seen, told};
 
 use crate::exits::{Exit, Move};
-use crate::numbers::{complement, negate, push_number};
 use crate::spots::Spot;
 use crate::stack::Stack;
 use crate::state::Running;
-use crate::values::{discard, take_truth, wrapped};
+use crate::values::{take_truth, wrapped};
 use basic_values::{Text, Trouble};
 use polish_code::Item;
-use program_model::{Home, Value};
+use program_model::Value;
 
 impl Running {
     /// Does what an item does that calls no function of the program: `behind` items stand up to it
-    /// and with it. What it leads to is given, or why the program goes no further; where memory
-    /// runs out nothing is told. Each act stays out of line, so that this has
-    /// no frame of its own.
+    /// and with it. What it leads to is given; where that is no further the state has the reason,
+    /// and where memory runs out nothing more is told of it. Each act stays out of line, so that
+    /// this has no frame of its own.
     pub fn step(
         &mut self,
         words: &[Text],
         behind: usize,
         item: &Item,
         stack: &mut Stack<Value>,
-    ) -> Result<Move, Trouble<Exit>>
+    ) -> Move
         requires { is_call item.now ≡ false }
         ensures { Acts
             (item_act (alone words.now) behind item.now stack.old (seen self.old))
-            (seen self.new) (led stack.new result) }
+            (seen self.new) (told self.new.exit stack.new result) }
     {
         match item {
-            Item::Start(_) => Ok(Move::To(behind.saturating_sub(1))),
-            Item::Arrive(home) => self.arrive(home),
-            Item::Number(number) => push_number(stack, wrapped(*number)),
+            Item::Start(_) => Move::To(behind.saturating_sub(1)),
+            Item::Arrive(home) => {
+                self.run_at(*home);
+                Move::Pass(0)
+            }
+            Item::Number(number) => self.push_number(wrapped(*number), stack),
             Item::Quoted(text) => self.quote(text, stack),
             Item::Load(name) => self.load(name, stack),
             Item::LoadElement { name, count } => self.load_element(name, *count as usize, stack),
             Item::Apply { function, count } => self.apply(*function, *count as usize, stack),
-            Item::Negate => negate(stack),
-            Item::Complement => complement(stack),
+            Item::Negate => self.negate(stack),
+            Item::Complement => self.complement(stack),
             Item::Operate(operator) => self.operate(*operator, stack),
             Item::Compare(relation) => self.relate(*relation, stack),
             Item::Store(name) => self.store(name, stack),
             Item::StoreElement { name, count } => self.store_element(name, *count as usize, stack),
-            Item::Discard => discard(stack),
+            Item::Discard => {
+                stack.drop_last(1);
+                Move::Pass(0)
+            }
             Item::Answer => self.answer_last(stack),
             Item::PrintValue => self.print_value(stack),
             Item::PrintTab => self.print_tab(stack),
@@ -60,35 +63,41 @@ impl Running {
             Item::Judge(is_text) => self.judge(*is_text, stack),
             Item::Restore => {
                 self.item = 0;
-                Ok(Move::Pass(0))
+                Move::Pass(0)
             }
-            Item::Jump(to) => Ok(Move::To(*to as usize)),
-            Item::JumpIf(to) => Ok(if take_truth(stack) {
-                Move::To(*to as usize)
-            } else {
-                Move::Pass(0)
-            }),
-            Item::Skip(count) => Ok(Move::Pass(*count as usize)),
-            Item::SkipUnless(count) => Ok(Move::Pass(if take_truth(stack) {
+            Item::Jump(to) => Move::To(*to as usize),
+            Item::JumpIf(to) => {
+                if take_truth(stack) {
+                    Move::To(*to as usize)
+                } else {
+                    Move::Pass(0)
+                }
+            }
+            Item::Skip(count) => Move::Pass(*count as usize),
+            Item::SkipUnless(count) => Move::Pass(if take_truth(stack) {
                 0
             } else {
                 *count as usize
-            })),
-            Item::SkipIf(count) => Ok(Move::Pass(if take_truth(stack) {
+            }),
+            Item::SkipIf(count) => Move::Pass(if take_truth(stack) {
                 *count as usize
             } else {
                 0
-            })),
-            Item::BackIf(count) => Ok(if take_truth(stack) {
-                Move::To(back(behind, *count))
-            } else {
-                Move::Pass(0)
             }),
-            Item::BackUnless(count) => Ok(if take_truth(stack) {
-                Move::Pass(0)
-            } else {
-                Move::To(back(behind, *count))
-            }),
+            Item::BackIf(count) => {
+                if take_truth(stack) {
+                    Move::To(back(behind, *count))
+                } else {
+                    Move::Pass(0)
+                }
+            }
+            Item::BackUnless(count) => {
+                if take_truth(stack) {
+                    Move::Pass(0)
+                } else {
+                    Move::To(back(behind, *count))
+                }
+            }
             Item::Open {
                 variable,
                 place,
@@ -117,9 +126,11 @@ impl Running {
             }
             Item::OnError(line) => self.set_handler(*line),
             Item::Resume(to) => self.resume(*to),
-            Item::Stop(home) => stopped(behind, home),
-            Item::End => Err(Trouble::Refused(Exit::Ended)),
-            Item::Leave => Ok(Move::Away),
+            Item::Stop(home) => {
+                self.go_out(Trouble::Refused(Exit::Stopped(Spot::new(behind, *home))))
+            }
+            Item::End => self.go_out(Trouble::Refused(Exit::Ended)),
+            Item::Leave => Move::Away,
         }
     }
 }
@@ -129,14 +140,6 @@ fn back(behind: usize, count: u32) -> usize
     ensures { result ≡ behind - 1 - count }
 {
     behind.saturating_sub(1).saturating_sub(count as usize)
-}
-
-/// A STOP, behind which CONT goes on.
-#[inline(never)]
-fn stopped(behind: usize, home: &Home) -> Result<Move, Trouble<Exit>>
-    ensures { result ≡ Err (trouble.Refused (exit.Stopped (record { behind = behind; home = home.now }))) }
-{
-    Err(Trouble::Refused(Exit::Stopped(Spot::new(behind, *home))))
 }
 
 /// Whether an item calls a function of the program.

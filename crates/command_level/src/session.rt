@@ -1,9 +1,9 @@
 //! The session of one terminal: its keys, the requests that they make, and its screen.
 //!
-//! It stands on what a key line asks for (`commands`), on the runs of programs (`programs`), and on a
-//! port to a monitor. Each method is the code of one act of `session_model`'s `Talk`. Where it runs no
-//! program it is told with the places of the code, and where it runs one of the session for which the
-//! code's stands. `serve` carries the promise of all of it: the session is the talk.
+//! It stands on what a key line asks for (`commands`), on the runs of programs (`programs`), and on
+//! a port to a monitor. Each method is the code of one act of `session_model`'s `Talk`. Where it
+//! runs no program it is told with the places of the code, and where it runs one of the session for
+//! which the code's stands. `serve` carries the promise of all of it: the session is the talk.
 
 ghost use Rattle.std.specs.Prelude.{◌≡◌, ◌≤◌, ℕ, List, length, IfOk, OnOk, OnErr};
 ghost use Rattle.monitor_calls.specs.Pairs.{Pair, requests, replies, Grew};
@@ -15,7 +15,9 @@ ghost use Rattle.job_model.specs.Play as play;
 ghost use Rattle.job_model.specs.Follow.{Follows, unless_memory};
 ghost use Rattle.program_model.specs.Program.{Position};
 ghost use Rattle.session_model.specs.Talk as talk;
-ghost use Rattle.session_model.specs.Talk.{acts_for, answered, entered, expired, hello, is_ready, log_out, new_job, rests, visitor_acts, user_acts, line_acts, leave, TakesKey, IsTalk, BeginsTalk};
+ghost use Rattle.session_model.specs.Talk.{acts_for, answered, entered, expired, hello, is_ready};
+ghost use Rattle.session_model.specs.Talk.{log_out, new_job, rests, visitor_acts, user_acts};
+ghost use Rattle.session_model.specs.Talk.{line_acts, leave, TakesKey, IsTalk, BeginsTalk};
 ghost use Rattle.command_level.specs.Seen.{seen, login_seen, command_seen, IsShort};
 ghost use Rattle.command_level.specs.Standing.{Serves, Stands};
 ghost use Rattle.command_level.specs.Onwards.{goes};
@@ -24,8 +26,8 @@ ghost use Rattle.monitor_calls.specs.Volumes.{is_between};
 
 use crate::commands::{Command, command_of};
 use crate::logins::LoginForm;
-use basic_values::{Fault, KeyLine, LINE_LENGTH, NoMemory};
-use entrances::{Clock, Running, Stack, Stop, Storage};
+use basic_values::{Fault, KeyLine, LINE_LENGTH, NoMemory, Trouble};
+use entrances::{Clock, Exit, Running, Stack, Stop, Storage};
 use error_trap::Trap;
 use line_editor::ProgramText;
 use monitor_calls::{Account, Port, Reply, Request, Short};
@@ -126,6 +128,7 @@ fn at_rest(alloc: Global, keys: &[KeyLine]) -> Result<Running, NoMemory>
             line: 0,
         },
         frames: Stack::new(alloc),
+        exit: Trouble::Refused(Exit::Ended),
     })
 }
 

@@ -2,7 +2,7 @@
 
 use basic_interpreter::Spot;
 use basic_tree::Name;
-use basic_values::{Fault, Halt, Int};
+use basic_values::{Fault, Halt, Int, Trouble};
 use entrances::{Exit, Running, Stack, Storage, clear, write_ending};
 use error_trap::Trap;
 use program_model::Home;
@@ -33,6 +33,7 @@ fn running(alloc: Global, shown: &[u8]) -> Result<Running, Fail> {
         line: 10,
         home: HOME,
         frames: Stack::new(alloc),
+        exit: Trouble::Refused(Exit::Ended),
     })
 }
 

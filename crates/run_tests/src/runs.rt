@@ -28,6 +28,7 @@ fn at_rest(alloc: Global) -> Result<Running, Fail> {
         line: 0,
         home: home(0, 0, 0),
         frames: Stack::new(alloc),
+        exit: Trouble::Refused(Exit::Ended),
     })
 }
 

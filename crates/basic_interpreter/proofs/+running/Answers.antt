@@ -3,14 +3,14 @@ use Rattle.basic_values.specs.declared.failures.Trouble.TheVariants as trouble
 use Rattle.program_model.specs.Job.{Job}
 use Rattle.program_model.specs.declared.values.Value.{Value}
 use Rattle.polish_code.specs.declared.items.Item.{Item}
-use Rattle.polish_code.specs.Walk.{Spot}
+use Rattle.polish_code.specs.Walk.{Spot, top}
 use Rattle.program_code.specs.Places.{code_kept}
-use Rattle.basic_eval.specs.Acting.{seen, led}
-use Rattle.basic_interpreter.proofs.DoingLemmas.{does_to, error_then, as_error, as_error_of, as_error_led, as_error_run, comes_first, comes_on, comes_does}
-use Rattle.basic_interpreter.proofs.StatementLemmas.{item_at, item_passes, item_leads, start_leads, items_end, no_call, item_steps, call_pushes, call_fails, call_is_lost, statement_left, statement_broken, statement_goes_on, goes_on}
+use Rattle.basic_eval.specs.Acting.{seen, told}
+use Rattle.basic_interpreter.proofs.DoingLemmas.{does_to, error_then, as_error, as_error_of, comes_first, comes_on, comes_does}
+use Rattle.basic_interpreter.proofs.StatementLemmas.{assignment_passes, assignment_fails, item_at, item_passes, item_leads, start_leads, items_end, no_call, item_steps, call_pushes, call_fails, call_is_lost, statement_left, statement_broken, statement_goes_on, goes_on}
 use Rattle.basic_interpreter.proofs.BodyLemmas.{call_unit, call_deep, call_refused, call_runs, body_refused, body_is_none, body_runs}
 use Rattle.basic_interpreter.proofs.TurnLemmas.{start_stands, other_stands, none_stands, first_does, start_unit, start_does, end_does, left_in_first, broken_in_first, left_in_second, broken_in_second, next_turn}
-use Rattle.basic_interpreter.proofs.DepthLemmas.{item_keeps, items_keep, first_keeps, second_keeps, arguments_keep, entered_deeper}
+use Rattle.basic_interpreter.proofs.DepthLemmas.{store_keeps, item_keeps, items_keep, first_keeps, second_keeps, arguments_keep, entered_deeper}
 use Rattle.basic_interpreter.proofs.EndLemmas.{no_more, spends}
 use Rattle.basic_interpreter.proofs.PathLemmas.{units_left}
 use Rattle.basic_interpreter.proofs.+running.Goals as goal
@@ -88,12 +88,37 @@ statements::items-loop-at-preserved g t c =
     let stands = item_at code.items at one lt (c.index-items-at.is ∙ ap (λ (items : List Item). get_or items at one) c.items-items.ensures) in
     let j = seen c.loop-at.state in
     let k = seen c.one.new.state in
-    let done = rw (c.in-Ok-Pass.is, c.in-Ok-Pass.field-0-is) at c.one.ensures in
+    let done = rw c.in-Pass.is at c.one.ensures in
     record {
       depth = item_keeps code (at + 1) one c.loop-at.stack j k done ∙ c.loop-at.invariant.depth;
       means = comes_on c.loop-at.invariant.means
-          (item_passes code at one lt stands c.loop-at.stack j c.in-Ok-Pass.count c.past-at.result c.one.new.stack k (c.past-at.ensures ∙ ap (λ (items : List Item). min (at + 1 + c.in-Ok-Pass.count) (length items)) c.items-items.ensures) done);
+          (item_passes code at one lt stands c.loop-at.stack j c.in-Pass.count c.past-at.result c.one.new.stack k (c.past-at.ensures ∙ ap (λ (items : List Item). min (at + 1 + c.in-Pass.count) (length items)) c.items-items.ensures) done);
     }
+
+pub statements::items-loop-at-preserved-in-Some : goal.statements::items-loop-at-preserved-in-Some
+statements::items-loop-at-preserved-in-Some g t c =
+    let code = code_kept c.args.code.now in
+    let at = c.loop-at.at in
+    let x = c.in-Some.name.now in
+    let here = rw c.items-items.ensures at c.in-Some.ensures in
+    let j = seen c.loop-at.state in
+    let k = seen c.assign.new.self in
+    let done = rw c.in-Some-assign.is at c.assign.ensures.stored in
+    record {
+      depth = store_keeps x (top c.loop-at.stack) j k done ∙ c.loop-at.invariant.depth;
+      means = rw c.assign.ensures.rest (comes_on c.loop-at.invariant.means (assignment_passes code at x here c.loop-at.stack j k done));
+    }
+
+pub statements::items-returns-in-None : goal.statements::items-returns-in-None
+statements::items-returns-in-None g t c =
+    let code = code_kept c.args.code.now in
+    let at = c.loop-at.at in
+    let x = c.in-Some.name.now in
+    let here = rw c.items-items.ensures at c.in-Some.ensures in
+    let j = seen c.loop-at.state in
+    let k = seen c.assign.new.self in
+    let e = c.assign.new.self.exit in
+    comes_does c.loop-at.invariant.means (assignment_fails code at x here c.loop-at.stack j k e (rw c.in-None.is at c.assign.ensures.stored))
 
 pub statements::items-returns-in-Start : goal.statements::items-returns-in-Start
 statements::items-returns-in-Start g t c =
@@ -104,8 +129,8 @@ statements::items-returns-in-Start g t c =
     let stands = item_at code.items at one lt (c.index-items-at.is ∙ ap (λ (items : List Item). get_or items at one) c.items-items.ensures) in
     comes_does c.loop-at.invariant.means (start_leads code at c.in-Start.field-0 lt (stands ∙ ap (λ (i : Item). i ∷ drop (suc at) code.items) c.in-Start.is) c.loop-at.stack (seen c.loop-at.state))
 
-pub statements::items-returns-in-Err : goal.statements::items-returns-in-Err
-statements::items-returns-in-Err g t c =
+pub statements::items-returns-in-Out : goal.statements::items-returns-in-Out
+statements::items-returns-in-Out g t c =
     let code = code_kept c.args.code.now in
     let at = c.loop-at.at in
     let one = c.index-items-at.result in
@@ -113,11 +138,11 @@ statements::items-returns-in-Err g t c =
     let stands = item_at code.items at one lt (c.index-items-at.is ∙ ap (λ (items : List Item). get_or items at one) c.items-items.ensures) in
     let j = seen c.loop-at.state in
     let k = seen c.one.new.state in
-    let e = c.in-Err.trouble in
-    comes_does c.loop-at.invariant.means (item_leads code at one lt stands c.loop-at.stack j (λ n. error_then (goes_on code at n) e k) (rw c.in-Err.is at c.one.ensures))
+    let e = c.one.new.state.exit in
+    comes_does c.loop-at.invariant.means (item_leads code at one lt stands c.loop-at.stack j (λ n. error_then (goes_on code at n) e k) (rw c.in-Out.is at c.one.ensures))
 
-pub statements::items-returns-in-Ok-To : goal.statements::items-returns-in-Ok-To
-statements::items-returns-in-Ok-To g t c =
+pub statements::items-returns-in-To : goal.statements::items-returns-in-To
+statements::items-returns-in-To g t c =
     let code = code_kept c.args.code.now in
     let at = c.loop-at.at in
     let one = c.index-items-at.result in
@@ -125,10 +150,10 @@ statements::items-returns-in-Ok-To g t c =
     let stands = item_at code.items at one lt (c.index-items-at.is ∙ ap (λ (items : List Item). get_or items at one) c.items-items.ensures) in
     let j = seen c.loop-at.state in
     let k = seen c.one.new.state in
-    comes_does c.loop-at.invariant.means (item_leads code at one lt stands c.loop-at.stack j (λ n. refl) (rw (c.in-Ok-To.is, c.in-Ok-To.field-0-is) at c.one.ensures))
+    comes_does c.loop-at.invariant.means (item_leads code at one lt stands c.loop-at.stack j (λ n. refl) (rw c.in-To.is at c.one.ensures))
 
-pub statements::items-returns-in-Ok-Away : goal.statements::items-returns-in-Ok-Away
-statements::items-returns-in-Ok-Away g t c =
+pub statements::items-returns-in-Away : goal.statements::items-returns-in-Away
+statements::items-returns-in-Away g t c =
     let code = code_kept c.args.code.now in
     let at = c.loop-at.at in
     let one = c.index-items-at.result in
@@ -136,7 +161,7 @@ statements::items-returns-in-Ok-Away g t c =
     let stands = item_at code.items at one lt (c.index-items-at.is ∙ ap (λ (items : List Item). get_or items at one) c.items-items.ensures) in
     let j = seen c.loop-at.state in
     let k = seen c.one.new.state in
-    comes_does c.loop-at.invariant.means (item_leads code at one lt stands c.loop-at.stack j (λ n. refl) (rw (c.in-Ok-Away.is, c.in-Ok-Away.field-0-is) at c.one.ensures))
+    comes_does c.loop-at.invariant.means (item_leads code at one lt stands c.loop-at.stack j (λ n. refl) (rw c.in-Away.is at c.one.ensures))
 
 pub statements::items-returns : goal.statements::items-returns
 statements::items-returns g t c =
@@ -146,30 +171,24 @@ statements::items-returns g t c =
 
 -- ONE ITEM
 
-pub statements::call_last-returns-in_err-value : goal.statements::call_last-returns-in_err-value
-statements::call_last-returns-in_err-value g t c behind =
+pub statements::call_last-returns-in-Err : goal.statements::call_last-returns-in-Err
+statements::call_last-returns-in-Err g t c behind =
     let are = c.last-arguments.ensures in
-    let j = seen c.args.state.now in
-    let k = seen c.call.new.state in
-    let e = c.in_err-value.field-0.0 in
-    does_to (as_error_led c.args.stack.now e c.from_residual.result k c.from_residual.ensures.1) (call_fails (code_kept c.args.code.now) behind c.args.function.now c.args.parameters.now c.args.count c.args.body.now c.args.stack.now c.last-arguments.result.now j are e k (rw c.as_slice.ensures at c.in_err-value.ensures))
+    rw (c.go_out-in-Err.ensures.out, c.go_out-in-Err.ensures.why, c.go_out-in-Err.ensures.state)
+    (call_fails (code_kept c.args.code.now) behind c.args.function.now c.args.parameters.now c.args.count c.args.body.now c.args.stack.now c.last-arguments.result.now (seen c.args.state.now) are c.in-Err.why (seen c.call.new.state) (rw (c.as_slice.ensures, c.in-Err.is) at c.call.ensures))
 
-pub statements::call_last-returns-in_err-push : goal.statements::call_last-returns-in_err-push
-statements::call_last-returns-in_err-push g t c behind =
+pub statements::call_last-returns-in-Err-push : goal.statements::call_last-returns-in-Err-push
+statements::call_last-returns-in-Err-push g t c behind =
     let are = c.last-arguments.ensures in
-    let j = seen c.args.state.now in
-    let k = seen c.call.new.state in
-    does_to (as_error_led c.push.new.self trouble.NoMemory c.from_residual-in_err-push.result k c.from_residual-in_err-push.ensures.1)
-    (call_is_lost (code_kept c.args.code.now) behind c.args.function.now c.args.parameters.now c.args.count c.args.body.now c.args.stack.now c.last-arguments.result.now j are c.in_ok-value.value k (rw c.as_slice.ensures at c.in_ok-value.ensures))
+    rw (c.go_out.ensures.out, c.go_out.ensures.why)
+    (call_is_lost (code_kept c.args.code.now) behind c.args.function.now c.args.parameters.now c.args.count c.args.body.now c.args.stack.now c.last-arguments.result.now (seen c.args.state.now) are c.in-Ok.value (seen c.call.new.state) (rw (c.as_slice.ensures, c.in-Ok.is) at c.call.ensures))
 
-pub statements::call_last-returns : goal.statements::call_last-returns
-statements::call_last-returns g t c behind =
+pub statements::call_last-returns-in-Ok-push : goal.statements::call_last-returns-in-Ok-push
+statements::call_last-returns-in-Ok-push g t c behind =
     let are = c.last-arguments.ensures in
-    let j = seen c.args.state.now in
-    let k = seen c.call.new.state in
-    let v = c.in_ok-value.value in
-    let is = c.in_ok-push.ensures ∙ ap (λ (l : List Value). v ∷ l) c.drop_last.ensures in
-    call_pushes (code_kept c.args.code.now) behind c.args.function.now c.args.parameters.now c.args.count c.args.body.now c.args.stack.now c.last-arguments.result.now j are v c.push.new.self k is (rw c.as_slice.ensures at c.in_ok-value.ensures)
+    let v = c.in-Ok.value in
+    let is = c.in-Ok-push.ensures ∙ ap (λ (l : List Value). v ∷ l) c.drop_last.ensures in
+    call_pushes (code_kept c.args.code.now) behind c.args.function.now c.args.parameters.now c.args.count c.args.body.now c.args.stack.now c.last-arguments.result.now (seen c.args.state.now) are v c.push.new.self (seen c.call.new.state) is (rw (c.as_slice.ensures, c.in-Ok.is) at c.call.ensures)
 
 pub statements::one-returns-in-Call : goal.statements::one-returns-in-Call
 statements::one-returns-in-Call g t c =
@@ -181,27 +200,27 @@ statements::one-step-requires g t c =
 
 pub statements::one-returns-in_default : goal.statements::one-returns-in_default
 statements::one-returns-in_default g t c =
-    item_steps (code_kept c.args.code.now) c.args.behind c.args.item.now c.args.stack.now (seen c.args.state.now) (seen c.step.new.self) (led c.step.new.stack c.step.result)
+    item_steps (code_kept c.args.code.now) c.args.behind c.args.item.now c.args.stack.now (seen c.args.state.now) (seen c.step.new.self) (told c.step.new.self.exit c.step.new.stack c.step.result)
     (no_call c.args.item.now (λ f xs count body. c.in_default.not-Call f xs count body)) (rw c.words.ensures at c.step.ensures)
 
 -- A STATEMENT
 
 pub statements::statement-onward-requires : goal.statements::statement-onward-requires
 statements::statement-onward-requires g t c κs within =
-    let h : length c.items.new.state.frames ≡ length c.args.state.now.frames = items_keep (code_kept c.args.code.now) c.args.from (seen c.args.state.now) (seen c.items.new.state) (rw (c.in-Ok-Some.is, c.in-Ok-Some.field-0-is) at c.items.ensures) in
+    let h : length c.items.new.state.frames ≡ length c.args.state.now.frames = items_keep (code_kept c.args.code.now) c.args.from (seen c.args.state.now) (seen c.items.new.state) (rw c.in-At.is at c.items.ensures) in
     (omega (arith, h), within)
 
-pub statements::statement-returns-in-Ok-Some : goal.statements::statement-returns-in-Ok-Some
-statements::statement-returns-in-Ok-Some g t c =
-    statement_goes_on (code_kept c.args.code.now) c.args.from (seen c.args.state.now) (seen c.items.new.state) c.in-Ok-Some.to (rw (c.in-Ok-Some.is, c.in-Ok-Some.field-0-is) at c.items.ensures) c.onward.ensures
+pub statements::statement-returns-in-At : goal.statements::statement-returns-in-At
+statements::statement-returns-in-At g t c =
+    statement_goes_on (code_kept c.args.code.now) c.args.from (seen c.args.state.now) (seen c.items.new.state) c.in-At.to (rw c.in-At.is at c.items.ensures) c.onward.ensures
 
-pub statements::statement-returns-in-Ok-None : goal.statements::statement-returns-in-Ok-None
-statements::statement-returns-in-Ok-None g t c =
-    statement_left (code_kept c.args.code.now) c.args.from (seen c.args.state.now) (seen c.items.new.state) (rw (c.in-Ok-None.is, c.in-Ok-None.field-0-is) at c.items.ensures)
+pub statements::statement-returns-in-Left : goal.statements::statement-returns-in-Left
+statements::statement-returns-in-Left g t c =
+    statement_left (code_kept c.args.code.now) c.args.from (seen c.args.state.now) (seen c.items.new.state) (rw c.in-Left.is at c.items.ensures)
 
-pub statements::statement-returns-in-Err : goal.statements::statement-returns-in-Err
-statements::statement-returns-in-Err g t c =
-    statement_broken (code_kept c.args.code.now) c.args.from (seen c.args.state.now) (seen c.items.new.state) c.in-Err.trouble (rw c.in-Err.is at c.items.ensures)
+pub statements::statement-returns-in-Out : goal.statements::statement-returns-in-Out
+statements::statement-returns-in-Out g t c =
+    statement_broken (code_kept c.args.code.now) c.args.from (seen c.args.state.now) (seen c.items.new.state) c.items.new.state.exit (rw c.in-Out.is at c.items.ensures)
 
 -- UP TO A START
 
@@ -221,52 +240,55 @@ pub turns::first_half-returns : goal.turns::first_half-returns
 turns::first_half-returns g t c =
     first_does (code_kept c.args.code.now) c.args.place (seen c.args.state.now) c.onward-half.ensures c.led_by_traps.ensures
 
-pub turns::second_half-returns-in_err-take_unit-in-Start : goal.turns::second_half-returns-in_err-take_unit-in-Start
-turns::second_half-returns-in_err-take_unit-in-Start g t c =
+pub turns::second_half-returns-in-Err : goal.turns::second_half-returns-in-Err
+turns::second_half-returns-in-Err g t c =
     let code = code_kept c.args.code.now in
     let home = c.in-Start.home in
     let found = c.in-Some.ensures.lookup in
     let j = seen c.args.state.now in
     let k = seen c.run_at.new.self in
     let stands = start_stands c.items.result.now code.items c.args.place c.in-Some.item.now home c.items.ensures found.3.0 found.1 c.in-Start.is in
-    does_to (as_error trouble.NoMemory c.from_residual.result k c.from_residual.ensures.1)
-    (start_unit code c.args.place home j k stands c.run_at.ensures (λ n. refl) (c.in_err-take_unit-in-Start.ensures k))
+    rw (c.out-in-Err.ensures.way, c.out-in-Err.ensures.why)
+    (start_unit code c.args.place home j k stands c.run_at.ensures (λ n. refl) (rw c.in-Err.is at (c.take_unit.ensures k)))
 
-pub turns::second_half-returns-then-not-branch : goal.turns::second_half-returns-then-not-branch
-turns::second_half-returns-then-not-branch g t c =
+pub turns::second_half-returns-in-Ok-false : goal.turns::second_half-returns-in-Ok-false
+turns::second_half-returns-in-Ok-false g t c =
     let code = code_kept c.args.code.now in
     let home = c.in-Start.home in
     let found = c.in-Some.ensures.lookup in
     let j = seen c.args.state.now in
     let k = seen c.run_at.new.self in
     let stands = start_stands c.items.result.now code.items c.args.place c.in-Some.item.now home c.items.ensures found.3.0 found.1 c.in-Start.is in
-    start_unit code c.args.place home j k stands c.run_at.ensures (λ n. refl) (rw c.if-not-branch.true at (c.in_ok-take_unit-in-Start.ensures k))
+    rw (c.out-in-Ok-false.ensures.way, c.out-in-Ok-false.ensures.why, c.out-in-Ok-false.ensures.state)
+    (start_unit code c.args.place home j k stands c.run_at.ensures (λ n. refl) (rw (c.in-Ok-false.is, c.in-Ok-false.field-0-test) at (c.take_unit.ensures k)))
 
 pub turns::second_half-statement-half-requires : goal.turns::second_half-statement-half-requires
 turns::second_half-statement-half-requires g t c κs within =
     let h : length c.run_at.new.self.frames ≡ length c.args.state.now.frames = ap (λ (j : Job Spot). length j.frames) c.run_at.ensures in
     (omega (arith, h), within)
 
-pub turns::second_half-returns-else-not-branch : goal.turns::second_half-returns-else-not-branch
-turns::second_half-returns-else-not-branch g t c =
+pub turns::second_half-returns-in-Ok-true : goal.turns::second_half-returns-in-Ok-true
+turns::second_half-returns-in-Ok-true g t c =
     let code = code_kept c.args.code.now in
     let home = c.in-Start.home in
     let found = c.in-Some.ensures.lookup in
     let j = seen c.args.state.now in
     let k = seen c.run_at.new.self in
     let stands = start_stands c.items.result.now code.items c.args.place c.in-Some.item.now home c.items.ensures found.3.0 found.1 c.in-Start.is in
-    start_does code c.args.place home j k stands c.run_at.ensures (rw c.if-not-branch.false at (c.in_ok-take_unit-in-Start.ensures k)) c.statement-half.ensures c.led_by_traps.ensures
+    start_does code c.args.place home j k stands c.run_at.ensures (rw (c.in-Ok-true.is, c.in-Ok-true.field-0-test) at (c.take_unit.ensures k)) c.statement-half.ensures c.led_by_traps.ensures
 
 pub turns::second_half-returns-in_default-item : goal.turns::second_half-returns-in_default-item
 turns::second_half-returns-in_default-item g t c =
     let code = code_kept c.args.code.now in
     let found = c.in-Some.ensures.lookup in
-    end_does code c.args.place (seen c.args.state.now) (other_stands c.items.result.now code.items c.args.place c.in-Some.item.now c.items.ensures found.3.0 found.1 (λ home. c.in_default-item.not-Start home))
+    rw (c.out-in_default-item.ensures.way, c.out-in_default-item.ensures.why, c.out-in_default-item.ensures.state)
+    (end_does code c.args.place (seen c.args.state.now) (other_stands c.items.result.now code.items c.args.place c.in-Some.item.now c.items.ensures found.3.0 found.1 (λ home. c.in_default-item.not-Start home)))
 
 pub turns::second_half-returns-in_default : goal.turns::second_half-returns-in_default
 turns::second_half-returns-in_default g t c =
     let code = code_kept c.args.code.now in
-    end_does code c.args.place (seen c.args.state.now) (none_stands c.items.result.now code.items c.args.place c.items.ensures c.in_default.ensures.lookup.3)
+    rw (c.out.ensures.way, c.out.ensures.why, c.out.ensures.state)
+    (end_does code c.args.place (seen c.args.state.now) (none_stands c.items.result.now code.items c.args.place c.items.ensures c.in_default.ensures.lookup.3))
 
 -- TURN AFTER TURN
 
@@ -274,32 +296,32 @@ pub turns::turns-loop-to-init : goal.turns::turns-loop-to-init
 turns::turns-loop-to-init g t c =
     record { depth = refl; means = comes_first }
 
-pub turns::turns-returns-in-Err : goal.turns::turns-returns-in-Err
-turns::turns-returns-in-Err g t c =
+pub turns::turns-returns-in-Out : goal.turns::turns-returns-in-Out
+turns::turns-returns-in-Out g t c =
     let code = code_kept c.args.code.now in
     let j = seen c.loop-to.state in
     let k = seen c.first_half.new.state in
-    let e = c.in-Err.trouble in
-    comes_does c.loop-to.invariant.means (broken_in_first code c.loop-to.place j k e (rw c.in-Err.is at c.first_half.ensures))
+    let e = c.first_half.new.state.exit in
+    comes_does c.loop-to.invariant.means (broken_in_first code c.loop-to.place j k e (rw c.in-Out.is at c.first_half.ensures))
 
 pub turns::turns-second_half-requires : goal.turns::turns-second_half-requires
 turns::turns-second_half-requires g t c κs within =
     let code = code_kept c.args.code.now in
     let j = seen c.loop-to.state in
     let k = seen c.first_half.new.state in
-    let h : length c.first_half.new.state.frames ≡ length c.loop-to.state.frames = first_keeps code c.loop-to.place j k (rw (c.in-Ok-Some.is, c.in-Ok-Some.field-0-is) at c.first_half.ensures) in
+    let h : length c.first_half.new.state.frames ≡ length c.loop-to.state.frames = first_keeps code c.loop-to.place j k (rw c.in-At.is at c.first_half.ensures) in
     let i = c.loop-to.invariant.depth in
     (omega (arith, h, i), within)
 
-pub turns::turns-returns-in-Err-second_half : goal.turns::turns-returns-in-Err-second_half
-turns::turns-returns-in-Err-second_half g t c =
+pub turns::turns-returns-in-Out-second_half : goal.turns::turns-returns-in-Out-second_half
+turns::turns-returns-in-Out-second_half g t c =
     let code = code_kept c.args.code.now in
     let j = seen c.loop-to.state in
     let k = seen c.first_half.new.state in
     let l = seen c.second_half.new.state in
-    let first = rw (c.in-Ok-Some.is, c.in-Ok-Some.field-0-is) at c.first_half.ensures in
-    let e = c.in-Err-second_half.trouble in
-    comes_does c.loop-to.invariant.means (broken_in_second code c.loop-to.place c.in-Ok-Some.to j k l first e (rw c.in-Err-second_half.is at c.second_half.ensures))
+    let first = rw c.in-At.is at c.first_half.ensures in
+    let e = c.second_half.new.state.exit in
+    comes_does c.loop-to.invariant.means (broken_in_second code c.loop-to.place c.in-At.to j k l first e (rw c.in-Out-second_half.is at c.second_half.ensures))
 
 pub turns::turns-loop-to-smaller : goal.turns::turns-loop-to-smaller
 turns::turns-loop-to-smaller g t c =
@@ -307,9 +329,9 @@ turns::turns-loop-to-smaller g t c =
     let j = seen c.loop-to.state in
     let k = seen c.first_half.new.state in
     let l = seen c.second_half.new.state in
-    let first = rw (c.in-Ok-Some.is, c.in-Ok-Some.field-0-is) at c.first_half.ensures in
+    let first = rw c.in-At.is at c.first_half.ensures in
     let a : units_left c.first_half.new.clock ≤ units_left c.loop-to.clock = no_more k first in
-    let b : units_left c.second_half.new.clock < units_left c.first_half.new.clock = spends code c.in-Ok-Some.to k l (rw (c.in-Ok-Some-second_half.is, c.in-Ok-Some-second_half.field-0-is) at c.second_half.ensures) in
+    let b : units_left c.second_half.new.clock < units_left c.first_half.new.clock = spends code c.in-At.to k l (rw c.in-At-second_half.is at c.second_half.ensures) in
     omega (arith, a, b)
 
 pub turns::turns-loop-to-preserved : goal.turns::turns-loop-to-preserved
@@ -318,25 +340,25 @@ turns::turns-loop-to-preserved g t c =
     let j = seen c.loop-to.state in
     let k = seen c.first_half.new.state in
     let l = seen c.second_half.new.state in
-    let first = rw (c.in-Ok-Some.is, c.in-Ok-Some.field-0-is) at c.first_half.ensures in
-    let second = rw (c.in-Ok-Some-second_half.is, c.in-Ok-Some-second_half.field-0-is) at c.second_half.ensures in
+    let first = rw c.in-At.is at c.first_half.ensures in
+    let second = rw c.in-At-second_half.is at c.second_half.ensures in
     record {
-      depth = second_keeps code c.in-Ok-Some.to k l second ∙ first_keeps code c.loop-to.place j k first ∙ c.loop-to.invariant.depth;
-      means = comes_on c.loop-to.invariant.means (next_turn code c.loop-to.place c.in-Ok-Some.to j k l first c.in-Ok-Some-second_half.next second);
+      depth = second_keeps code c.in-At.to k l second ∙ first_keeps code c.loop-to.place j k first ∙ c.loop-to.invariant.depth;
+      means = comes_on c.loop-to.invariant.means (next_turn code c.loop-to.place c.in-At.to j k l first c.in-At-second_half.next second);
     }
 
-pub turns::turns-returns-in-Ok-None-second_half : goal.turns::turns-returns-in-Ok-None-second_half
-turns::turns-returns-in-Ok-None-second_half g t c =
+pub turns::turns-returns-in-Left-second_half : goal.turns::turns-returns-in-Left-second_half
+turns::turns-returns-in-Left-second_half g t c =
     let code = code_kept c.args.code.now in
     let j = seen c.loop-to.state in
     let k = seen c.first_half.new.state in
     let l = seen c.second_half.new.state in
-    let first = rw (c.in-Ok-Some.is, c.in-Ok-Some.field-0-is) at c.first_half.ensures in
-    comes_does c.loop-to.invariant.means (left_in_second code c.loop-to.place c.in-Ok-Some.to j k l first (rw (c.in-Ok-None-second_half.is, c.in-Ok-None-second_half.field-0-is) at c.second_half.ensures))
+    let first = rw c.in-At.is at c.first_half.ensures in
+    comes_does c.loop-to.invariant.means (left_in_second code c.loop-to.place c.in-At.to j k l first (rw c.in-Left-second_half.is at c.second_half.ensures))
 
-pub turns::turns-returns-in-Ok-None : goal.turns::turns-returns-in-Ok-None
-turns::turns-returns-in-Ok-None g t c =
+pub turns::turns-returns-in-Left : goal.turns::turns-returns-in-Left
+turns::turns-returns-in-Left g t c =
     let code = code_kept c.args.code.now in
     let j = seen c.loop-to.state in
     let k = seen c.first_half.new.state in
-    comes_does c.loop-to.invariant.means (left_in_first code c.loop-to.place j k (rw (c.in-Ok-None.is, c.in-Ok-None.field-0-is) at c.first_half.ensures))
+    comes_does c.loop-to.invariant.means (left_in_first code c.loop-to.place j k (rw c.in-Left.is at c.first_half.ensures))
