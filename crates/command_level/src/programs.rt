@@ -8,12 +8,15 @@ ghost use Rattle.session_model.specs.Talk as talk;
 ghost use Rattle.std.specs.Option.{option_map};
 ghost use Rattle.basic_eval.specs.Acting.{break_of};
 ghost use Rattle.entrances.specs.Stopping.{leaving_of};
-ghost use Rattle.session_model.specs.Talk.{answered, begun, does_line, goes_on, headed, immediate, program_by, outlived, reads_and_runs, reported, run_is_over, runs, runs_file, runs_loaded, stop_by};
+ghost use Rattle.session_model.specs.Talk.{answered, begun, does_line, goes_on, headed, immediate};
+ghost use Rattle.session_model.specs.Talk.{program_by, outlived, reads_and_runs, reported};
+ghost use Rattle.session_model.specs.Talk.{run_is_over, runs, runs_file, runs_loaded, stop_by};
 ghost use Rattle.session_model.specs.ProgramFiles.{program_on};
 ghost use Rattle.session_model.specs.Texts.{lowering_text};
 ghost use Rattle.command_level.specs.Onwards.{goes};
 ghost use Rattle.command_level.specs.Seen.{seen};
-ghost use Rattle.command_level.specs.Standing.{Serves, Stands, is_gone, line_ends, low_session, run_ends};
+ghost use Rattle.command_level.specs.Standing.{Serves, Stands, is_gone, line_ends, low_session};
+ghost use Rattle.command_level.specs.Standing.{run_ends};
 
 use crate::filing::{is_blank_text, program_on, spec_read};
 use crate::judging::{cause_text, refusal_text, tree_of};
@@ -221,8 +224,8 @@ impl Session {
         }
     }
 
-    /// The end of a program that ran. Where it left the body of a function that was not called, that
-    /// is an end as any other.
+    /// The end of a program that ran. Where it left the body of a function that was not called,
+    /// that is an end as any other.
     fn end_run(&mut self, end: Result<(), Trouble<Exit>>) -> Result<Onward, NoMemory>
         ensures { IfOk result (λ onward.
             run_ends end (seen self.old) ≡ Some (goes onward (seen self.new))) }
@@ -238,7 +241,8 @@ impl Session {
     #[tactic(auto, using(crate::proofs::Lows::outlived))]
     fn end_run_by(&mut self, why: Exit) -> Result<Onward, NoMemory>
         ensures { IfOk result (λ onward.
-            outlived (run_is_over (seen self.old)) (seen self.old) (break_of why) (seen self.old).job
+            outlived (run_is_over (seen self.old)) (seen self.old) (break_of why)
+            (seen self.old).job
             ≡ goes onward (seen self.new)) }
     {
         if is_gone(&why) {
@@ -278,7 +282,8 @@ impl Session {
 
     /// What is written at an end, and Ready.
     fn report(&mut self, why: Exit) -> Result<(), NoMemory>
-        ensures { OnOk result (seen self.new ≡ reported (seen self.old) (break_of why) (seen self.old).job) }
+        ensures { OnOk result (seen self.new
+            ≡ reported (seen self.old) (break_of why) (seen self.old).job) }
     {
         write_ending(&mut self.running, why)?;
         self.be_ready()

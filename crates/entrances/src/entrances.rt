@@ -11,7 +11,8 @@ ghost use Rattle.polish_code.specs.Lowered.{coded, lowered, low_leaving};
 ghost use Rattle.program_model.specs.Job.{Job, Leaving};
 ghost use Rattle.program_model.specs.Program as model;
 ghost use Rattle.program_model.specs.Program.{Position, loops_of};
-ghost use Rattle.program_model.specs.Running.{cleared, continues, line_alone, runs_cleared, runs_line};
+ghost use Rattle.program_model.specs.Running.{cleared, continues, line_alone, runs_cleared};
+ghost use Rattle.program_model.specs.Running.{runs_line};
 
 use crate::asides::Aside;
 use crate::dimensions::dimension_program;
@@ -53,7 +54,8 @@ pub fn run_program<P: Port>(
         → program ≡ program_of lines.now.lines.entries → code_kept code.now ≡ coded program
         → lowered program j ≡ seen state.old
         → Means P.who P.log port.old port.new clock.old clock.new
-        (low_leaving program) (lowered program) (λ most. runs_cleared program most j) (seen state.new) result }
+        (low_leaving program) (lowered program) (λ most. runs_cleared program most j)
+        (seen state.new) result }
 {
     match dimension_program(lines, state) {
         Ok(()) => run(code, 0, state, clock, port),
@@ -73,7 +75,8 @@ pub fn continue_program<P: Port>(
         → code_kept code.now ≡ coded program → low_leaving program way ≡ leaving_of stop
         → lowered program j ≡ seen state.old
         → Means P.who P.log port.old port.new clock.old clock.new
-        (low_leaving program) (lowered program) (λ most. continues program most way j) (seen state.new) result }
+        (low_leaving program) (lowered program) (λ most. continues program most way j)
+        (seen state.new) result }
 {
     match stop {
         Stop::At(spot) => {
@@ -93,10 +96,12 @@ pub fn run_line<P: Port>(
     port: &mut P,
 ) -> Result<(), Trouble<Exit>>
     ensures { (statements : List StatementTree) (program : model.Program) (j : Job Position)
-        → code_kept code.now ≡ coded (line_alone statements) → loops ≡ loops_of (line_alone statements)
+        → code_kept code.now ≡ coded (line_alone statements)
+        → loops ≡ loops_of (line_alone statements)
         → lowered program j ≡ seen state.old
         → Means P.who P.log port.old port.new clock.old clock.new
-        (low_leaving (line_alone statements)) (lowered program) (λ most. runs_line statements most j) (seen state.new) result }
+        (low_leaving (line_alone statements)) (lowered program)
+        (λ most. runs_line statements most j) (seen state.new) result }
 {
     match Aside::set_apart(state, loops) {
         Ok(aside) => {

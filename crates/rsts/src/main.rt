@@ -3,9 +3,9 @@
 //! `top::rsts_main` carries the program's promise: its one clause is `Does` of `specs/Headline`.
 //! `streams` reads a source and gives to a sink, `runs` runs the terminals of a deck,
 //! `systems` puts these together, `words` tells what is asked, and `outcomes` the status. It stands
-//! on `deck_reader`, for decks, on `report_texts`, for what is written, on `command_level`, for the session
-//! of a terminal, on `terminal_runner`, for the threads, and on `rsts_io`, for the ends; what they
-//! mean stands in `deck_model`, `job_model` and `monitor_model`.
+//! on `deck_reader`, for decks, on `report_texts`, for what is written, on `command_level`, for the
+//! session of a terminal, on `terminal_runner`, for the threads, and on `rsts_io`, for the ends;
+//! what they mean stands in `deck_model`, `job_model` and `monitor_model`.
 #![tactic(auto)]
 
 mod outcomes;

@@ -1,6 +1,7 @@
 //! Reading a source to its end, and giving bytes to a sink.
 
-ghost use Rattle.std.specs.Prelude.{◌≡◌, ◌+◌, ◌<◌, ◌≤◌, ◌==◌, length, position, Err, IfSome, MatchOption, OnOk, OnErr};
+ghost use Rattle.std.specs.Prelude.{◌≡◌, ◌+◌, ◌<◌, ◌≤◌, ◌==◌, length, position, Err, IfSome};
+ghost use Rattle.std.specs.Prelude.{MatchOption, OnOk, OnErr};
 ghost use Rattle.rsts_io.specs.Ends.{Takes};
 ghost use Rattle.rsts.specs.Streams.{ReadSo, TookNext, IsOverLimit, Written, BrokeOff};
 
