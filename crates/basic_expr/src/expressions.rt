@@ -18,26 +18,15 @@ use crate::signs::{
     next_sign, right_level,
 };
 use crate::tables::{arguments_of, function_of, gives_text, side, takes, takes_relations, want_of};
-use crate::words::{Word, Words};
+use crate::words::{Word, Words, text_of};
 use basic_tree::{Expr, Function, Name, Operator, Relation, Sign, Want};
-use basic_values::{LINE_LENGTH, NoMemory, Text, Trouble};
+use basic_values::NoMemory;
 use std::alloc::Global;
 
 /// The loosest level, that of a whole expression.
 const LOOSEST: usize = 11;
 
 // A tree from its parts
-
-fn quoted(alloc: Global, bytes: &[u8]) -> Result<Text, NoMemory>
-    requires { length bytes.now ≤ LINE_LENGTH }
-    ensures { IfOk result (λ text. text ≡ bytes.now) }
-{
-    match Text::of(alloc, bytes) {
-        Ok(text) => Ok(text),
-        Err(Trouble::Refused(_)) => unreachable!(),
-        Err(Trouble::NoMemory) => Err(NoMemory),
-    }
-}
 
 fn prefixed(alloc: Global, prefix: Prefix, operand: Expr) -> Result<Expr, NoMemory>
     ensures { IfOk result (λ e. tree_of e ≡ prefixed prefix (tree_of operand)) }
@@ -320,7 +309,7 @@ fn parse_atom(
             end: from + 1,
         }),
         Word::Quotation(bytes) => Ok(Found {
-            tree: Expr::Quoted(quoted(alloc, bytes)?),
+            tree: Expr::Quoted(text_of(alloc, bytes)?),
             text: true,
             end: from + 1,
         }),

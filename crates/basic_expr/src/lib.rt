@@ -20,4 +20,4 @@ pub use failures::{Failure, Found};
 pub use parsing::{MOST_LEVELS, parse_expr};
 pub use signs::{begins_value, expect, next_is_key, next_is_sign};
 pub use tables::takes;
-pub use words::{Word, Words};
+pub use words::{Word, Words, text_of};

@@ -7,7 +7,7 @@ ghost use Rattle.basic_expr.specs.Views.{as_word, IsShort, most_words};
 
 use basic_scanner::{Token, Tokens, keyword_of, literal_value, sign_of};
 use basic_tree::{Keyword, Name, Sign, TokenKind};
-use basic_values::{LINE_LENGTH, NoMemory};
+use basic_values::{LINE_LENGTH, NoMemory, Text, Trouble};
 use std::alloc::Global;
 use std::marker::Model;
 
@@ -92,6 +92,18 @@ fn name_of(bytes: &[u8]) -> Name
         letter: byte_at(bytes, 0).to_ascii_uppercase(),
         digit: digit_of(bytes),
         text: byte_at(bytes, bytes.len().saturating_sub(1)) == b'$',
+    }
+}
+
+/// The text of bytes of a line.
+pub fn text_of(alloc: Global, bytes: &[u8]) -> Result<Text, NoMemory>
+    requires { length bytes.now ≤ LINE_LENGTH }
+    ensures { IfOk result (λ text. text ≡ bytes.now) }
+{
+    match Text::of(alloc, bytes) {
+        Ok(text) => Ok(text),
+        Err(Trouble::Refused(_)) => unreachable!(),
+        Err(Trouble::NoMemory) => Err(NoMemory),
     }
 }
 

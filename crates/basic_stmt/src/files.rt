@@ -5,7 +5,7 @@ ghost use Rattle.basic_tree.specs.declared.tokens.Keyword.TheVariants as keyword
 ghost use Rattle.basic_tree.specs.TreeViews.{tree_of};
 ghost use Rattle.basic_tree.specs.MachineForms.{number_option, cluster_form, options_form, channel_form, file_form};
 ghost use Rattle.basic_tree.specs.MachineSentences.{open_form, field_form};
-ghost use Rattle.basic_stmt.specs.Forms.{close_form, get_form, open_for_form, put_form, recorded_form, unlock_form};
+ghost use Rattle.basic_stmt.specs.Forms.{close_form, clustered_form, get_form, open_for_form, put_form, recorded_form, unlock_form};
 ghost use Rattle.basic_stmt.specs.Reading.{Parts, PartsFrom, States};
 
 use crate::lists::elements;
@@ -190,6 +190,34 @@ struct OpenOptions {
     mode: Option<Expr>,
 }
 
+/// The number of a CLUSTERSIZE, and what stands behind it of MODE.
+#[tactic(auto, using(crate::proofs::Steps::leading))]
+fn clustered(
+    alloc: Global,
+    words: &Words<'_>,
+    from: usize,
+    levels: usize,
+) -> Result<Read<OpenOptions>, Failure>
+    requires { from ≤ length words.now }
+    ensures { Parts levels words.now from clustered_form (λ x g. g
+        (option_map tree_of x.record_size) (option_map tree_of x.cluster_size)
+        (option_map tree_of x.mode)) result }
+{
+    let Read {
+        value: size,
+        end: sized,
+    } = expression(alloc, words, from, Want::Number, levels)?;
+    let Read { value: mode, end } = option(alloc, words, sized, Keyword::Mode, levels)?;
+    Ok(Read {
+        value: OpenOptions {
+            record_size: None,
+            cluster_size: Some(size),
+            mode,
+        },
+        end,
+    })
+}
+
 /// The options of OPEN, as far as they stand there.
 #[tactic(auto, using(crate::proofs::Steps::leading))]
 fn options(
@@ -209,19 +237,7 @@ fn options(
             return recorded(alloc, words, at + 1, levels);
         }
         if if_key(words, at, Keyword::ClusterSize) {
-            let Read {
-                value: size,
-                end: sized,
-            } = expression(alloc, words, at + 1, Want::Number, levels)?;
-            let Read { value: mode, end } = option(alloc, words, sized, Keyword::Mode, levels)?;
-            return Ok(Read {
-                value: OpenOptions {
-                    record_size: None,
-                    cluster_size: Some(size),
-                    mode,
-                },
-                end,
-            });
+            return clustered(alloc, words, at + 1, levels);
         }
         let behind = take_key(words, at, Keyword::Mode)?;
         let Read { value: mode, end } = expression(alloc, words, behind, Want::Number, levels)?;

@@ -7,9 +7,9 @@ ghost use Rattle.basic_stmt.specs.Reading.{FnNameAt, IfLiteral, IfQuoted, NameAt
 
 use crate::literals::Literal;
 use crate::read::Read;
-use basic_expr::{Failure, Word, Words, takes};
+use basic_expr::{Failure, Word, Words, takes, text_of};
 use basic_tree::{Name, Want};
-use basic_values::{LINE_LENGTH, NoMemory, Text, Trouble};
+use basic_values::{NoMemory, Text};
 use std::alloc::Global;
 
 fn named(word: Word<'_>) -> Option<Name>
@@ -154,18 +154,6 @@ pub(crate) fn if_literal(words: &Words<'_>, from: usize, limit: Literal) -> Opti
         } else {
             None
         },
-    }
-}
-
-/// A text of a line's bytes.
-pub(crate) fn text_of(alloc: Global, bytes: &[u8]) -> Result<Text, NoMemory>
-    requires { length bytes.now ≤ LINE_LENGTH }
-    ensures { IfOk result (λ text. text ≡ bytes.now) }
-{
-    match Text::of(alloc, bytes) {
-        Ok(text) => Ok(text),
-        Err(Trouble::Refused(_)) => unreachable!(),
-        Err(Trouble::NoMemory) => Err(NoMemory),
     }
 }
 

@@ -55,7 +55,8 @@ impl Model for Disk {
 
     ghost view = { λ d. disk_of d.pages.items d.free.items d.files.entries };
 
-    ghost invariant = { λ d. IsKept d.pages.items d.free.items (vec_capacity d.free) d.files.entries };
+    ghost invariant = { λ d.
+        IsKept d.pages.items d.free.items (vec_capacity d.free) d.files.entries };
 }
 
 impl Disk {

@@ -1,8 +1,8 @@
 //! The disk: files in the order of making, and the places of their pages.
 //!
-//! It stands on `monitor_model`, whose `Files` says what each call leaves. The calls of `Disk` carry
-//! that each is its definition, refused exactly where it says, and leaves the old disk where it is
-//! refused or memory runs out; `Disk::place`, that no two blocks have one place.
+//! It stands on `monitor_model`, whose `Files` says what each call leaves. The calls of `Disk`
+//! carry that each is its definition, refused exactly where it says, and leaves the old disk where
+//! it is refused or memory runs out; `Disk::place`, that no two blocks have one place.
 #![tactic(auto)]
 
 mod bodies;

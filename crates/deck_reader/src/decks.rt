@@ -15,7 +15,8 @@ pub struct Terminal {
     pub keys: Vec<KeyLine>,
 }
 
-/// The volume of a run, whose files hold the lines of their texts, and its terminals in their order.
+/// The volume of a run, whose files hold the lines of their texts, and its terminals in their
+/// order.
 #[derive(Drop)]
 pub struct Deck {
     pub volume: Volume,

@@ -18,7 +18,8 @@ use std::alloc::Global;
 /// How many bytes a block has.
 const BLOCK_BYTES: usize = 512;
 
-/// The file of such fields, which has no text yet, where its numbers and its name are in their ranges.
+/// The file of such fields, which has no text yet, where its numbers and its name are in their
+/// ranges.
 #[tactic(auto, unfolding(deck_model::specs::Lines::whole_lines))]
 pub(crate) fn new_file(alloc: Global, texts: &FileTexts<'_>) -> Option<OpenFile>
     ensures { Finds open_of result (if is_file_in_range (file_texts_seen texts.now)
@@ -46,7 +47,8 @@ pub(crate) fn new_file(alloc: Global, texts: &FileTexts<'_>) -> Option<OpenFile>
     })
 }
 
-/// The extension behind a point, of 1 to 3 capital letters and digits; empty where there is no point.
+/// The extension behind a point, of 1 to 3 capital letters and digits; empty where there is no
+/// point.
 fn extension_of(text: Option<&[u8]>) -> Option<Short>
     ensures { result ≡ (if is_extension (extension_seen text.entry)
         then Some (unwrap_or (extension_seen text.entry) []) else None) }

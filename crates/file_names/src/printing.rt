@@ -7,7 +7,8 @@ use arrayvec::ArrayVec;
 use itoa::Buffer;
 use monitor_calls::FileName;
 
-/// At most 22 bytes: the name with its owner in brackets, and its extension behind a point where it has one.
+/// At most 22 bytes: the name with its owner in brackets, and its extension behind a point where it
+/// has one.
 pub fn print(name: &FileName) -> ArrayVec<u8, 22>
     ensures { result.items ≡ name_text name.now }
 {

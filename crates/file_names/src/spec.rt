@@ -29,9 +29,9 @@ const FRONT: usize = 32;
 
 /// The specification that the text is, the manual's file specification: `SY:`, an owner in brackets
 /// or `$`, a stem of 1 to 6 letters and digits, an extension of 0 to 3 behind a point, and a
-/// protection code from 0 to 63 in angle brackets, of which all but the stem may be left out. Blanks
-/// are dropped, and letters raised. A text that names another device is error 8, any other that is no
-/// specification error 2.
+/// protection code from 0 to 63 in angle brackets, of which all but the stem may be left out.
+/// Blanks are dropped, and letters raised. A text that names another device is error 8, any other
+/// that is no specification error 2.
 pub fn parse_spec(text: &[u8], own: Account, extension: &Short) -> Result<Spec, Fault>
     ensures read { IfOk result (λ spec. Spells own extension.now text.now spec) }
     ensures refused { IfErr result (λ fault. (fault ≡ refusal_of text.now)

@@ -95,8 +95,8 @@ impl Memory {
     }
 }
 
-/// Puts a number in the place of another, which takes as much room. It tells whether one was there; if
-/// not, nothing changes.
+/// Puts a number in the place of another, which takes as much room. It tells whether one was there;
+/// if not, nothing changes.
 fn overwrite(variables: &mut BTreeMap<Name, Content>, name: Name, value: Int) -> bool
     requires { IsOrdered name_cmp variables.old }
     ensures overwrites { Overwrites name value variables.old.entries variables.new.entries result }

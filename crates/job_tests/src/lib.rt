@@ -1,5 +1,5 @@
-//! Tests of a job through public calls alone: what the session of a terminal shows, and what it asks
-//! of a port that plays a script. The lines are read by the whole parser below.
+//! Tests of a job through public calls alone: what the session of a terminal shows, and what it
+//! asks of a port that plays a script. The lines are read by the whole parser below.
 #![tactic(auto)]
 
 #[cfg(test)]

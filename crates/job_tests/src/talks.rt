@@ -209,8 +209,8 @@ pub(crate) fn assert_user(
     assert_talk(rt, &[HELLO, line], &[Reply::Done], screen.as_str(), log)
 }
 
-/// Asserts what lines show behind the login one after another, where they ask nothing. Each is given
-/// with what it shows.
+/// Asserts what lines show behind the login one after another, where they ask nothing. Each is
+/// given with what it shows.
 pub(crate) fn assert_lines(
     rt: &(impl AllocGlobal + Abort),
     lines: &[(&str, &str)],
@@ -229,8 +229,8 @@ pub(crate) fn assert_lines(
     assert_talk(rt, keys.as_slice(), &[Reply::Done], screen.as_str(), log)
 }
 
-/// Asserts what lines show behind the login, and what they ask with these replies. Each is given with
-/// what it shows.
+/// Asserts what lines show behind the login, and what they ask with these replies. Each is given
+/// with what it shows.
 pub(crate) fn assert_files(
     rt: &(impl AllocGlobal + Abort),
     lines: &[(&str, &str)],

@@ -93,7 +93,8 @@ fn pages_of(alloc: Global, bytes: &[u8]) -> Result<Vec<Page>, NoMemory>
 /// A page that begins with these bytes, with zeros behind them.
 fn page_of(alloc: Global, bytes: &[u8]) -> Result<Page, NoMemory>
     requires { length bytes.now ≤ PAGE_BYTES }
-    ensures { IfOk result (λ page. page ≡ bytes.now ++ replicate (PAGE_BYTES - length bytes.now) 0) }
+    ensures { IfOk result
+        (λ page. page ≡ bytes.now ++ replicate (PAGE_BYTES - length bytes.now) 0) }
 {
     let mut whole = Vec::from_slice(alloc, bytes)?;
     whole.resize(PAGE_BYTES, 0)?;

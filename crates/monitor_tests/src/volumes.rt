@@ -91,8 +91,8 @@ fn two_accounts(alloc: Global, second: AccountEntry) -> Result<Vec<AccountEntry>
     Ok(accounts)
 }
 
-/// The owner's programmer number, the stem, the extension, the code and the blocks of a second file,
-/// and whether the volume is good.
+/// The owner's programmer number, the stem, the extension, the code and the blocks of a second
+/// file, and whether the volume is good.
 type FileRow = (u8, &'static [u8], &'static [u8], u8, u8, bool);
 
 /// The volume has eight blocks, and its first file is FIRST.DAT of two.

@@ -1,5 +1,5 @@
-//! Tests of files of programs and of catalogs, by their public calls alone, over a port that plays a
-//! script.
+//! Tests of files of programs and of catalogs, by their public calls alone, over a port that plays
+//! a script.
 #![tactic(auto)]
 
 #[cfg(test)]

@@ -99,7 +99,8 @@ pub(crate) fn close_behind<P: Port, T: Drop>(
     // Whatever had this outcome, it is now what is closed behind it that was done.
     ensures { (start : P) (clock : play.Clock) (act : FileAct T)
         → Follows P.who P.log start port.old clock clock act (answered_by outcome tt)
-        → Follows P.who P.log start port.new clock clock (closed_behind act) (answered_by result tt) }
+        → Follows P.who P.log start port.new clock clock (closed_behind act)
+        (answered_by result tt) }
 {
     match outcome {
         Ok(value) => {
@@ -114,7 +115,8 @@ pub(crate) fn close_behind<P: Port, T: Drop>(
 fn close_after<P: Port, T: Drop>(alloc: Global, port: &mut P, stop: Stop) -> Result<T, Stop>
     ensures { (start : P) (clock : play.Clock) (act : FileAct T)
         → Follows P.who P.log start port.old clock clock act (answered_by (Err stop) tt)
-        → Follows P.who P.log start port.new clock clock (closed_behind act) (answered_by result tt) }
+        → Follows P.who P.log start port.new clock clock (closed_behind act)
+        (answered_by result tt) }
 {
     match stop {
         Stop::Fault(fault) => match close(alloc, port) {

@@ -1,5 +1,5 @@
-//! What the protection code of a file lets a caller do. It stands on `monitor_model`, whose definition
-//! `allows` carries.
+//! What the protection code of a file lets a caller do. It stands on `monitor_model`, whose
+//! definition `allows` carries.
 #![tactic(auto)]
 
 ghost use Rattle.std.specs.Prelude.{◌≡◌};

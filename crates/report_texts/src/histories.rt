@@ -9,8 +9,8 @@ use file_names::print;
 use itoa::Buffer;
 use monitor_calls::{Account, Entry, FileName, OpenKind, Reply, Request, Short};
 
-/// Writes the text of a history behind what is there: `HISTORY` and the number of its entries, and a
-/// line for each. Each history has one text.
+/// Writes the text of a history behind what is there: `HISTORY` and the number of its entries, and
+/// a line for each. Each history has one text.
 pub fn push_history(out: &mut Vec<u8>, history: &[Entry]) -> Result<(), NoMemory>
     ensures { OnOk result (out.new.items ≡ out.old.items ++ history_text history.now) }
 {
@@ -160,7 +160,8 @@ fn push_reply(out: &mut Vec<u8>, reply: &Reply) -> Result<(), NoMemory>
 
 /// A word, and the channel that it speaks of.
 fn push_channel(out: &mut Vec<u8>, word: &[u8], channel: u8) -> Result<(), NoMemory>
-    ensures { OnOk result (out.new.items ≡ out.old.items ++ word.now ++ fields (decimal channel ∷ [])) }
+    ensures { OnOk result
+        (out.new.items ≡ out.old.items ++ word.now ++ fields (decimal channel ∷ [])) }
 {
     out.extend_from_slice(word)?;
     push_number(out, u32::from(channel))

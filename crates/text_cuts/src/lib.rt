@@ -1,6 +1,6 @@
 //! Texts cut at a byte, or behind what they begin with. It stands on
-//! `basic_values`, for numbers in a text. `specs/Cuts` says what a cut is; each call here finds what
-//! its cut finds, and `proofs/CutLaws` has it that what was put together is found again.
+//! `basic_values`, for numbers in a text. `specs/Cuts` says what a cut is; each call here finds
+//! what its cut finds, and `proofs/CutLaws` has it that what was put together is found again.
 #![tactic(auto)]
 
 ghost use Rattle.std.specs.Prelude.{◌≡◌, ◌<◌, ◌==◌, length, position, IfSome};

@@ -35,11 +35,11 @@ parse_atom-returns-in-Number-clause-reads t c =
     let a = compose.atom_word c.args.words.now c.args.from c.args.want c.in-Some.word (word.Number c.in-Number.n) c.in-Some.ensures.word.1 b c.in-Number.is in
     λ k vs. compose.number_atom c.args.levels _ _ c.in-Number.n c.args.want k vs a.0 a.1
 
-pub parse_atom-returns-in_ok-quoted-in-Quotation-clause-reads : goal.parse_atom-returns-in_ok-quoted-in-Quotation-clause-reads
-parse_atom-returns-in_ok-quoted-in-Quotation-clause-reads t c =
+pub parse_atom-returns-in_ok-text_of-in-Quotation-clause-reads : goal.parse_atom-returns-in_ok-text_of-in-Quotation-clause-reads
+parse_atom-returns-in_ok-text_of-in-Quotation-clause-reads t c =
     let b : begins_atom c.args.want (as_word c.in-Some.word) ≡ true = search rules in
     let a = compose.atom_word c.args.words.now c.args.from c.args.want c.in-Some.word (word.Quotation c.in-Quotation.bytes) c.in-Some.ensures.word.1 b c.in-Quotation.is in
-    λ k vs. compose.quoted_atom c.args.levels _ _ c.in-Quotation.bytes.now c.args.want k vs a.0 a.1 ∙ ap (λ text. run c.args.levels (drop (c.args.from + 1) c.args.words.now) k (Term (Quoted text) ∷ vs)) (sym c.in_ok-quoted-in-Quotation.ensures)
+    λ k vs. compose.quoted_atom c.args.levels _ _ c.in-Quotation.bytes.now c.args.want k vs a.0 a.1 ∙ ap (λ text. run c.args.levels (drop (c.args.from + 1) c.args.words.now) k (Term (Quoted text) ∷ vs)) (sym c.in_ok-text_of-in-Quotation.ensures)
 
 pub parse_atom-returns-in-Named-clause-reads : goal.parse_atom-returns-in-Named-clause-reads
 parse_atom-returns-in-Named-clause-reads t c =
