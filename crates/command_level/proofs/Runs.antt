@@ -17,7 +17,7 @@ use Rattle.job_model.proofs.Follows.{follows_from}
 use Rattle.monitor_calls.specs.declared.names.Account.{Account}
 use Rattle.session_model.specs.Commands.{Command, command_of}
 use Rattle.line_editor.specs.Lines.{Lines, AreTrees}
-use Rattle.lowering.specs.Texts.{program_of}
+use Rattle.program_soundness.specs.Texts.{program_of}
 use Rattle.program_model.specs.declared.refusals.LowerRefusal.{LowerRefusal}
 use Rattle.program_model.specs.Program.{Program, Position}
 use Rattle.program_model.specs.Job as program

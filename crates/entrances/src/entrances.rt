@@ -5,7 +5,7 @@ ghost use Rattle.basic_eval.specs.Acting.{seen};
 ghost use Rattle.basic_interpreter.specs.Meaning.{Means};
 ghost use Rattle.basic_tree.specs.Trees.{StatementTree};
 ghost use Rattle.entrances.specs.Stopping.{leaving_of};
-ghost use Rattle.lowering.specs.Texts.{program_of};
+ghost use Rattle.program_soundness.specs.Texts.{program_of};
 ghost use Rattle.program_code.specs.Places.{code_kept};
 ghost use Rattle.polish_code.specs.Lowered.{coded, lowered, low_leaving};
 ghost use Rattle.program_model.specs.Job.{Job, Leaving};

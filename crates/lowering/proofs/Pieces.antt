@@ -12,7 +12,7 @@ use Rattle.program_model.specs.Program.{Program}
 use Rattle.polish_code.specs.declared.items.Item.{Item}
 use Rattle.polish_code.specs.declared.items.Item.TheVariants as item
 use Rattle.polish_code.specs.Code.{Piece, It, Places, pieces_code, pieces_size, target_pieces, targets_pieces, judged_pieces, input_pieces, read_pieces, printed_pieces, separator_pieces, print_pieces}
-use Rattle.lowering.specs.Texts.{target_size, targets_size, printed_size, print_size}
+use Rattle.lowering.specs.Emission.{target_size, targets_size, printed_size, print_size}
 
 module _ (program : Program) (places : Places) where
   pub target_front : (t : Target) (ps : List Piece) (is : List Item) → pieces_code program places (target_pieces (target_of t) ps) is ≡ pieces_code program places (target_pieces (target_of t) []) (pieces_code program places ps is)

@@ -4,29 +4,22 @@
 //! else its refusal is that of the least line, for the first cause there. `lower_now` does so for a
 //! line of immediate mode.
 //!
-//! `polish_code` puts the items of each tree in front of others; so does this crate: `Emitted` grows
-//! at its front, and what runs last is emitted first. What a statement needs of the rest of the
-//! program is the trait `Lookups`, which `Tables` meets, over the `Listing` of the program.
+//! Whether a program is sound `program_soundness` says, on which this crate stands; so does the
+//! listing of its text. `polish_code` puts the items of each tree in front of others; so does this
+//! crate: `Emitted` grows at its front, and what runs last is emitted first. What a statement needs
+//! of the rest of the program is the trait `Lookups`, which `Placement` meets: the tables of a
+//! program, and where each of its statements stands in the code.
 #![tactic(auto)]
 
-mod bodies;
-mod calls;
-mod definitions;
-mod dims;
 mod emitted;
 mod expressions;
-mod listing;
 mod lookups;
 mod lowered;
-mod pairs;
-mod parts;
+mod placement;
 mod program;
-mod refusals;
 mod simple;
 mod sizes;
 mod statements;
-mod tables;
-mod texts;
 mod words;
 
 pub use lowered::{loops_in_line, loops_in_program, lower, lower_now};

@@ -8,7 +8,7 @@ ghost use Rattle.program_model.specs.Targets.{wants_text};
 ghost use Rattle.program_model.specs.Traps.{line_named};
 ghost use Rattle.polish_code.specs.declared.items.Item.TheVariants as item;
 ghost use Rattle.polish_code.specs.Code.{It, places_of, def_pieces, target_pieces, targets_pieces, judged_pieces, input_pieces, read_pieces, printed_pieces, separator_pieces, print_pieces, end_pieces, step_piece};
-ghost use Rattle.lowering.specs.Texts.{with_pieces, with_simple};
+ghost use Rattle.lowering.specs.Emission.{with_pieces, with_simple};
 
 use crate::emitted::Emitted;
 use crate::expressions::emit_expr;
@@ -18,6 +18,7 @@ use basic_tree::{Expr, PrintItem, Printed, Prompt, Separator, Series, Statement,
 use basic_values::{NoMemory, Text};
 use monitor_calls::copy_of;
 use polish_code::Item;
+use program_soundness::named_line;
 use std::alloc::Global;
 
 /// Puts the items behind the start of the m-th statement in front, which has i FORs before it.
@@ -399,16 +400,6 @@ fn line_places<L: Lookups>(
         places.push(tables.line_place(*line))?;
     }
     Ok(Series::from_vec(places))
-}
-
-/// Line 0 is none.
-pub fn named_line(line: Option<u16>) -> Option<u16>
-    ensures { result ≡ line_named line }
-{
-    match line {
-        Some(0) => None,
-        other => other,
-    }
 }
 
 fn emit_resume<L: Lookups>(

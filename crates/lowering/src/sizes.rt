@@ -6,7 +6,8 @@ ghost use Rattle.basic_tree.specs.Trees.{Modified, End};
 ghost use Rattle.basic_tree.specs.TreeViews.{tree_of, item_of, printed_of, modifier_of};
 ghost use Rattle.program_model.specs.Program.{loops_in, loops_in_clause, loops_outside};
 ghost use Rattle.polish_code.specs.Code.{expr_size, trees_size, pieces_size, print_pieces, end_pieces, separator_pieces, step_piece, def_pieces, simple_pieces, nowhere, body_size, clause_size, head_pieces, tail_pieces};
-ghost use Rattle.lowering.specs.Texts.{trees_in, target_size, targets_size, printed_size, print_size};
+ghost use Rattle.program_soundness.specs.Texts.{trees_in};
+ghost use Rattle.lowering.specs.Emission.{target_size, targets_size, printed_size, print_size};
 
 use basic_tree::{Clause, Expr, Modifier, PrintItem, Printed, Separator, Statement, Target};
 use basic_values::NoMemory;
@@ -37,16 +38,6 @@ pub fn add(total: &mut u32, count: u32) -> Result<(), NoMemory>
     Ok(())
 }
 
-/// A number of statements and some more.
-pub fn further(count: usize, more: usize) -> Result<usize, NoMemory>
-    ensures { IfOk result (λ sum. sum ≡ count + more) }
-{
-    match count.checked_add(more) {
-        Some(sum) => Ok(sum),
-        None => Err(NoMemory),
-    }
-}
-
 pub fn next(n: u32) -> Result<u32, NoMemory>
     ensures { IfOk result (λ next. next ≡ suc n) }
 {
@@ -55,7 +46,7 @@ pub fn next(n: u32) -> Result<u32, NoMemory>
 
 /// Adds the size of an expression.
 #[cycle(size)]
-#[tactic(auto, using(crate::proofs::Rows::views))]
+#[tactic(auto, using(program_soundness::proofs::Rows::views))]
 pub fn count_expr(total: &mut u32, e: &Expr) -> Result<(), NoMemory>
     ensures { OnOk result (total.new ≡ total.old + expr_size (tree_of e.now)) }
 {

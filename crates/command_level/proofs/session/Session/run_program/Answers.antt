@@ -3,7 +3,7 @@ use Rattle.basic_tree.specs.MachineJudge.{judge_of}
 use Rattle.basic_values.specs.declared.failures.Trouble.{Trouble}
 use Rattle.program_model.specs.declared.refusals.LowerRefusal.{LowerRefusal}
 use Rattle.lowering.specs.Lowering.{Lowers}
-use Rattle.lowering.specs.Texts.{program_of}
+use Rattle.program_soundness.specs.Texts.{program_of}
 use Rattle.program_model.specs.Soundness.{refusal_of}
 use Rattle.polish_code.specs.Lowered.{coded}
 use Rattle.session_model.specs.Talk as talk

@@ -1,0 +1,430 @@
+//! Why a program is refused: its least line at which a cause stands, and the first cause there.
+
+ghost use Rattle.std.specs.Prelude.{◌≡◌, ◌&&◌, not, is_some, map, take, IfOk};
+ghost use Rattle.std.specs.List.{flat_map, list_any};
+ghost use Rattle.basic_tree.specs.StatementViews.{statement_of};
+ghost use Rattle.program_model.specs.Program.{body_at, statements_of};
+ghost use Rattle.program_model.specs.Soundness.{has_line, handles_errors, is_in_body, goes_across, is_open_for, is_stray_next, is_open_def, is_stray_fnend, is_second_def, is_body_of, results_by, has_stray_result, is_undefined, is_unfit, arrays_in, any_again, stands, stands_in, first_cause, refusal_of, is_refused_now};
+ghost use Rattle.program_model.specs.Parts.{simple_in, lines_named_in, calls_made_in};
+ghost use Rattle.program_soundness.specs.Listings.{text_of};
+ghost use Rattle.program_soundness.specs.Parts.{simple_tree, simple_trees, call_seen, calls_seen};
+ghost use Rattle.program_soundness.specs.Texts.{program_of};
+
+use crate::bodies::same_body;
+use crate::calls::{Called, calls_made};
+use crate::dims::{add_arrays, any_again};
+use crate::listing::Listing;
+use crate::parts::{Simple, any_for_programs, any_handles, lines_named, simple_in};
+use crate::tables::Tables;
+use crate::texts::further;
+use basic_tree::{Program, Statement};
+use basic_values::NoMemory;
+use program_model::{LowerCause, LowerRefusal};
+use std::alloc::Global;
+
+/// In the order in which those of one line are told.
+const CAUSES: [LowerCause; 11] = [
+    LowerCause::NoLine,
+    LowerCause::OpenFor,
+    LowerCause::StrayNext,
+    LowerCause::OpenDef,
+    LowerCause::StrayFnend,
+    LowerCause::DoubleDef,
+    LowerCause::AcrossBody,
+    LowerCause::NoFunction,
+    LowerCause::Arguments,
+    LowerCause::DoubleDim,
+    LowerCause::StrayResult,
+];
+
+/// The least line that is refused, and its first cause.
+pub fn refusal_of(
+    alloc: Global,
+    program: &Program,
+    tables: &Tables<'_>,
+) -> Result<Option<LowerRefusal>, NoMemory>
+    requires { program_of program.now.lines.entries ≡ text_of tables.now }
+    ensures { IfOk result (λ refusal. refusal ≡ refusal_of (text_of tables.now)) }
+{
+    let mut m = 0;
+    for (number, line) in program.lines.iter() {
+        if let Some(cause) = first_cause(alloc, program, tables, m, &line.statements)? {
+            return Ok(Some(LowerRefusal {
+                line: *number,
+                cause,
+            }));
+        }
+        m = further(m, line.statements.len())?;
+    }
+    Ok(None)
+}
+
+/// The first cause that stands at one of these statements, the first of which is the m-th.
+fn first_cause(
+    alloc: Global,
+    program: &Program,
+    tables: &Tables<'_>,
+    m: usize,
+    statements: &[Statement],
+) -> Result<Option<LowerCause>, NoMemory>
+    requires { program_of program.now.lines.entries ≡ text_of tables.now }
+    ensures { IfOk result (λ cause. cause ≡ first_cause (text_of tables.now) m
+        (map statement_of statements.now)) }
+{
+    for cause in CAUSES.iter() {
+        if stands_in(alloc, program, tables, *cause, m, statements)? {
+            return Ok(Some(*cause));
+        }
+    }
+    Ok(None)
+}
+
+fn stands_in(
+    alloc: Global,
+    program: &Program,
+    tables: &Tables<'_>,
+    cause: LowerCause,
+    m: usize,
+    statements: &[Statement],
+) -> Result<bool, NoMemory>
+    requires { program_of program.now.lines.entries ≡ text_of tables.now }
+    ensures { IfOk result (λ answer. answer ≡ stands_in (text_of tables.now) cause m
+        (map statement_of statements.now)) }
+{
+    let mut place = m;
+    for statement in statements {
+        if stands(alloc, program, tables, cause, place, statement)? {
+            return Ok(true);
+        }
+        place = further(place, 1)?;
+    }
+    Ok(false)
+}
+
+/// Whether a cause stands at the m-th statement.
+fn stands(
+    alloc: Global,
+    program: &Program,
+    tables: &Tables<'_>,
+    cause: LowerCause,
+    m: usize,
+    statement: &Statement,
+) -> Result<bool, NoMemory>
+    requires { program_of program.now.lines.entries ≡ text_of tables.now }
+    ensures { IfOk result (λ answer. answer ≡ stands (text_of tables.now) cause m
+        (statement_of statement.now)) }
+{
+    let listing = tables.listing();
+    match cause {
+        LowerCause::NoLine => lacks_line(alloc, program, statement),
+        LowerCause::OpenFor => Ok(is_open_for(tables, m, statement)),
+        LowerCause::StrayNext => Ok(is_stray_next(tables, m, statement)),
+        LowerCause::OpenDef => Ok(is_open_def(listing, m, statement)),
+        LowerCause::StrayFnend => Ok(is_stray_fnend(listing, m, statement)),
+        LowerCause::DoubleDef => Ok(is_second_def(listing, m, statement)),
+        LowerCause::AcrossBody => goes_across(alloc, listing, m, statement),
+        LowerCause::NoFunction => calls_undefined(alloc, listing, statement),
+        LowerCause::Arguments => calls_unfit(alloc, listing, statement),
+        LowerCause::DoubleDim => dimensions_again(alloc, listing, m, statement),
+        LowerCause::StrayResult => has_stray_result(alloc, listing, m, statement),
+        LowerCause::Immediate => Ok(false),
+    }
+}
+
+// Lines
+
+/// Whether a line is named that is not there.
+fn lacks_line(alloc: Global, program: &Program, statement: &Statement) -> Result<bool, NoMemory>
+    ensures { IfOk result (λ answer. answer
+        ≡ list_any (λ n. not (has_line (program_of program.now.lines.entries) n))
+        (lines_named_in (statement_of statement.now))) }
+{
+    let lines = lines_named(alloc, statement)?;
+    Ok(any_lacking(program, &lines))
+}
+
+fn any_lacking(program: &Program, lines: &[u16]) -> bool
+    ensures { result
+        ≡ list_any (λ n. not (has_line (program_of program.now.lines.entries) n)) lines.now }
+{
+    for line in lines {
+        if !has_line(program, *line) {
+            return true;
+        }
+    }
+    false
+}
+
+fn has_line(program: &Program, number: u16) -> bool
+    ensures { result ≡ has_line (program_of program.now.lines.entries) number }
+{
+    program.lines.contains_key(&number)
+}
+
+// Bodies
+
+/// Whether a line is named that stands in another body, or errors are handled in a body.
+fn goes_across(
+    alloc: Global,
+    listing: &Listing<'_>,
+    m: usize,
+    statement: &Statement,
+) -> Result<bool, NoMemory>
+    ensures { IfOk result (λ answer. answer
+        ≡ goes_across (text_of listing.now) (body_at (text_of listing.now) m)
+        (statement_of statement.now)) }
+{
+    let body = listing.body(m);
+    let outside = names_outside(alloc, listing, body, statement)?;
+    let handles = handles_within(alloc, body, statement)?;
+    Ok(outside || handles)
+}
+
+fn names_outside(
+    alloc: Global,
+    listing: &Listing<'_>,
+    body: Option<usize>,
+    statement: &Statement,
+) -> Result<bool, NoMemory>
+    ensures { IfOk result (λ answer. answer
+        ≡ list_any (λ n. not (is_in_body (text_of listing.now) body n)) (lines_named_in
+        (statement_of statement.now))) }
+{
+    let lines = lines_named(alloc, statement)?;
+    Ok(any_outside(listing, body, &lines))
+}
+
+fn handles_within(
+    alloc: Global,
+    body: Option<usize>,
+    statement: &Statement,
+) -> Result<bool, NoMemory>
+    ensures { IfOk result (λ answer. answer
+        ≡ (is_some body && list_any handles_errors (simple_in (statement_of statement.now)))) }
+{
+    match body {
+        None => Ok(false),
+        Some(_) => {
+            let parts = simple_in(alloc, statement)?;
+            Ok(any_handles(&parts))
+        }
+    }
+}
+
+fn any_outside(listing: &Listing<'_>, body: Option<usize>, lines: &[u16]) -> bool
+    ensures { result ≡ list_any (λ n. not (is_in_body (text_of listing.now) body n)) lines.now }
+{
+    for line in lines {
+        if !is_in_body(listing, body, *line) {
+            return true;
+        }
+    }
+    false
+}
+
+fn is_in_body(listing: &Listing<'_>, body: Option<usize>, number: u16) -> bool
+    ensures { result ≡ is_in_body (text_of listing.now) body number }
+{
+    same_body(listing.body(listing.start(number)), body)
+}
+
+// FOR and NEXT
+
+fn is_open_for(tables: &Tables<'_>, m: usize, statement: &Statement) -> bool
+    ensures { result ≡ is_open_for (text_of tables.now) m (statement_of statement.now) }
+{
+    match statement {
+        Statement::For { .. } => tables.next_of(m).is_none(),
+        _ => false,
+    }
+}
+
+fn is_stray_next(tables: &Tables<'_>, m: usize, statement: &Statement) -> bool
+    ensures { result ≡ is_stray_next (text_of tables.now) m (statement_of statement.now) }
+{
+    match statement {
+        Statement::Next(_) => tables.for_of(m).is_none(),
+        _ => false,
+    }
+}
+
+// DEF and FNEND
+
+fn is_open_def(listing: &Listing<'_>, m: usize, statement: &Statement) -> bool
+    ensures { result
+        ≡ is_open_def (text_of listing.now) (body_at (text_of listing.now) m) m
+        (statement_of statement.now) }
+{
+    match statement {
+        Statement::Def { value, .. } => {
+            listing.body(m).is_some() || (value.is_none() && !listing.ends_behind(m))
+        }
+        _ => false,
+    }
+}
+
+fn is_stray_fnend(listing: &Listing<'_>, m: usize, statement: &Statement) -> bool
+    ensures { result ≡ is_stray_fnend (body_at (text_of listing.now) m)
+        (statement_of statement.now) }
+{
+    match statement {
+        Statement::FnEnd => listing.body(m).is_none(),
+        _ => false,
+    }
+}
+
+fn is_second_def(listing: &Listing<'_>, m: usize, statement: &Statement) -> bool
+    ensures { result ≡ is_second_def (text_of listing.now) m (statement_of statement.now) }
+{
+    match statement {
+        Statement::Def { function, .. } => !same_body(listing.def_of(*function), Some(m)),
+        _ => false,
+    }
+}
+
+/// Whether a result is given outside the body of its function.
+fn has_stray_result(
+    alloc: Global,
+    listing: &Listing<'_>,
+    m: usize,
+    statement: &Statement,
+) -> Result<bool, NoMemory>
+    ensures { IfOk result (λ answer. answer
+        ≡ has_stray_result (text_of listing.now) (body_at (text_of listing.now) m)
+        (statement_of statement.now)) }
+{
+    let parts = simple_in(alloc, statement)?;
+    Ok(any_stray(listing, listing.body(m), &parts))
+}
+
+fn any_stray(listing: &Listing<'_>, body: Option<usize>, parts: &[Simple<'_>]) -> bool
+    ensures { result ≡ list_any (λ f. not (is_body_of (text_of listing.now) f body))
+        (flat_map results_by (simple_trees parts.now)) }
+{
+    for part in parts {
+        if is_stray(listing, body, part) {
+            return true;
+        }
+    }
+    false
+}
+
+fn is_stray(listing: &Listing<'_>, body: Option<usize>, part: &Simple<'_>) -> bool
+    ensures { result ≡ list_any (λ f. not (is_body_of (text_of listing.now) f body))
+        (results_by (simple_tree part.now)) }
+{
+    match part {
+        Simple::Line(_) => false,
+        Simple::Statement(statement) => match statement {
+            Statement::Result { function, .. } => !listing.is_body_of(*function, body),
+            _ => false,
+        },
+    }
+}
+
+// Calls
+
+fn calls_undefined(
+    alloc: Global,
+    listing: &Listing<'_>,
+    statement: &Statement,
+) -> Result<bool, NoMemory>
+    ensures { IfOk result (λ answer. answer
+        ≡ list_any (is_undefined (text_of listing.now)) (calls_made_in
+        (statement_of statement.now))) }
+{
+    let calls = calls_made(alloc, statement)?;
+    Ok(any_undefined(listing, &calls))
+}
+
+fn any_undefined(listing: &Listing<'_>, calls: &[Called]) -> bool
+    ensures { result ≡ list_any (is_undefined (text_of listing.now)) (calls_seen calls.now) }
+{
+    for call in calls {
+        if is_undefined(listing, *call) {
+            return true;
+        }
+    }
+    false
+}
+
+fn is_undefined(listing: &Listing<'_>, call: Called) -> bool
+    ensures { result ≡ is_undefined (text_of listing.now) (call_seen call) }
+{
+    listing.def_of(call.function).is_none()
+}
+
+fn calls_unfit(
+    alloc: Global,
+    listing: &Listing<'_>,
+    statement: &Statement,
+) -> Result<bool, NoMemory>
+    ensures { IfOk result (λ answer. answer
+        ≡ list_any (is_unfit (text_of listing.now)) (calls_made_in (statement_of statement.now))) }
+{
+    let calls = calls_made(alloc, statement)?;
+    Ok(any_unfit(listing, &calls))
+}
+
+fn any_unfit(listing: &Listing<'_>, calls: &[Called]) -> bool
+    ensures { result ≡ list_any (is_unfit (text_of listing.now)) (calls_seen calls.now) }
+{
+    for call in calls {
+        if is_unfit(listing, *call) {
+            return true;
+        }
+    }
+    false
+}
+
+fn is_unfit(listing: &Listing<'_>, call: Called) -> bool
+    ensures { result ≡ is_unfit (text_of listing.now) (call_seen call) }
+{
+    !is_undefined(listing, call) && call.arguments != listing.parameter_count(call.function)
+}
+
+// DIM
+
+/// Whether an array is dimensioned that was so before.
+fn dimensions_again(
+    alloc: Global,
+    listing: &Listing<'_>,
+    m: usize,
+    statement: &Statement,
+) -> Result<bool, NoMemory>
+    ensures { IfOk result (λ answer. answer
+        ≡ any_again (flat_map arrays_in (take m (statements_of (text_of listing.now))))
+        (arrays_in (statement_of statement.now))) }
+{
+    let mut names = Vec::new(alloc);
+    add_arrays(&mut names, statement)?;
+    if names.is_empty() {
+        return Ok(false);
+    }
+    let before = listing.arrays_before(alloc, m)?;
+    Ok(any_again(&before, &names))
+}
+
+// Immediate mode
+
+/// Whether one of these statements stands in no line of immediate mode.
+pub fn any_refused_now(alloc: Global, statements: &[Statement]) -> Result<bool, NoMemory>
+    ensures { IfOk result (λ answer. answer
+        ≡ list_any is_refused_now (map statement_of statements.now)) }
+{
+    for statement in statements {
+        if is_refused_now(alloc, statement)? {
+            return Ok(true);
+        }
+    }
+    Ok(false)
+}
+
+fn is_refused_now(alloc: Global, statement: &Statement) -> Result<bool, NoMemory>
+    ensures { IfOk result (λ answer. answer ≡ is_refused_now (statement_of statement.now)) }
+{
+    let parts = simple_in(alloc, statement)?;
+    let lines = lines_named(alloc, statement)?;
+    let calls = calls_made(alloc, statement)?;
+    Ok(any_for_programs(&parts) || !lines.is_empty() || !calls.is_empty())
+}
