@@ -10,10 +10,10 @@ use Rattle.basic_tree.specs.declared.expressions.Expr.{Expr}
 use Rattle.basic_tree.specs.declared.expressions.Expr.TheViews as view
 use Rattle.basic_tree.specs.TreeViews.{tree_of}
 use Rattle.job_memory.specs.Names.{at_name}
-use Rattle.program_model.specs.Parts.{CallMade, calls_in, calls_in_all}
+use Rattle.program_model.specs.Parts.{CallMade, kinds, calls_in, calls_in_all}
 use Rattle.program_model.specs.Soundness.{any_again}
 use Rattle.lowering.specs.Texts.{trees_in}
-use Rattle.lowering.proofs.Rows.{view_call, view_function, count_in}
+use Rattle.lowering.proofs.Rows.{view_call, view_function}
 
 pub function_calls : (f : Function) (v : Vec Expr) (xs : List Expr) (e : Expr) (new old : List CallMade) → xs ≡ v.items → e ≡ view.Function f v
     → new ≡ old ++ calls_in_all (trees_in xs) → new ≡ old ++ calls_in (tree_of e)
@@ -21,13 +21,13 @@ function_calls f v xs e new old same is all =
     all ∙ ap (λ (l : List Expr). old ++ calls_in_all (trees_in l)) same
     ∙ ap (λ t. old ++ calls_in t) (sym (view_function f v) ∙ ap tree_of (sym is))
 
-pub call_calls : (f : Name) (v : Vec Expr) (xs : List Expr) (e : Expr) (new mid old : List CallMade) (n : ℕ) → n ≡ length v.items → xs ≡ v.items → e ≡ view.Call f v
-    → mid ≡ old ++ record { function = f; arguments = n } ∷ [] → new ≡ mid ++ calls_in_all (trees_in xs) → new ≡ old ++ calls_in (tree_of e)
-call_calls f v xs e new mid old n count same is one all =
-    all ∙ ap (λ l. l ++ calls_in_all (trees_in xs)) one
-    ∙ append_assoc old (record { function = f; arguments = n } ∷ []) (calls_in_all (trees_in xs))
-    ∙ ap (λ (l : List Expr). old ++ record { function = f; arguments = n } ∷ calls_in_all (trees_in l)) same
-    ∙ ap (λ n. old ++ record { function = f; arguments = n } ∷ calls_in_all (trees_in v.items)) (count ∙ sym (count_in v.items))
+pub call_calls : (f : Name) (v : Vec Expr) (xs ys : List Expr) (e : Expr) (new mid old : List CallMade) → xs ≡ v.items → ys ≡ v.items → e ≡ view.Call f v
+    → mid ≡ old ++ record { function = f; arguments = kinds (trees_in xs) } ∷ [] → new ≡ mid ++ calls_in_all (trees_in ys) → new ≡ old ++ calls_in (tree_of e)
+call_calls f v xs ys e new mid old same again is one all =
+    all ∙ ap (λ l. l ++ calls_in_all (trees_in ys)) one
+    ∙ append_assoc old (record { function = f; arguments = kinds (trees_in xs) } ∷ []) (calls_in_all (trees_in ys))
+    ∙ ap (λ (l : List Expr). old ++ record { function = f; arguments = kinds (trees_in xs) } ∷ calls_in_all (trees_in l)) again
+    ∙ ap (λ (l : List Expr). old ++ record { function = f; arguments = kinds (trees_in l) } ∷ calls_in_all (trees_in v.items)) same
     ∙ ap (λ t. old ++ calls_in t) (sym (view_call f v) ∙ ap tree_of (sym is))
 
 -- ARRAYS

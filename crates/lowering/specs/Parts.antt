@@ -3,7 +3,8 @@ use Rattle.std.specs.Prelude.{List, map, false}
 use Rattle.basic_tree.specs.StatementViews.{statement_of}
 use Rattle.basic_tree.specs.Trees.{Tree, StatementTree, Goto}
 use Rattle.basic_tree.specs.TreeViews.{tree_of, target_of}
-use Rattle.program_model.specs.Parts.{CallMade}
+use Rattle.program_model.specs.Parts.{CallMade, kinds}
+use Rattle.lowering.specs.Texts.{trees_in}
 use Rattle.lowering.specs.declared.parts.Simple.{Simple}
 use Rattle.lowering.specs.declared.parts.Simple.TheVariants as simple
 use Rattle.lowering.specs.declared.calls.Expression.{Expression}
@@ -25,7 +26,7 @@ abbrev pub expression_trees : List Expression → List Tree
 expression_trees parts = map expression_tree parts
 
 abbrev pub call_seen : Called → CallMade
-call_seen call = record { function = call.function; arguments = call.arguments }
+call_seen call = record { function = call.function; arguments = kinds (trees_in call.arguments.now) }
 
 abbrev pub calls_seen : List Called → List CallMade
 calls_seen calls = map call_seen calls

@@ -4,7 +4,7 @@ ghost use Rattle.std.specs.Prelude.{◌≡◌, [], ◌∷◌, ◌++◌, map, opt
 ghost use Rattle.std.specs.List.{flat_map};
 ghost use Rattle.basic_tree.specs.StatementViews.{statement_of, clause_of};
 ghost use Rattle.basic_tree.specs.TreeViews.{tree_of, target_of, printed_of, item_of, print_channel_of, close_channel_of, field_part_of, modifier_of};
-ghost use Rattle.program_model.specs.Parts.{given, printed_expression, modifier_expressions, expressions_in, expressions_in_clause, calls_in, calls_in_all, calls_made_in};
+ghost use Rattle.program_model.specs.Parts.{given, printed_expression, modifier_expressions, expressions_in, expressions_in_clause, kinds, calls_in, calls_in_all, calls_made_in};
 ghost use Rattle.lowering.specs.Parts.{expression_tree, expression_trees, call_seen, calls_seen};
 ghost use Rattle.lowering.specs.Texts.{trees_in};
 
@@ -22,15 +22,15 @@ pub enum Expression<'a> {
     Target(&'a Target),
 }
 
-/// A call: the function, and how many arguments it has.
+/// A call: the function, and its arguments.
 #[derive(Clone, Copy)]
-pub struct Called {
+pub struct Called<'a> {
     pub function: Name,
-    pub arguments: usize,
+    pub arguments: &'a [Expr],
 }
 
 /// The calls that stand in a statement.
-pub fn calls_made(alloc: Global, statement: &Statement) -> Result<Vec<Called>, NoMemory>
+pub fn calls_made(alloc: Global, statement: &Statement) -> Result<Vec<Called<'_>>, NoMemory>
     ensures { IfOk result (λ calls. calls_seen calls.items
         ≡ calls_made_in (statement_of statement.now)) }
 {
@@ -39,7 +39,7 @@ pub fn calls_made(alloc: Global, statement: &Statement) -> Result<Vec<Called>, N
     calls_of(alloc, &parts)
 }
 
-fn calls_of(alloc: Global, parts: &[Expression<'_>]) -> Result<Vec<Called>, NoMemory>
+fn calls_of<'a>(alloc: Global, parts: &[Expression<'a>]) -> Result<Vec<Called<'a>>, NoMemory>
     ensures { IfOk result (λ calls. calls_seen calls.items
         ≡ flat_map calls_in (expression_trees parts.now)) }
 {
@@ -58,7 +58,7 @@ fn calls_of(alloc: Global, parts: &[Expression<'_>]) -> Result<Vec<Called>, NoMe
 /// Adds the calls of an expression.
 #[cycle(calls)]
 #[tactic(auto, using(crate::proofs::Rows::views))]
-fn add_calls(calls: &mut Vec<Called>, e: &Expr) -> Result<(), NoMemory>
+fn add_calls<'a>(calls: &mut Vec<Called<'a>>, e: &'a Expr) -> Result<(), NoMemory>
     ensures { OnOk result (calls_seen calls.new.items
         ≡ calls_seen calls.old.items ++ calls_in (tree_of e.now)) }
 {
@@ -75,7 +75,7 @@ fn add_calls(calls: &mut Vec<Called>, e: &Expr) -> Result<(), NoMemory>
         },
         Expr::Function { arguments, .. } => add_all_calls(calls, arguments),
         Expr::Call { name, arguments } => {
-            add_call(calls, *name, arguments.len())?;
+            add_call(calls, *name, arguments)?;
             add_all_calls(calls, arguments)
         }
         Expr::Parenthesized(inner) => add_calls(calls, inner),
@@ -94,7 +94,7 @@ fn add_calls(calls: &mut Vec<Called>, e: &Expr) -> Result<(), NoMemory>
 }
 
 #[cycle(calls)]
-fn add_all_calls(calls: &mut Vec<Called>, all: &[Expr]) -> Result<(), NoMemory>
+fn add_all_calls<'a>(calls: &mut Vec<Called<'a>>, all: &'a [Expr]) -> Result<(), NoMemory>
     ensures { OnOk result (calls_seen calls.new.items
         ≡ calls_seen calls.old.items ++ calls_in_all (trees_in all.now)) }
 {
@@ -104,10 +104,14 @@ fn add_all_calls(calls: &mut Vec<Called>, all: &[Expr]) -> Result<(), NoMemory>
     Ok(())
 }
 
-fn add_call(calls: &mut Vec<Called>, function: Name, arguments: usize) -> Result<(), NoMemory>
+fn add_call<'a>(
+    calls: &mut Vec<Called<'a>>,
+    function: Name,
+    arguments: &'a [Expr],
+) -> Result<(), NoMemory>
     ensures { OnOk result (calls_seen calls.new.items
         ≡ calls_seen calls.old.items
-        ++ record { function = function; arguments = arguments } ∷ []) }
+        ++ record { function = function; arguments = kinds (trees_in arguments.now) } ∷ []) }
 {
     calls.push(Called {
         function,
@@ -116,7 +120,7 @@ fn add_call(calls: &mut Vec<Called>, function: Name, arguments: usize) -> Result
     Ok(())
 }
 
-fn add_target_calls(calls: &mut Vec<Called>, target: &Target) -> Result<(), NoMemory>
+fn add_target_calls<'a>(calls: &mut Vec<Called<'a>>, target: &'a Target) -> Result<(), NoMemory>
     ensures { OnOk result (calls_seen calls.new.items
         ≡ calls_seen calls.old.items ++ calls_in (target_of target.now)) }
 {

@@ -15,6 +15,7 @@ mod definitions;
 mod dims;
 mod emitted;
 mod expressions;
+mod kinds;
 mod listing;
 mod lookups;
 mod lowered;

@@ -1,4 +1,3 @@
-use Rattle.std.proofs.Common.{arith}
 use Rattle.std.proofs.lemmas.Result.{on_ok_weaker}
 use Rattle.lowering.proofs.CallLemmas.{function_calls, call_calls}
 use Rattle.lowering.proofs.calls.+calls.Goals as goal
@@ -9,4 +8,4 @@ add_calls-returns-in-Function t c =
 
 pub add_calls-returns-in_ok-add_call-in-Call : goal.add_calls-returns-in_ok-add_call-in-Call
 add_calls-returns-in_ok-add_call-in-Call t c =
-    on_ok_weaker _ (call_calls c.in-Call.name c.in-Call.arguments _ _ _ _ _ c.len.result (omega (arith, c.len.ensures, c.in-Call.arguments.ok.0)) c.deref-in-Call.ensures.value c.in-Call.is c.in_ok-add_call-in-Call.ensures) c.add_all_calls-in-Call.ensures
+    on_ok_weaker _ (call_calls c.in-Call.name c.in-Call.arguments _ _ _ _ _ _ c.deref-in-Call.ensures.value c.deref-in-Call-2.ensures.value c.in-Call.is c.in_ok-add_call-in-Call.ensures) c.add_all_calls-in-Call.ensures
