@@ -72,13 +72,16 @@ const UNFIT: Option<(u16, LowerCause)> = Some((40, LowerCause::Arguments));
 
 #[test]
 fn an_argument_has_the_kind_of_its_parameter(rt: HostRuntime) -> Result<(), Fail> {
-    for argument in NUMBERS {
-        assert_eq!(rt; (argument, told(rt.alloc(), "FNN%", argument)?), (argument, None));
-        assert_eq!(rt; (argument, told(rt.alloc(), "FNT%", argument)?), (argument, UNFIT));
-    }
-    for argument in TEXTS {
-        assert_eq!(rt; (argument, told(rt.alloc(), "FNT%", argument)?), (argument, None));
-        assert_eq!(rt; (argument, told(rt.alloc(), "FNN%", argument)?), (argument, UNFIT));
+    for (arguments, own, other) in [
+        (NUMBERS.as_slice(), "FNN%", "FNT%"),
+        (TEXTS.as_slice(), "FNT%", "FNN%"),
+    ] {
+        for argument in arguments {
+            let told_of_own = told(rt.alloc(), own, argument)?;
+            assert_eq!(rt; (*argument, told_of_own), (*argument, None));
+            let told_of_other = told(rt.alloc(), other, argument)?;
+            assert_eq!(rt; (*argument, told_of_other), (*argument, UNFIT));
+        }
     }
     Ok(())
 }
