@@ -122,6 +122,23 @@ fn a_refused_program_leaves_memory_cleared(rt: HostRuntime) -> Result<(), Fail> 
 }
 
 #[test]
+fn arguments_of_the_wrong_kind_stop_a_program_before_it_runs(rt: HostRuntime) -> Result<(), Fail> {
+    assert_lines(
+        &rt,
+        &[
+            ("10 PRINT 1%", ""),
+            ("20 DEF FNA%(X%)=X%", ""),
+            ("30 PRINT FNA%('12')", ""),
+            ("RUNNH", "?Wrong arguments at line 30\nReady\n"),
+            ("20 DEF FNA%(X$)=VAL(X$)", ""),
+            ("RUNNH", " 1 \n 12 \nReady\n"),
+            ("30 PRINT FNA%(12%)", ""),
+            ("RUNNH", "?Wrong arguments at line 30\nReady\n"),
+        ],
+    )
+}
+
+#[test]
 fn a_loop_goes_on_with_its_limits(rt: HostRuntime) -> Result<(), Fail> {
     assert_lines(
         &rt,

@@ -129,7 +129,7 @@ fn references_stay_in_their_body(rt: HostRuntime) -> Result<(), Fail> {
     check(&rt, rt.alloc(), &BODIES)
 }
 
-static LINES: [Row; 17] = [
+static LINES: [Row; 19] = [
     ([b"GOTO 10", b"", b"", b"", b"", b""], None),
     (
         [b"GOTO 15", b"END", b"", b"", b"", b""],
@@ -208,6 +208,14 @@ static LINES: [Row; 17] = [
     ),
     (
         [b"A%(FNA%)=1%", b"DEF FNA%(X%)=X%", b"", b"", b"", b""],
+        Some((10, LowerCause::Arguments)),
+    ),
+    (
+        [b"A%(FNA%('1'))=1%", b"DEF FNA%(X%)=X%", b"", b"", b"", b""],
+        Some((10, LowerCause::Arguments)),
+    ),
+    (
+        [b"DEF FNA$(X$)=FNA$(1%)", b"", b"", b"", b"", b""],
         Some((10, LowerCause::Arguments)),
     ),
 ];

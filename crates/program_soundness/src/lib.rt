@@ -13,6 +13,7 @@ mod bodies;
 mod calls;
 mod definitions;
 mod dims;
+mod kinds;
 mod listing;
 mod pairs;
 mod parts;

@@ -201,13 +201,13 @@ impl<'a> Listing<'a> {
         }
     }
 
-    /// How many there are.
-    pub fn parameter_count(&self, function: Name) -> usize
-        ensures { result ≡ length (parameters_of (text_of self.now) function) }
+    /// The parameters of a function as they stand in its DEF, none where it has none.
+    pub fn parameter_names(&self, function: Name) -> &[Name]
+        ensures { result.now ≡ parameters_of (text_of self.entry.now) function }
     {
         match self.def(function) {
-            Some(statement) => parameters_in(statement).len(),
-            None => 0,
+            Some(statement) => parameters_in(statement),
+            None => &[],
         }
     }
 

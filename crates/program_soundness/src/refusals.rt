@@ -13,6 +13,7 @@ ghost use Rattle.program_soundness.specs.Texts.{program_of};
 use crate::bodies::same_body;
 use crate::calls::{Called, calls_made};
 use crate::dims::{add_arrays, any_again};
+use crate::kinds::fits;
 use crate::listing::Listing;
 use crate::parts::{Simple, any_for_programs, any_handles, lines_named, simple_in};
 use crate::tables::Tables;
@@ -337,19 +338,19 @@ fn calls_undefined(
     Ok(any_undefined(listing, &calls))
 }
 
-fn any_undefined(listing: &Listing<'_>, calls: &[Called]) -> bool
+fn any_undefined(listing: &Listing<'_>, calls: &[Called<'_>]) -> bool
     ensures { result ≡ list_any (is_undefined (text_of listing.now)) (calls_seen calls.now) }
 {
     for call in calls {
-        if is_undefined(listing, *call) {
+        if is_undefined(listing, call) {
             return true;
         }
     }
     false
 }
 
-fn is_undefined(listing: &Listing<'_>, call: Called) -> bool
-    ensures { result ≡ is_undefined (text_of listing.now) (call_seen call) }
+fn is_undefined(listing: &Listing<'_>, call: &Called<'_>) -> bool
+    ensures { result ≡ is_undefined (text_of listing.now) (call_seen call.now) }
 {
     listing.def_of(call.function).is_none()
 }
@@ -366,21 +367,21 @@ fn calls_unfit(
     Ok(any_unfit(listing, &calls))
 }
 
-fn any_unfit(listing: &Listing<'_>, calls: &[Called]) -> bool
+fn any_unfit(listing: &Listing<'_>, calls: &[Called<'_>]) -> bool
     ensures { result ≡ list_any (is_unfit (text_of listing.now)) (calls_seen calls.now) }
 {
     for call in calls {
-        if is_unfit(listing, *call) {
+        if is_unfit(listing, call) {
             return true;
         }
     }
     false
 }
 
-fn is_unfit(listing: &Listing<'_>, call: Called) -> bool
-    ensures { result ≡ is_unfit (text_of listing.now) (call_seen call) }
+fn is_unfit(listing: &Listing<'_>, call: &Called<'_>) -> bool
+    ensures { result ≡ is_unfit (text_of listing.now) (call_seen call.now) }
 {
-    !is_undefined(listing, call) && call.arguments != listing.parameter_count(call.function)
+    !is_undefined(listing, call) && !fits(listing.parameter_names(call.function), call.arguments)
 }
 
 // DIM
