@@ -272,16 +272,6 @@ impl<'a> Listing<'a> {
     }
 
     /// The parameters of a function, none where it has no DEF.
-    pub fn parameters(&self, alloc: Global, function: Name) -> Result<Series<Name>, NoMemory>
-        ensures { IfOk result (λ names. names ≡ parameters_of (text_of self.now) function) }
-    {
-        match self.def(function) {
-            Some(statement) => copied(alloc, parameters_in(statement)),
-            None => copied(alloc, &[]),
-        }
-    }
-
-    /// The parameters of a function as they stand in its DEF, none where it has none.
     pub fn parameter_names(&self, function: Name) -> &[Name]
         ensures { result.now ≡ parameters_of (text_of self.entry.now) function }
     {
@@ -289,6 +279,13 @@ impl<'a> Listing<'a> {
             Some(statement) => parameters_in(statement),
             None => &[],
         }
+    }
+
+    /// A copy of them.
+    pub fn parameters(&self, alloc: Global, function: Name) -> Result<Series<Name>, NoMemory>
+        ensures { IfOk result (λ names. names ≡ parameters_of (text_of self.now) function) }
+    {
+        copied(alloc, self.parameter_names(function))
     }
 
     /// Where the body of a function begins, if it has a DEF.
