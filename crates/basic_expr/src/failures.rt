@@ -8,7 +8,7 @@ use basic_values::{NoMemory, Trouble};
 use std::alloc::{AllocError, AllocFailed};
 
 /// Why nothing was read. The place is that of a word, from 0.
-#[derive(Clone, Copy, Debug, PartialEq, Eq)]
+#[derive(Clone, Copy, PartialEq, Eq)]
 pub enum Failure {
     NoMemory,
     /// Nothing goes on with this word behind those before it.

@@ -18,7 +18,7 @@ use crate::words::{Word, Words};
 use basic_tree::{Keyword, Operator, Relation, Sign};
 
 /// What stands before an operand.
-#[derive(Clone, Copy, Debug, PartialEq, Eq)]
+#[derive(Clone, Copy, PartialEq, Eq)]
 pub enum Prefix {
     Minus,
     Plus,

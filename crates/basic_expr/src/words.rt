@@ -29,7 +29,7 @@ pub enum Word<'a> {
 }
 
 /// The words of a line, seen as the list of the grammar's words.
-#[derive(Debug, Drop)]
+#[derive(Drop)]
 pub struct Words<'a> {
     words: Vec<Word<'a>>,
 }

@@ -17,7 +17,7 @@ use basic_tree::{Keyword, Modifier, Statement, Want};
 use std::alloc::Global;
 
 /// Which modifier a word begins.
-#[derive(Clone, Copy, Debug, PartialEq, Eq)]
+#[derive(Clone, Copy, PartialEq, Eq)]
 pub(crate) enum Modifying {
     If,
     Unless,

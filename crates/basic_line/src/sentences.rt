@@ -9,7 +9,7 @@ use basic_expr::{Word, Words};
 use basic_tree::Keyword;
 
 /// Where a statement may stand.
-#[derive(Clone, Copy, Debug, PartialEq, Eq)]
+#[derive(Clone, Copy, PartialEq, Eq)]
 pub enum Class {
     /// An IF: in clauses too, and without modifiers.
     Choice,

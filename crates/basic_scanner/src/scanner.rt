@@ -13,7 +13,7 @@ use std::alloc::Global;
 use std::marker::Model;
 
 /// A token: its sort, the place of its first byte in the line, and its bytes, a slice of the line.
-#[derive(Clone, Copy, Debug)]
+#[derive(Clone, Copy)]
 pub struct Token<'a> {
     pub kind: TokenKind,
     pub start: u16,
@@ -21,7 +21,7 @@ pub struct Token<'a> {
 }
 
 /// The tokens of a line.
-#[derive(Debug, Drop)]
+#[derive(Drop)]
 pub struct Tokens<'a> {
     tokens: Vec<Token<'a>>,
 }

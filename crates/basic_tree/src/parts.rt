@@ -16,7 +16,7 @@ pub enum Target {
 }
 
 /// An array of DIM and its greatest subscripts.
-#[derive(Clone, Copy, Debug, PartialEq, Eq)]
+#[derive(Clone, Copy, PartialEq, Eq)]
 pub struct Shape {
     pub name: Name,
     pub first: u16,
@@ -24,7 +24,7 @@ pub struct Shape {
 }
 
 /// An array of `DIM #`. A text array may have the size of its elements in bytes.
-#[derive(Clone, Copy, Debug, PartialEq, Eq)]
+#[derive(Clone, Copy, PartialEq, Eq)]
 pub struct FileShape {
     pub shape: Shape,
     pub size: Option<u16>,
@@ -45,7 +45,7 @@ pub enum Printed {
 }
 
 /// What stands behind an item of PRINT, or behind the prompt of INPUT.
-#[derive(Clone, Copy, Debug, PartialEq, Eq)]
+#[derive(Clone, Copy, PartialEq, Eq)]
 pub enum Separator {
     Comma,
     Semicolon,
@@ -73,7 +73,7 @@ pub struct ChainLine {
 }
 
 /// How OPEN opens its file.
-#[derive(Clone, Copy, Debug, PartialEq, Eq)]
+#[derive(Clone, Copy, PartialEq, Eq)]
 pub enum OpenFor {
     Input,
     Output,

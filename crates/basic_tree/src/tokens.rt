@@ -156,7 +156,7 @@ pub struct Refusal {
 }
 
 /// What stands at the front of the rest of a line.
-#[derive(Clone, Copy, Debug, PartialEq, Eq)]
+#[derive(Clone, Copy, PartialEq, Eq)]
 pub enum Front {
     /// A space or a tab.
     Blank,

@@ -8,7 +8,7 @@ use deck_model::{DeckCause, DeckFault};
 use std::alloc::{AllocError, AllocFailed};
 
 /// Why a line was not taken.
-#[derive(Clone, Copy, Debug)]
+#[derive(Clone, Copy)]
 pub(crate) enum ReadError {
     Memory,
     Refused(DeckCause),

@@ -82,7 +82,7 @@ fn take_some<S: Source>(source: &mut S, chunk: &mut [u8], most: usize) -> Took
 }
 
 /// A sink failed.
-#[derive(Clone, Copy, Debug, PartialEq, Eq)]
+#[derive(Clone, Copy, PartialEq, Eq)]
 pub struct SinkFault;
 
 /// Gives all the bytes, the first line as a piece of its own.

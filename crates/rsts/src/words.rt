@@ -5,7 +5,7 @@ ghost use Rattle.deck_model.specs.Words.{asked};
 ghost use Rattle.rsts.specs.AskedSeen.{asked_seen};
 
 /// What the words ask for.
-#[derive(Clone, Copy, Debug, PartialEq, Eq)]
+#[derive(Clone, Copy, PartialEq, Eq)]
 pub(crate) enum Asked {
     /// A run, with the text of its history or without.
     Run(bool),

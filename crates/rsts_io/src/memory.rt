@@ -12,7 +12,7 @@ use std::alloc::Global;
 use std::marker::Model;
 
 /// A source of given bytes. It counts its calls, from 1, and fails those that it was told.
-#[derive(Debug, Drop)]
+#[derive(Drop)]
 pub struct MemorySource {
     bytes: Vec<u8>,
     at: usize,
@@ -88,7 +88,7 @@ impl Source for MemorySource {
 
 /// A sink that keeps what it is given. It counts its calls, from 1, and fails those that it was
 /// told, and where its room of 16 MiB is full.
-#[derive(Debug, Drop)]
+#[derive(Drop)]
 pub struct MemorySink {
     kept: Vec<u8>,
     failing: Vec<u64>,

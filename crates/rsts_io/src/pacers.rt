@@ -10,7 +10,7 @@ pub trait Pacer {
 }
 
 /// The pacer that does nothing.
-#[derive(Clone, Copy, Debug)]
+#[derive(Clone, Copy)]
 pub struct IdlePacer;
 
 impl Pacer for IdlePacer {

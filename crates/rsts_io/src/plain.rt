@@ -12,7 +12,7 @@ use std::alloc::Global;
 use std::marker::Model;
 
 /// A source of given bytes, which never fails.
-#[derive(Debug, Drop)]
+#[derive(Drop)]
 pub struct PlainSource {
     bytes: Vec<u8>,
     at: usize,
@@ -62,7 +62,7 @@ impl Source for PlainSource {
 }
 
 /// A sink that keeps what it is given. It fails where its room of 16 MiB is full, and counts that.
-#[derive(Debug, Drop)]
+#[derive(Drop)]
 pub struct PlainSink {
     kept: Vec<u8>,
     faults: u64,
