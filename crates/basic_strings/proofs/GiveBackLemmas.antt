@@ -14,12 +14,13 @@ use Rattle.std.proofs.lemmas.List.{get_or_append_left, length-append, take_all, 
 use Rattle.std.proofs.lemmas.List.Sums.{suffix_len_is}
 use Rattle.std.proofs.Math.Seq.{get_or-append_seam}
 use Rattle.std.proofs.lemmas.Str.Parse.{digit_at}
+use Rattle.basic_values.specs.declared.errors.TheConstants.{ILLEGAL_NUMBER, INTEGER_ERROR}
 use Rattle.basic_values.specs.Blanks.{is_blank, without_front_blanks, without_end_blanks}
 use Rattle.basic_values.specs.Laws.{IsInRange}
 use Rattle.basic_values.specs.Numbers.{low_bits, signed, printed}
 use Rattle.basic_strings.specs.Cuts.{place_given, left_of, right_of}
 use Rattle.basic_strings.specs.Pairs.{pair_of, number_in}
-use Rattle.basic_strings.specs.Readings.{without_blanks, size_spelled, with_sign, number_spelled, is_in_range, judged, illegal_number, integer_error, value_read}
+use Rattle.basic_strings.specs.Readings.{without_blanks, size_spelled, with_sign, number_spelled, is_in_range, judged, value_read}
 use Rattle.basic_strings.proofs.SizeLemmas.{size_of_digits}
 
 -- ---- two bytes
@@ -157,9 +158,9 @@ is_in_range-true (negsuc n) within = lt-ltb n 32768 (omega (arith, ints, within.
 read_back : (text : List ℕ) (z : ℤ) → IsInRange z → without_blanks text ≡ signed_decimal z → value_read text ≡ Ok z
 unfolding value_read
 read_back text z within core =
-    ap (λ t. judged illegal_number (number_spelled t)) core
-    ∙ ap (judged illegal_number) (number_spelled-signed z within)
-    ∙ ap (λ b. cond b (Ok z) (Err integer_error)) (is_in_range-true z within)
+    ap (λ t. judged ILLEGAL_NUMBER (number_spelled t)) core
+    ∙ ap (judged ILLEGAL_NUMBER) (number_spelled-signed z within)
+    ∙ ap (λ b. cond b (Ok z) (Err INTEGER_ERROR)) (is_in_range-true z within)
 
 pub reading_gives_back : (z : ℤ) → IsInRange z → value_read (signed_decimal z) ≡ Ok z
 reading_gives_back z within =

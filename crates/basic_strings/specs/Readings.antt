@@ -2,6 +2,7 @@
 use Rattle.std.specs.Prelude.{ℕ, ◌-◌, ◌==◌, nat_lt, Bool, true, false, if◌then◌else◌, List, [], ◌∷◌, length, take, ℤ, pos, negsuc, neg_ℤ, Option, Some, None, option_map, Result, Ok, Err, slice_index}
 use Rattle.std.specs.Str.{all_ascii_digits}
 use Rattle.std.specs.Str.Parse.{digits_value}
+use Rattle.basic_values.specs.declared.errors.TheConstants.{DATA_FORMAT_ERROR, ILLEGAL_NUMBER, INTEGER_ERROR}
 use Rattle.basic_values.specs.Blanks.{without_front_blanks, without_end_blanks}
 
 -- the text without the blanks around it
@@ -37,25 +38,15 @@ abbrev pub is_in_range : ℤ → Bool
 is_in_range (pos n) = nat_lt n 32768
 is_in_range (negsuc n) = nat_lt n 32768
 
--- the numbers of the errors: out of 16 bits; no number, for VAL; no number, for INPUT and READ
-abbrev pub integer_error : ℕ
-integer_error = 51
-
-abbrev pub illegal_number : ℕ
-illegal_number = 52
-
-abbrev pub data_format_error : ℕ
-data_format_error = 50
-
 -- the number where there is one of 16 bits, else the error
 abbrev pub judged : ℕ → Option ℤ → Result ℤ ℕ
 judged no_number None = Err no_number
-judged no_number (Some z) = if is_in_range z then Ok z else Err integer_error
+judged no_number (Some z) = if is_in_range z then Ok z else Err INTEGER_ERROR
 
 -- what VAL gives: blanks around, a sign or none, digits
 unfoldable pub value_read : List ℕ → Result ℤ ℕ
-value_read text = judged illegal_number (number_spelled (without_blanks text))
+value_read text = judged ILLEGAL_NUMBER (number_spelled (without_blanks text))
 
 -- what INPUT and READ take for a number: a sign or none, digits, a percent sign or none
 unfoldable pub item_read : List ℕ → Result ℤ ℕ
-item_read text = judged data_format_error (number_spelled (without_percent text))
+item_read text = judged DATA_FORMAT_ERROR (number_spelled (without_percent text))

@@ -3,16 +3,8 @@
 ghost use Rattle.std.specs.Prelude.{◌≡◌, min, option_map};
 ghost use Rattle.basic_strings.specs.Readings.{value_read, item_read, judged, number_spelled, size_spelled, with_sign, without_blanks};
 
+use basic_values::errors::{DATA_FORMAT_ERROR, ILLEGAL_NUMBER, INTEGER_ERROR};
 use basic_values::{Fault, Int, without_end_blanks, without_front_blanks};
-
-/// The error of a number of INPUT or READ that is none.
-const DATA_FORMAT_ERROR: u8 = 50;
-
-/// The error of a number of more than 16 bits.
-const INTEGER_ERROR: u8 = 51;
-
-/// The error of a number of VAL that is none.
-const ILLEGAL_NUMBER: u8 = 52;
 
 /// The least size that no number of 16 bits has, with either sign.
 const BEYOND_SIZE: u32 = 32769;

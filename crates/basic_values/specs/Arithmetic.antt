@@ -1,5 +1,6 @@
 -- What the operators give on whole numbers of 16 bits.
 use Rattle.std.specs.Prelude.{ℕ, zero, suc, ◌+◌, ◌/◌, ◌%◌, ◌==◌, if◌then◌else◌, ℤ, pos, negsuc, ◌*ℤ◌, neg_ℤ, Result, Ok, Err}
+use Rattle.basic_values.specs.declared.errors.TheConstants.{DIVISION_BY_ZERO}
 use Rattle.basic_values.specs.Numbers.{wrap}
 
 -- the product of so many factors that are all this number, over the whole numbers; of none it is 1
@@ -28,11 +29,7 @@ truncated (pos a) (negsuc b) = neg_ℤ (pos (a / (b + 1)))
 truncated (negsuc a) (pos b) = neg_ℤ (pos ((a + 1) / b))
 truncated (negsuc a) (negsuc b) = pos ((a + 1) / (b + 1))
 
--- the number of the error of a division by 0
-abbrev pub division_by_zero : ℕ
-division_by_zero = 61
-
 -- the quotient, wrapped; or the number of the error
 abbrev pub quotient : ℤ → ℤ → Result ℤ ℕ
-quotient a (pos zero) = Err division_by_zero
+quotient a (pos zero) = Err DIVISION_BY_ZERO
 quotient a b = Ok (wrap (truncated a b))

@@ -4,11 +4,9 @@ ghost use Rattle.std.specs.Prelude.{◌≡◌, ◌-ℤ◌, ◌*ℤ◌, neg_ℤ};
 ghost use Rattle.basic_values.specs.Numbers.{wrap};
 ghost use Rattle.basic_values.specs.Arithmetic.{power, quotient};
 
+use crate::errors::DIVISION_BY_ZERO;
 use crate::failures::Fault;
 use crate::integers::Int;
-
-/// The error of a division by 0.
-const DIVISION_BY_ZERO: u8 = 61;
 
 impl Int {
     /// The difference, wrapped. The manual's `-`.

@@ -1,16 +1,19 @@
 //! The values of BASIC-PLUS: whole numbers of 16 bits, texts as bytes, lists, and the ways in which
 //! a call fails. It stands on no crate of the house, and every other may use it.
-//! `Int` carries the arithmetic, `compare` the order of texts, `fronts` what a text begins with,
+//! `Int` carries the arithmetic, `compare` the order of texts, `fronts` what a text begins with, `errors` and
+//! `limits` the numbers that code and definitions cite by name,
 //! `Series` each list that a contract sees, and `laws` what a user relies on.
 #![tactic(auto)]
 
 mod arithmetic;
 mod bits;
 mod decimals;
+pub mod errors;
 mod failures;
 mod fronts;
 mod integers;
 pub mod laws;
+pub mod limits;
 mod lists;
 mod messages;
 mod texts;
