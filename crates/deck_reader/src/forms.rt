@@ -5,10 +5,10 @@ ghost use Rattle.std.specs.List.{list_all};
 ghost use Rattle.std.specs.Char.{is_ascii_digit};
 ghost use Rattle.deck_model.specs.Forms.{Disk, Account, File, Terminal, is_numeral, is_name};
 ghost use Rattle.deck_model.specs.Reading.{disk_in, texts_in, account_in, stem_before, extension_behind, file_texts_in, are_file_texts, file_in, terminal_in, groups_in, contents_in, session_in};
-ghost use Rattle.text_cuts.specs.Cuts.{Finds, cut};
+ghost use Rattle.basic_values.specs.Cuts.{Finds, cut};
 ghost use Rattle.deck_reader.specs.Seen.{texts_seen, extension_seen, file_texts_seen, group_seen, contents_seen, session_seen};
 
-use text_cuts::{behind, cut};
+use basic_values::{behind, cut};
 
 /// The texts of an account's fields.
 #[derive(Clone, Copy)]
