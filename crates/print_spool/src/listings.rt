@@ -35,7 +35,13 @@ pub fn printed(
 fn count_listings(history: &[Entry]) -> usize
     ensures { result ≡ length (listings history.now) }
 {
-    history.iter().filter(|entry| begins(entry)).count()
+    let mut count = 0;
+    for entry in history {
+        if begins(entry) {
+            count += 1;
+        }
+    }
+    count
 }
 
 /// Writes the listings that begin in these entries.
