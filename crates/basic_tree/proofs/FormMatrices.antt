@@ -10,7 +10,7 @@ use Rattle.basic_tree.specs.declared.kinds.Want.TheVariants as want
 use Rattle.basic_tree.specs.SpellingWords.{Key}
 use Rattle.basic_tree.specs.Trees.{Tree, UsingItemTree, MatrixTree, Zero, One, Identity, Copy, Sum, Difference, Product, Scaled, Transposed, PrintUsing, MatRead, MatPrint, MatLet}
 use Rattle.basic_tree.specs.SpellingParts.{optional, each, has_value}
-use Rattle.basic_tree.specs.MachinePieces.{Piece, Expression, NameOf, ArePieces, key, sign_piece, text}
+use Rattle.basic_tree.specs.MachinePieces.{Piece, Expression, ArePieces, sign_piece, text}
 use Rattle.basic_tree.specs.MachineParts.{using_item, using_values, array, matrix}
 use Rattle.basic_tree.specs.MachineStatements.{pieces_of}
 use Rattle.basic_tree.specs.MachineStack.{Value, Stated, NameItem, Arrays, ExprOf, MoreUsing}
