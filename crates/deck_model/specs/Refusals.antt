@@ -58,8 +58,8 @@ abbrev pub passes_quota : List AccountEntry → List model.File → model.File �
 passes_quota accounts files file =
     let owned = blocks_in_by files file.name.owner + file.blocks in
     list_any
-        (λ (entry : AccountEntry). same_account entry.account file.name.owner && nat_lt entry.quota owned)
-        accounts
+    (λ (entry : AccountEntry). same_account entry.account file.name.owner && nat_lt entry.quota owned)
+    accounts
 
 -- an account has to stand before its files, and the disk and its quota to have their blocks
 abbrev pub filing_causes : Deck → model.File → List (Bool × DeckCause)

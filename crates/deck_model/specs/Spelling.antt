@@ -79,7 +79,7 @@ IsQuota Two blocks quota = Unit {0}
 pub record IsDeckIn (version : Version) (deck : Deck) : Type 0 where
   pub is_deck : IsDeck deck
   pub quotas :
-    AllByRecursion (λ (entry : AccountEntry). IsQuota version deck.blocks entry.quota) deck.accounts
+      AllByRecursion (λ (entry : AccountEntry). IsQuota version deck.blocks entry.quota) deck.accounts
 
 -- the lines of the bytes are those of the deck in some version, and nothing stands behind them
 pub record Spelled (bytes : List ℕ) (deck : Deck) : Type 0 where
