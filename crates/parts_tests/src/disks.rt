@@ -63,7 +63,7 @@ fn page_of(alloc: Global, byte: u8) -> Result<Page, NoMemory> {
     Ok(page)
 }
 
-fn told(answer: Result<(), Trouble<Fault>>) -> Told {
+fn answered(answer: Result<(), Trouble<Fault>>) -> Told {
     match answer {
         Ok(()) => Told::Done,
         Err(Trouble::Refused(fault)) => Told::Refused(fault.number()),
@@ -90,10 +90,10 @@ impl Files {
 
     fn told_behind(&mut self, step: Step) -> Told {
         match step {
-            Step::Create(named, code) => told(self.disk.create(self.name(named), code)),
+            Step::Create(named, code) => answered(self.disk.create(self.name(named), code)),
             Step::Write(named, block, byte) => self.write(named, block, byte),
             Step::Read(named, block) => self.read(named, block),
-            Step::Remake(named, code) => told(self.disk.remake(&self.name(named), code)),
+            Step::Remake(named, code) => answered(self.disk.remake(&self.name(named), code)),
             Step::Remove(named) => self.remove(named),
             Step::Size(named) => number(self.disk.size(&self.name(named))),
             Step::Code(named) => self.code(named),
@@ -103,7 +103,7 @@ impl Files {
 
     fn write(&mut self, named: Named, block: u16, byte: u8) -> Told {
         match page_of(self.alloc, byte) {
-            Ok(page) => told(self.disk.write(&self.name(named), block, &page)),
+            Ok(page) => answered(self.disk.write(&self.name(named), block, &page)),
             Err(_) => Told::NoMemory,
         }
     }

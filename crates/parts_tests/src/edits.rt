@@ -19,7 +19,7 @@ enum Put {
     NoMemory,
 }
 
-fn put(text: &mut ProgramText, number: u16, rest: &[u8]) -> Put {
+fn line_put(text: &mut ProgramText, number: u16, rest: &[u8]) -> Put {
     match text.put_line(number, rest) {
         Ok(()) => Put::Done,
         Err(Trouble::Refused(refusal)) => refused(refusal),
@@ -53,7 +53,7 @@ static STORED: [(u16, &[u8], &[u8]); 7] = [
 
 fn first_wrong_store(text: &mut ProgramText) -> Result<Option<usize>, Fail> {
     for (place, (number, rest, listing)) in STORED.iter().enumerate() {
-        if put(text, *number, rest) != Put::Done || !lists(text, 1, 32767, listing)? {
+        if line_put(text, *number, rest) != Put::Done || !lists(text, 1, 32767, listing)? {
             return Ok(Some(place));
         }
     }
@@ -88,7 +88,7 @@ static RANGES: [(u16, u16, &[u8], &[u8]); 6] = [
 fn three_lines(alloc: Global) -> Option<ProgramText> {
     let mut text = ProgramText::new(alloc);
     for number in [30, 10, 20] {
-        if put(&mut text, number, b"!") != Put::Done {
+        if line_put(&mut text, number, b"!") != Put::Done {
             return None;
         }
     }
@@ -139,8 +139,8 @@ static REFUSED: [(u16, Option<&[u8]>, Put); 8] = [
 /// Whether a text of one line is answered so, and keeps its line.
 fn is_refused(alloc: Global, number: u16, rest: &[u8], answer: Put) -> Result<bool, Fail> {
     let mut text = ProgramText::new(alloc);
-    let is_put = put(&mut text, 10, b" STOP") == Put::Done;
-    let is_refused = put(&mut text, number, rest) == answer;
+    let is_put = line_put(&mut text, 10, b" STOP") == Put::Done;
+    let is_refused = line_put(&mut text, number, rest) == answer;
     Ok(is_put && is_refused && lists(&text, 1, 32767, b"10 STOP\r\n")?)
 }
 
@@ -169,7 +169,7 @@ fn refused_lines_change_nothing(rt: HostRuntime) -> Result<(), Fail> {
 fn comment(alloc: Global, number: u16, length: usize) -> Result<Put, Fail> {
     let mut text = ProgramText::new(alloc);
     let rest = vec![in alloc; b'!'; length]?;
-    Ok(put(&mut text, number, &rest))
+    Ok(line_put(&mut text, number, &rest))
 }
 
 #[test]
@@ -188,7 +188,7 @@ fn a_line_has_255_bytes_with_its_number(rt: HostRuntime) -> Result<(), Fail> {
 fn full_text(alloc: Global) -> Option<ProgramText> {
     let mut text = ProgramText::new(alloc);
     for number in 1..=1000 {
-        if put(&mut text, number, b"!") != Put::Done {
+        if line_put(&mut text, number, b"!") != Put::Done {
             return None;
         }
     }
@@ -208,7 +208,7 @@ static BEYOND: [(u16, &[u8], Put); 7] = [
 
 fn first_wrong_beyond(text: &mut ProgramText) -> Option<usize> {
     for (place, (number, rest, answer)) in BEYOND.iter().enumerate() {
-        if put(text, *number, rest) != *answer {
+        if line_put(text, *number, rest) != *answer {
             return Some(place);
         }
     }

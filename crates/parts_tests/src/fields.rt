@@ -10,9 +10,9 @@ use std::alloc::Global;
 use std::test::Fail;
 
 /// The widths of three parts, and the offset and the length of each.
-type Layout = ([i16; 3], Option<[(u16, u16); 3]>);
+type Widths = ([i16; 3], Option<[(u16, u16); 3]>);
 
-static LAYOUTS: [Layout; 6] = [
+static LAYOUTS: [Widths; 6] = [
     ([4, 6, 0], Some([(0, 4), (4, 6), (10, 0)])),
     ([512, 0, 0], Some([(0, 512), (512, 0), (512, 0)])),
     ([0, 0, 512], Some([(0, 0), (0, 0), (0, 512)])),
@@ -39,7 +39,7 @@ fn are_at(parts: &[Part], places: &[(u16, u16)]) -> bool {
             .all(|(part, place)| (part.offset, part.length) == *place)
 }
 
-fn is_laid_out(alloc: Global, row: &Layout) -> Result<bool, Fail> {
+fn is_laid_out(alloc: Global, row: &Widths) -> Result<bool, Fail> {
     match (parts_of(alloc, row.0)?, row.1) {
         (Some(parts), Some(places)) => Ok(are_at(parts.as_slice(), &places)),
         (None, None) => Ok(true),

@@ -15,7 +15,7 @@ fn read(text: &[u8]) -> Result<Spec, Fault> {
 }
 
 /// A text, and the parts that it names: the owner, the stem, the extension and the code.
-type Read = (
+type Parts = (
     &'static [u8],
     (u8, u8),
     &'static [u8],
@@ -23,7 +23,7 @@ type Read = (
     Option<u8>,
 );
 
-static READ: [Read; 8] = [
+static READ: [Parts; 8] = [
     (b"DEMO", (100, 5), b"DEMO", b"BAS", None),
     (b" d e\tmo ", (100, 5), b"DEMO", b"BAS", None),
     (b"sy:[1,0]a.b<0>", (1, 0), b"A", b"B", Some(0)),
@@ -40,7 +40,7 @@ static READ: [Read; 8] = [
     (b"SY:SY", (100, 5), b"SY", b"BAS", None),
 ];
 
-fn has_parts(row: &Read) -> bool {
+fn has_parts(row: &Parts) -> bool {
     match read(row.0) {
         Ok(spec) => {
             let owner = spec.name.owner;
@@ -53,7 +53,7 @@ fn has_parts(row: &Read) -> bool {
     }
 }
 
-fn first_wrong_parts(rows: &[Read]) -> Option<usize> {
+fn first_wrong_parts(rows: &[Parts]) -> Option<usize> {
     for (place, row) in rows.iter().enumerate() {
         if !has_parts(row) {
             return Some(place);
