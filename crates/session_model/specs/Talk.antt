@@ -20,12 +20,12 @@ use Rattle.session_model.specs.Commands.{Login, Naming, Nameless, Named, Misname
 use Rattle.job_model.specs.Play.{at_start, fuel_for, play, End, Gave, Broke, Finished, Played, told_by}
 use Rattle.job_model.specs.PlayLaws.{Begins}
 use Rattle.job_model.specs.Texts.{line_end, job_expired}
+use Rattle.job_model.specs.Ends.{at_ends}
 use Rattle.file_names.specs.declared.spec.Spec.{Spec}
 use Rattle.line_editor.specs.Lines.{Lines, within, without, listing}
 use Rattle.program_files.specs.declared.catalogs.TheConstants.{MOST_FILES}
 use Rattle.program_files.specs.Catalogs.{catalog_from}
 use Rattle.program_files.specs.Channels.{FileAct, kills}
-use Rattle.program_files.specs.Ends.{at_ends}
 use Rattle.program_files.specs.Programs.{reads_pages, writes_pages}
 use Rattle.program_model.specs.declared.refusals.LowerRefusal.{LowerRefusal}
 use Rattle.program_model.specs.Program.{Program, Position}
