@@ -1,10 +1,8 @@
-//! Texts cut at a byte, or behind what they begin with. It stands on
-//! `basic_values`, for numbers in a text. `specs/Cuts` says what a cut is; each call here finds
-//! what its cut finds, and `proofs/CutLaws` has it that what was put together is found again.
-#![tactic(auto)]
+//! Texts cut at a byte, or behind what they begin with. `specs/Cuts` says what a cut is; each call here finds what its
+//! cut finds, and `proofs/CutLaws` has it that what was put together is found again.
 
 ghost use Rattle.std.specs.Prelude.{◌≡◌, ◌<◌, ◌==◌, length, position, IfSome};
-ghost use Rattle.text_cuts.specs.Cuts.{behind, cut, Finds};
+ghost use Rattle.basic_values.specs.Cuts.{behind, cut, Finds};
 
 /// What stands behind a text that is looked for in front.
 pub fn behind<'a>(prefix: &[u8], text: &'a [u8]) -> Option<&'a [u8]>
@@ -23,7 +21,7 @@ pub fn cut(byte: u8, text: &[u8]) -> Option<(&[u8], &[u8])>
 }
 
 /// The place of the first such byte.
-pub fn place_of(byte: u8, text: &[u8]) -> Option<usize>
+fn place_of(byte: u8, text: &[u8]) -> Option<usize>
     ensures place { result ≡ position (λ b. b == byte) text.now }
     ensures within { IfSome result (λ at. at < length text.now) }
 {

@@ -3,8 +3,8 @@ use Rattle.std.proofs.Common.{◌≡◌, ℕ, ◌+◌, ◌-◌, Bool, true, fals
 use Rattle.std.specs.Prelude.{position}
 use Rattle.std.specs.List.{position_or_len, before_first, after_first}
 use Rattle.std.proofs.lemmas.List.{take_all}
-use Rattle.text_cuts.specs.Cuts.{cut}
-use Rattle.text_cuts.proofs.CutLaws.{guard_some}
+use Rattle.basic_values.specs.Cuts.{cut}
+use Rattle.basic_values.proofs.CutLaws.{guard_some}
 
 pub cut_found : (byte : ℕ) (text : List ℕ) (at : ℕ) → position (λ b. eqb b byte) text ≡ Some at → cut byte text ≡ Some (take at text, take (length text - (at + 1)) (drop (at + 1) text))
 cut_found byte text at e =

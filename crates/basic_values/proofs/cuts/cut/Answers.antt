@@ -1,6 +1,6 @@
 use Rattle.std.proofs.Common.{sym}
-use Rattle.text_cuts.proofs.PlaceLemmas.{cut_found, cut_missed}
-use Rattle.text_cuts.proofs.cut.Goals as goal
+use Rattle.basic_values.proofs.PlaceLemmas.{cut_found, cut_missed}
+use Rattle.basic_values.proofs.cuts.cut.Goals as goal
 
 pub returns-in_err-at-clause-parts : goal.returns-in_err-at-clause-parts
 returns-in_err-at-clause-parts c =

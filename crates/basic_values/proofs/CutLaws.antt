@@ -13,7 +13,7 @@ use Rattle.std.proofs.lemmas.List.Sums.{split_at_first, passes_at_first}
 use Rattle.std.specs.Int.{IsInRange}
 use Rattle.std.proofs.lemmas.Str.Parse.{digit_from_value}
 use Rattle.basic_values.specs.Decimals.{number_between}
-use Rattle.text_cuts.specs.Cuts.{◌>>=◌, behind, cut}
+use Rattle.basic_values.specs.Cuts.{◌>>=◌, behind, cut}
 
 -- the value of a step that did not fail
 pub bind_some : {A B : Type 0} (o : Option A) (f : A → Option B) (y : B) → (o >>= f) ≡ Some y → (x : A) × (o ≡ Some x) × (f x ≡ Some y)
