@@ -1,5 +1,5 @@
 //! Tests of the monitor's parts, by their public calls alone: accounts, protection, the disk, the
-//! message queues, the table of jobs, the interlock, and names of files.
+//! message queues, the table of jobs, the interlock, the printer, and names of files.
 #![tactic(auto)]
 
 #[cfg(test)]
@@ -11,7 +11,11 @@ mod names;
 #[cfg(test)]
 mod passwords;
 #[cfg(test)]
+mod printers;
+#[cfg(test)]
 mod queues;
+#[cfg(test)]
+mod records;
 #[cfg(test)]
 mod rights;
 #[cfg(test)]
