@@ -14,7 +14,7 @@ use Rattle.monitor_calls.specs.Volumes as volume
 use Rattle.monitor_calls.specs.Volumes.{same_account, is_good_file, are_files_apart, blocks_of, blocks_for, blocks_owned, are_in_quota, are_good_files}
 use Rattle.deck_model.specs.Files.{File, contents_of, pages_of, file_entry, has_file, blocks_in, blocks_by, blocks_in_by}
 use Rattle.deck_model.specs.Refusals.{passes_quota}
-use Rattle.text_cuts.proofs.CutLaws.{and_left, and_right, and_both}
+use Rattle.basic_values.proofs.CutLaws.{and_left, and_right, and_both}
 use Rattle.deck_model.proofs.VolumeLaws.{or_false, and_true, not_or, not_true, false_not, and_swap, or_none, account_same, account_turned, bytes_turned}
 
 -- ---- names

@@ -17,9 +17,9 @@ use Rattle.deck_model.specs.declared.versions.Version.TheVariants.{One, Two}
 use Rattle.deck_model.specs.Forms.{Form, Heading, Disk, Account, File, Terminal, Keys, End, AccountTexts, FileTexts, heading, quota_text, account_text, extension_text, file_text, line_of, is_numeral, is_numeral_or_none, is_name, is_formed}
 use Rattle.deck_model.specs.Fronts.{Front, Nothing, Versioned, InAccounts, InFile, InTerminal, Whole, MayTell, May}
 use Rattle.deck_model.specs.Refusals.{HasForm}
-use Rattle.text_cuts.specs.Cuts.{◌>>=◌, behind, cut}
+use Rattle.basic_values.specs.Cuts.{◌>>=◌, behind, cut}
 use Rattle.deck_model.specs.Reading.{or_else, version_in, disk_in, limits_in, texts_in, account_in, stem_before, extension_behind, file_texts_in, are_file_texts, file_in, terminal_in, keys_in, end_in, groups_in, contents_in, session_in, form_at}
-use Rattle.text_cuts.proofs.CutLaws.{bind_some, guard_some, and_left, and_right, and_both, behind_takes, Lacks, lacks_both, cut_takes, cut_again, cut_nowhere}
+use Rattle.basic_values.proofs.CutLaws.{bind_some, guard_some, and_left, and_right, and_both, behind_takes, Lacks, lacks_both, cut_takes, cut_again, cut_nowhere}
 
 -- ---- numerals and names
 

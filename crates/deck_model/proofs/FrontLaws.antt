@@ -25,7 +25,7 @@ use Rattle.deck_model.specs.Spelling.{quota_told, texts_of, account_line, extens
 use Rattle.deck_model.specs.Fronts.{Front, Nothing, Versioned, InAccounts, InFile, InTerminal, with_account, with_file, with_text, with_terminal, with_keys, bare_deck, front_lines, IsDeckIn, IsFront, MayTell, May, quota_from, entry_of, new_file, new_terminal, adds}
 use Rattle.deck_model.specs.Refusals.{is_quota, is_in_range, is_extension, is_file_in_range, passes_quota, first_cause, account_causes, file_causes, text_causes, terminal_causes, causes, shape_cause, HasForm, IsRefused}
 use Rattle.deck_model.specs.Reading.{form_at, unless_refused, behind_form, behind_line}
-use Rattle.text_cuts.proofs.CutLaws.{and_left, and_right, and_both, same_bytes}
+use Rattle.basic_values.proofs.CutLaws.{and_left, and_right, and_both, same_bytes}
 use Rattle.deck_model.proofs.FormLaws.{form_takes, form_again, decimal_numeral}
 use Rattle.deck_model.proofs.VolumeLaws.{GoodVolume, volume_parts, no_files, volume_whole, volume_push, owner_ranges, FitsIn, FitsAmong, terminals_push, terminals_last, terminals_front, all_append, all_front, all_back}
 use Rattle.deck_model.proofs.FileLaws.{files_parts, files_whole, files_front, files_push, files_last, FitsFile}

@@ -18,7 +18,7 @@ use Rattle.deck_model.specs.Spelling.{texts_of, account_line, file_texts, file_l
 use Rattle.deck_model.specs.Fronts.{Front, Nothing, Versioned, InAccounts, InFile, InTerminal, Whole, with_file, with_terminal, front_lines, IsDeckIn, IsFront, May, new_file, new_terminal, adds}
 use Rattle.deck_model.specs.Refusals.{first_cause, file_causes, causes, StopsAt, Refused}
 use Rattle.deck_model.specs.Reading.{behind_line, Verdict, Spells, Refuses, at_end, onwards, reading, verdict}
-use Rattle.text_cuts.proofs.CutLaws.{and_right}
+use Rattle.basic_values.proofs.CutLaws.{and_right}
 use Rattle.deck_model.proofs.VolumeLaws.{GoodVolume, volume_parts, volume_whole, volume_front, volume_last, FitsAmong, terminals_front, terminals_last, all_front}
 use Rattle.deck_model.proofs.FileLaws.{files_parts, files_whole, files_front}
 use Rattle.deck_model.proofs.FrontLaws.{Follows, adds_front, Takes, line_behind, line_takes, line_refuses, refused_behind, account_none, terminal_none, written, TakenFile, file_taken, deck_last, heading_behind, disk_behind}

@@ -12,7 +12,7 @@ use Rattle.monitor_calls.specs.declared.files.FileEntry.{FileEntry}
 use Rattle.monitor_calls.specs.Names.{is_password}
 use Rattle.monitor_calls.specs.Volumes.{same_account, has_account, are_apart, is_between, is_good_entry, are_good_accounts, are_in_quota, are_good_files, is_good_volume}
 use Rattle.deck_model.specs.Deck.{Terminal, IsTerminal, AreTerminals, has_terminal, are_named_apart}
-use Rattle.text_cuts.proofs.CutLaws.{and_left, and_right, and_both}
+use Rattle.basic_values.proofs.CutLaws.{and_left, and_right, and_both}
 
 -- ---- tests
 

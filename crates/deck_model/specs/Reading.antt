@@ -1,6 +1,6 @@
 -- Reading the lines of a deck in their order. No promise of the program speaks of it.
 use Rattle.std.specs.Prelude.{ℕ, ◌+◌, Bool, ◌&&◌, if◌then◌else◌, List, [], ◌∷◌, Option, Some, None, Result, Ok, Err, unwrap_or, bytes_eq, codes}
-use Rattle.text_cuts.specs.Cuts.{◌>>=◌, behind, cut}
+use Rattle.basic_values.specs.Cuts.{◌>>=◌, behind, cut}
 use Rattle.deck_model.specs.declared.faults.DeckCause.{DeckCause}
 use Rattle.deck_model.specs.declared.faults.DeckCause.TheVariants as cause
 use Rattle.deck_model.specs.declared.versions.Version.{Version}

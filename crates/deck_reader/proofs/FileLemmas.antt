@@ -18,8 +18,8 @@ use Rattle.deck_model.specs.Fronts.{Front, InFile, new_file}
 use Rattle.deck_model.specs.declared.versions.Version.{Version}
 use Rattle.deck_model.specs.Refusals.{is_file_in_range, passes_quota, first_cause, filing_causes, file_causes}
 use Rattle.deck_model.specs.Reading.{unless_refused}
-use Rattle.text_cuts.proofs.CutLaws.{guard_some}
-use Rattle.text_cuts.proofs.PlaceLemmas.{missed}
+use Rattle.basic_values.proofs.CutLaws.{guard_some}
+use Rattle.basic_values.proofs.PlaceLemmas.{missed}
 use Rattle.deck_model.proofs.FileLaws.{length-pages}
 use Rattle.deck_reader.specs.Filed.{file_of}
 use Rattle.deck_reader.specs.Seen.{is_filed, is_over}

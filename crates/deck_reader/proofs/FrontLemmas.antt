@@ -14,7 +14,7 @@ use Rattle.deck_model.specs.Forms.{Account, File, Keys, AccountTexts, FileTexts}
 use Rattle.deck_model.specs.Fronts.{Front, InAccounts, InFile, InTerminal, with_account, with_file, with_text, with_terminal, entry_of, new_file, new_terminal}
 use Rattle.deck_model.specs.Refusals.{is_in_range, first_cause, account_causes, file_causes, text_causes, terminal_causes}
 use Rattle.deck_model.specs.Reading.{groups_in, contents_in, session_in, form_at, unless_refused, behind_form, behind_line}
-use Rattle.text_cuts.proofs.PlaceLemmas.{missed}
+use Rattle.basic_values.proofs.PlaceLemmas.{missed}
 use Rattle.deck_model.proofs.FormLaws.{form_takes}
 use Rattle.deck_reader.specs.Filed.{has_line_feed}
 use Rattle.deck_reader.specs.declared.decks.Terminal.{Terminal}

@@ -5,7 +5,7 @@ ghost use Rattle.monitor_calls.specs.Volumes.{same_account, has_account, blocks_
 ghost use Rattle.deck_model.specs.Files.{text_of, pages_of, file_entry};
 ghost use Rattle.deck_model.specs.Fronts as model;
 ghost use Rattle.deck_model.specs.Refusals.{is_extension, is_file_in_range};
-ghost use Rattle.text_cuts.specs.Cuts.{Finds};
+ghost use Rattle.basic_values.specs.Cuts.{Finds};
 ghost use Rattle.deck_reader.specs.Filed.{file_of, has_line_feed};
 ghost use Rattle.deck_reader.specs.Seen.{option_seen, file_texts_seen, open_of, is_filed};
 

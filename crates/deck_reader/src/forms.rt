@@ -5,11 +5,11 @@ ghost use Rattle.std.specs.List.{list_all};
 ghost use Rattle.std.specs.Char.{is_ascii_digit};
 ghost use Rattle.deck_model.specs.Forms.{Heading, Disk, Account, File, Terminal, is_numeral, is_numeral_or_none, is_name};
 ghost use Rattle.deck_model.specs.Reading.{version_in, disk_in, limits_in, texts_in, account_in, stem_before, extension_behind, file_texts_in, are_file_texts, file_in, terminal_in, groups_in, contents_in, session_in};
-ghost use Rattle.text_cuts.specs.Cuts.{Finds, cut};
+ghost use Rattle.basic_values.specs.Cuts.{Finds, cut};
 ghost use Rattle.deck_reader.specs.Seen.{texts_seen, option_seen, file_texts_seen, group_seen, contents_seen, session_seen};
 
 use deck_model::Version;
-use text_cuts::{behind, cut};
+use basic_values::{behind, cut};
 
 /// The texts of an account's fields; its quota where version 2 tells it.
 #[derive(Clone, Copy)]
