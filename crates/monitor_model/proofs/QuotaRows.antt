@@ -1,6 +1,6 @@
 -- Quotas, worked out: on a disk of 8 blocks, and by whose quota a file grows.
-use Rattle.std.proofs.Common.{◌≡◌, ℕ, Bool, true, false, List, [], ◌∷◌, replicate, refl, Some, None}
-use Rattle.std.specs.Prelude.{Option, codes}
+use Rattle.std.proofs.Common.{◌≡◌, ℕ, true, false, List, [], ◌∷◌, replicate, refl, Some, None}
+use Rattle.std.specs.Prelude.{codes}
 use Rattle.std.specs.FinMap.{empty}
 use Rattle.monitor_calls.specs.declared.names.Account.{Account}
 use Rattle.monitor_calls.specs.declared.volumes.AccountEntry.{AccountEntry}
@@ -10,12 +10,11 @@ use Rattle.monitor_calls.specs.declared.calls.Request.TheVariants.{OpenFile, Put
 use Rattle.monitor_calls.specs.declared.calls.Reply.TheVariants.{Done, Opened, Failed}
 use Rattle.monitor_calls.specs.FileNames.{same_name}
 use Rattle.monitor_calls.specs.Volumes.{is_good_entry, is_good_volume}
-use Rattle.monitor_model.specs.declared.entries.ChannelEntry.{ChannelEntry}
 use Rattle.monitor_model.specs.Allows.{allows}
 use Rattle.monitor_model.specs.Files.{written}
 use Rattle.monitor_model.specs.Jobs.{account_of, calls_of, channel_of, count, set_channel}
 use Rattle.monitor_model.specs.Holds.{HoldMap, release}
-use Rattle.monitor_model.specs.State.{State, opening}
+use Rattle.monitor_model.specs.State.{State}
 use Rattle.monitor_model.specs.Answer.{may, free, left_to, answer}
 use Rattle.monitor_model.proofs.HoldLemmas.{holder-empty, holder-release}
 use Rattle.monitor_model.proofs.FileRows.{owner, fellow, operator, name, block, with_file, working, at}

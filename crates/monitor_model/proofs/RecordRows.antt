@@ -1,12 +1,12 @@
 -- Records of several blocks, worked out: a file of 4 blocks, and two channels that are open on it for update.
-use Rattle.std.proofs.Common.{◌≡◌, ℕ, true, List, [], ◌∷◌, refl, Some, None}
+use Rattle.std.proofs.Common.{◌≡◌, ℕ, List, [], ◌∷◌, refl, Some, None}
 use Rattle.std.specs.FinMap.{empty}
-use Rattle.monitor_calls.specs.declared.calls.Request.TheVariants.{Get, GetRecord, PutRecord, Unlock}
+use Rattle.monitor_calls.specs.declared.calls.Request.TheVariants.{GetRecord, PutRecord, Unlock}
 use Rattle.monitor_calls.specs.declared.calls.Reply.TheVariants.{Done, Record, Failed}
 use Rattle.monitor_calls.specs.FileNames.{same_name}
 use Rattle.monitor_calls.specs.Pages.{zeros}
 use Rattle.monitor_model.specs.Files.{written, pages_of}
-use Rattle.monitor_model.specs.Jobs.{account_of, calls_of, channel_of, count, set_channel}
+use Rattle.monitor_model.specs.Jobs.{account_of, calls_of, channel_of, count}
 use Rattle.monitor_model.specs.Holds.{HoldMap, holder, hold, release}
 use Rattle.monitor_model.specs.State.{State}
 use Rattle.monitor_model.specs.Answer.{answer}
