@@ -1,5 +1,7 @@
 //! The printer: who has it, and what is printed.
 
+ghost use Rattle.std.specs.Prelude.{◌≡◌};
+
 use basic_values::{Fault, Text};
 use monitor_calls::{Entry, Reply, Request, TerminalName};
 use print_spool::{Printer, printed};
