@@ -42,13 +42,15 @@ fn first_wrong(alloc: Global, front: &[u8], rows: &[Row]) -> Result<Option<usize
     Ok(None)
 }
 
-static DECKS: [Row; 24] = [
+static DECKS: [Row; 27] = [
     (b"", 1, DeckCause::Cut),
     (b"RSTS-DECK 1", 1, DeckCause::Cut),
     (b"RSTS-DECK 1\n", 2, DeckCause::Cut),
     (b"RSTS-DECK 1\nDISK 8\nEND", 3, DeckCause::Cut),
     (b"RSTS-DECK 1\nDISK 8\nEND\nX", 4, DeckCause::Cut),
     (b"RSTS-DECK 9\n", 1, DeckCause::Version),
+    (b"RSTS-DECK 3\n", 1, DeckCause::Version),
+    (b"RSTS-DECK 2 \n", 1, DeckCause::Version),
     (b"\n", 1, DeckCause::Version),
     (b"RSTS-DECK 1\nDISK 007\n", 2, DeckCause::Shape),
     (b"RSTS-DECK 1\nDISK  8\n", 2, DeckCause::Shape),
@@ -76,6 +78,11 @@ static DECKS: [Row; 24] = [
     ),
     (
         b"RSTS-DECK 1\nDISK 8\nACCOUNT 100,5 demo 100\n",
+        3,
+        DeckCause::Shape,
+    ),
+    (
+        b"RSTS-DECK 1\nDISK 8\nACCOUNT 100,5 DEMO 100 1\n",
         3,
         DeckCause::Shape,
     ),
@@ -112,6 +119,42 @@ static DECKS: [Row; 24] = [
 #[test]
 fn each_cause_stands_at_its_line(rt: HostRuntime) -> Result<(), Fail> {
     let wrong = first_wrong(rt.alloc(), b"", &DECKS)?;
+    assert_eq!(rt; wrong, None);
+    Ok(())
+}
+
+static QUOTAS: [Row; 10] = [
+    (
+        b"ACCOUNT 100,5 DEMO 100 1\nFILE [100,5]A<60> 2\n",
+        4,
+        DeckCause::Space,
+    ),
+    (b"ACCOUNT 100,5 DEMO 100\n", 3, DeckCause::Shape),
+    (b"ACCOUNT 100,5 DEMO 100 16385\n", 3, DeckCause::Range),
+    (b"ACCOUNT 100,5 DEMO 100 01\n", 3, DeckCause::Shape),
+    (b"ACCOUNT 100,5 DEMO 100 \n", 3, DeckCause::Shape),
+    (b"ACCOUNT 100,5 DEMO 100 1 1\n", 3, DeckCause::Shape),
+    (b"ACCOUNT 100,5 DEMO 16385 1\n", 3, DeckCause::Range),
+    (
+        b"ACCOUNT 100,5 DEMO 100 0\nFILE [100,5]A<60> 0\nFILE [100,5]B<60> 1\n",
+        5,
+        DeckCause::Space,
+    ),
+    (
+        b"ACCOUNT 100,5 A 9 1\nACCOUNT 1,2 B 9 1\nFILE [100,5]A<60> 1\nFILE [1,2]A<60> 2\n",
+        6,
+        DeckCause::Space,
+    ),
+    (
+        b"ACCOUNT 100,5 DEMO 100 1\nFILE [100,6]A<60> 2\n",
+        4,
+        DeckCause::Owner,
+    ),
+];
+
+#[test]
+fn each_cause_of_a_quota_stands_at_its_line(rt: HostRuntime) -> Result<(), Fail> {
+    let wrong = first_wrong(rt.alloc(), b"RSTS-DECK 2\nDISK 8\n", &QUOTAS)?;
     assert_eq!(rt; wrong, None);
     Ok(())
 }

@@ -28,7 +28,8 @@ fn deck_told(alloc: Global, deck: &Deck) -> Result<Vec<u8>, Fail> {
 fn push_accounts(out: &mut Vec<u8>, alloc: Global, entries: &[AccountEntry]) -> Result<(), Fail> {
     for entry in entries {
         let (project, programmer) = (entry.account.project, entry.account.programmer);
-        let numbers = format!(in alloc; "{project},{programmer} {} ", entry.limit)?;
+        let (limit, quota) = (entry.limit, entry.quota);
+        let numbers = format!(in alloc; "{project},{programmer} {limit} {quota} ")?;
         out.extend_from_slice(numbers.as_bytes())?;
         out.extend_from_slice(entry.password.as_bytes())?;
         out.push(b'\n')?;
@@ -86,7 +87,8 @@ TERMINAL T1\n>HELLO 1,2\n>\nTERMINAL T2345678\n>A\r\r\nEND\n";
 
 #[test]
 fn a_deck_is_read(rt: HostRuntime) -> Result<(), Fail> {
-    let want = b"100 blocks\n1,2 50 PW3\n254,0 16384 A\nT1\n>HELLO 1,2\n>\nT2345678\n>A\r\n";
+    let want =
+        b"100 blocks\n1,2 50 100 PW3\n254,0 16384 100 A\nT1\n>HELLO 1,2\n>\nT2345678\n>A\r\n";
     let found = told(rt.alloc(), DECK)?;
     assert_eq!(rt; found.as_slice(), want.as_slice());
     Ok(())
@@ -104,7 +106,7 @@ const FILES: &[u8] = b"RSTS-DECK 1\nDISK 3\nACCOUNT 100,5 DEMO 9\nFILE [100,5]SU
 
 #[test]
 fn files_are_read_with_their_texts(rt: HostRuntime) -> Result<(), Fail> {
-    let want = b"3 blocks\n100,5 9 DEMO\n100,5 40 SUM.BAS\n10 PRINT 1%\r\n\r\n**100,5 0 B.\n";
+    let want = b"3 blocks\n100,5 9 3 DEMO\n100,5 40 SUM.BAS\n10 PRINT 1%\r\n\r\n**100,5 0 B.\n";
     let found = told(rt.alloc(), FILES)?;
     assert_eq!(rt; found.as_slice(), want.as_slice());
     Ok(())
@@ -114,7 +116,18 @@ fn files_are_read_with_their_texts(rt: HostRuntime) -> Result<(), Fail> {
 #[test]
 fn zeros_stand_behind_the_text_of_a_file(rt: HostRuntime) -> Result<(), Fail> {
     let deck = b"RSTS-DECK 1\nDISK 2\nACCOUNT 1,2 A 9\nFILE [1,2]B<0> 2\n>10 END\nEND\n";
-    let want = b"2 blocks\n1,2 9 A\n1,2 0 B.\n10 END\r\n**";
+    let want = b"2 blocks\n1,2 9 2 A\n1,2 0 B.\n10 END\r\n**";
+    let found = told(rt.alloc(), deck)?;
+    assert_eq!(rt; found.as_slice(), want.as_slice());
+    Ok(())
+}
+
+/// In version 2 an account has the quota that its line tells.
+#[test]
+fn quotas_are_read(rt: HostRuntime) -> Result<(), Fail> {
+    let deck = b"RSTS-DECK 2\nDISK 8\nACCOUNT 100,5 DEMO 9 1\nACCOUNT 1,2 A 1 16384\n\
+FILE [100,5]A<60> 1\nEND\n";
+    let want = b"8 blocks\n100,5 9 1 DEMO\n1,2 1 16384 A\n100,5 60 A.\n*";
     let found = told(rt.alloc(), deck)?;
     assert_eq!(rt; found.as_slice(), want.as_slice());
     Ok(())

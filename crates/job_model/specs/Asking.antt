@@ -1,5 +1,5 @@
 -- Asking: a request is made, and it goes on by what the reply counts as.
-use Rattle.std.specs.Prelude.{ℕ, ◌+◌, ◌-◌, Bool, true, false, not, ◌&&◌, nat_lt, nat_le, List, length, if◌then◌else◌}
+use Rattle.std.specs.Prelude.{ℕ, ◌+◌, ◌-◌, Bool, true, false, not, ◌&&◌, nat_lt, nat_le, length, if◌then◌else◌}
 use Rattle.basic_values.specs.declared.limits.TheConstants.{LONGEST_MESSAGE, MOST_BLOCKS, MOST_CALLS, MOST_JOBS}
 use Rattle.monitor_calls.specs.declared.calls.Request.{Request}
 use Rattle.monitor_calls.specs.declared.calls.Request.TheVariants.{Login, Logout, OpenFile, CloseFile, Get, Put, GetRecord, PutRecord, Unlock, Kill, Rename, Directory, Declare, Remove, Send, Receive, Sleep, Tick, Assign, Deassign, OpenPrinter, Print, ClosePrinter, Status}
