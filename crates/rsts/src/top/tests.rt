@@ -674,7 +674,8 @@ fn run_between_plain_ends<R: Threads + Wait + Sync>(
         → length input.now ≤ INPUT_LIMIT → ended.1.faults ≡ 0
         → HasRan ended.0 ⊎ (ended.0 ≡ Outcome.NoMemory)) }
 {
-    let words = words_of(alloc, &["run"])?;
+    let mut words = Vec::new(alloc);
+    words.push(String::from_str(alloc, "run")?)?;
     let mut source = PlainSource::new(alloc, input)?;
     let mut sink = PlainSink::new(alloc)?;
     let outcome = rsts_main(
