@@ -1,5 +1,5 @@
 //! Tests of the parts that wholes are made of, by their public calls alone: of the monitor
-//! accounts, protection, the disk, the message queues, the table of jobs, the interlock, and names
+//! accounts, protection, the disk, the message queues, the table of jobs, the interlock, the printer, and names
 //! of files; of a job its memory, record fields, trap, terminal line, and the text of a program.
 #![tactic(auto)]
 
@@ -24,7 +24,11 @@ mod names;
 #[cfg(test)]
 mod passwords;
 #[cfg(test)]
+mod printers;
+#[cfg(test)]
 mod queues;
+#[cfg(test)]
+mod records;
 #[cfg(test)]
 mod rights;
 #[cfg(test)]

@@ -6,19 +6,25 @@ use monitor_calls::{Account, AccountEntry};
 use std::alloc::Global;
 use std::test::Fail;
 
-fn entry(account: Account, password: &[u8], limit: u16) -> Result<AccountEntry, Fail> {
+fn entry(
+    account: Account,
+    password: &[u8],
+    limit: u16,
+    quota: u16,
+) -> Result<AccountEntry, Fail> {
     Ok(AccountEntry {
         account,
         password: short(password)?,
         limit,
+        quota,
     })
 }
 
 /// [100,5] with the password DEMO, and [1,2] with SYSTEM.
 fn table(alloc: Global) -> Result<AccountTable, Fail> {
     let entries = [
-        entry(account(100, 5), b"DEMO", 16384)?,
-        entry(account(1, 2), b"SYSTEM", 1)?,
+        entry(account(100, 5), b"DEMO", 16384, 16384)?,
+        entry(account(1, 2), b"SYSTEM", 1, 8)?,
     ];
     Ok(AccountTable::new(alloc, &entries)?)
 }
@@ -59,5 +65,13 @@ fn an_account_is_found_by_its_numbers_and_checked_by_its_password(
 ) -> Result<(), Fail> {
     let wrong = first_wrong(rt.alloc(), &ROWS)?;
     assert_eq!(rt; wrong, None);
+    Ok(())
+}
+
+#[test]
+fn a_quota_is_told_and_0_where_there_is_no_account(rt: HostRuntime) -> Result<(), Fail> {
+    let table = table(rt.alloc())?;
+    assert_eq!(rt; table.quota(account(1, 2)), 8);
+    assert_eq!(rt; table.quota(account(5, 100)), 0);
     Ok(())
 }

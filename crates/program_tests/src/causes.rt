@@ -1,6 +1,6 @@
 //! Each cause by itself, each pair of causes on one line and on two, and in immediate mode.
 
-use crate::read::{judged, judged_now};
+use crate::read::{Verdict, judged, judged_now};
 use program_model::LowerCause;
 use std::alloc::Global;
 use std::test::Fail;
@@ -32,48 +32,79 @@ fn joined(alloc: Global, first: &[u8], second: &[u8]) -> Result<Vec<u8>, Fail> {
     Ok(line)
 }
 
+fn first_wrong_by_itself(alloc: Global) -> Result<Option<usize>, Fail> {
+    for (place, (cause, line)) in ROWS.iter().enumerate() {
+        if judged(alloc, &[b"A%=1%", line, b"END"])? != Some((20, *cause)) {
+            return Ok(Some(place));
+        }
+    }
+    Ok(None)
+}
+
 #[test]
 fn each_cause_is_told_at_its_line(rt: HostRuntime) -> Result<(), Fail> {
-    for (cause, line) in ROWS {
-        let wanted = Some((20, cause));
-        assert_eq!(rt; judged(rt.alloc(), &[b"A%=1%", line, b"END"])?, wanted);
-    }
+    let wrong = first_wrong_by_itself(rt.alloc())?;
+    assert_eq!(rt; wrong, None);
     Ok(())
+}
+
+/// The first row whose line is judged otherwise in front of this row's or behind it, on one line.
+fn wrong_on_one_line(alloc: Global, row: usize) -> Result<Option<usize>, Fail> {
+    let (cause, line) = ROWS.get(row).ok_or("no row")?;
+    for (place, (other, behind)) in ROWS.iter().enumerate() {
+        let both = joined(alloc, line, behind)?;
+        let wanted = if row < place { *cause } else { *other };
+        if place != row && judged(alloc, &[both.as_slice()])? != Some((10, wanted)) {
+            return Ok(Some(place));
+        }
+    }
+    Ok(None)
 }
 
 #[test]
 fn the_first_cause_of_a_line_is_told(rt: HostRuntime) -> Result<(), Fail> {
-    for (first, (cause, line)) in ROWS.iter().enumerate() {
-        for (second, (other, behind)) in ROWS.iter().enumerate() {
-            if first != second {
-                let both = joined(rt.alloc(), line, behind)?;
-                let wanted = if first < second { *cause } else { *other };
-                assert_eq!(rt; judged(rt.alloc(), &[both.as_slice()])?, Some((10, wanted)));
-            }
-        }
+    for row in 0..ROWS.len() {
+        let wrong = wrong_on_one_line(rt.alloc(), row)?;
+        assert_eq!(rt; wrong, None, "row {row}");
     }
     Ok(())
+}
+
+/// The first row whose line is told behind this row's, where that stands one line before.
+fn wrong_on_two_lines(alloc: Global, row: usize) -> Result<Option<usize>, Fail> {
+    let (cause, line) = ROWS.get(row).ok_or("no row")?;
+    for (place, (_, behind)) in ROWS.iter().enumerate() {
+        if place != row && judged(alloc, &[*line, *behind])? != Some((10, *cause)) {
+            return Ok(Some(place));
+        }
+    }
+    Ok(None)
 }
 
 #[test]
 fn the_least_line_is_told(rt: HostRuntime) -> Result<(), Fail> {
-    for (first, (cause, line)) in ROWS.iter().enumerate() {
-        for (second, (_, behind)) in ROWS.iter().enumerate() {
-            if first != second {
-                let wanted = Some((10, *cause));
-                assert_eq!(rt; judged(rt.alloc(), &[*line, *behind])?, wanted);
-            }
-        }
+    for row in 0..ROWS.len() {
+        let wrong = wrong_on_two_lines(rt.alloc(), row)?;
+        assert_eq!(rt; wrong, None, "row {row}");
     }
     Ok(())
 }
 
+const IMMEDIATE: Verdict = Some((0, LowerCause::Immediate));
+
+fn first_not_immediate(alloc: Global) -> Result<Option<usize>, Fail> {
+    for (place, (_, line)) in ROWS.iter().enumerate() {
+        if judged_now(alloc, line)? != IMMEDIATE {
+            return Ok(Some(place));
+        }
+    }
+    Ok(None)
+}
+
 #[test]
 fn immediate_mode_has_one_cause(rt: HostRuntime) -> Result<(), Fail> {
-    for (_, line) in ROWS {
-        let wanted = Some((0, LowerCause::Immediate));
-        assert_eq!(rt; judged_now(rt.alloc(), line)?, wanted);
-    }
+    let wrong = first_not_immediate(rt.alloc())?;
+    assert_eq!(rt; wrong, None);
     Ok(())
 }
 
@@ -104,15 +135,19 @@ static NOW: [(&[u8], bool); 24] = [
     (b"NEXT I%", false),
 ];
 
+fn first_wrong_now(alloc: Global) -> Result<Option<usize>, Fail> {
+    for (place, (line, fits)) in NOW.iter().enumerate() {
+        let wanted = if *fits { None } else { IMMEDIATE };
+        if judged_now(alloc, line)? != wanted {
+            return Ok(Some(place));
+        }
+    }
+    Ok(None)
+}
+
 #[test]
 fn immediate_mode_refuses_what_belongs_to_programs(rt: HostRuntime) -> Result<(), Fail> {
-    for (line, fits) in NOW {
-        let wanted = if fits {
-            None
-        } else {
-            Some((0, LowerCause::Immediate))
-        };
-        assert_eq!(rt; (line, judged_now(rt.alloc(), line)?), (line, wanted));
-    }
+    let wrong = first_wrong_now(rt.alloc())?;
+    assert_eq!(rt; wrong, None);
     Ok(())
 }

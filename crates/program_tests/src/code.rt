@@ -2,9 +2,11 @@
 
 use crate::read::program_of;
 use basic_values::Trouble;
+use line_editor::ProgramText;
 use lowering::{loops_in_program, lower};
 use program_code::Code;
 use program_model::LowerRefusal;
+use std::alloc::Global;
 use std::test::Fail;
 
 /// The lines of a program, numbered 10 and 20; how many items it has, where line 20 begins, how
@@ -29,17 +31,43 @@ fn code_of(answer: Result<Code, Trouble<LowerRefusal>>) -> Result<Code, Fail> {
     }
 }
 
+/// How many items a code has, where its line 20 begins, and how many DATA items it has.
+fn counts(code: &Code) -> (usize, usize, usize) {
+    (code.items().len(), code.place_of(20), code.words().len())
+}
+
+/// Whether line 10 begins at the first item, and a line behind the last one at the end.
+fn has_ends(code: &Code) -> bool {
+    code.place_of(10) == 0 && code.place_of(30) == code.items().len()
+}
+
+fn is_coded(alloc: Global, row: &Row) -> Result<bool, Fail> {
+    let (lines, (items, second, words, loops)) = row;
+    let text = program_of(alloc, lines)?;
+    let code = code_of(lower(alloc, text.program()))?;
+    let is_counted = counts(&code) == (*items, *second, *words);
+    Ok(is_counted && has_ends(&code) && has_loops(alloc, &text, *loops))
+}
+
+fn has_loops(alloc: Global, text: &ProgramText, loops: usize) -> bool {
+    match loops_in_program(alloc, text.program()) {
+        Ok(found) => found == loops,
+        Err(_) => false,
+    }
+}
+
+fn first_wrong(alloc: Global) -> Result<Option<usize>, Fail> {
+    for (place, row) in ROWS.iter().enumerate() {
+        if !is_coded(alloc, row)? {
+            return Ok(Some(place));
+        }
+    }
+    Ok(None)
+}
+
 #[test]
 fn code_has_its_items(rt: HostRuntime) -> Result<(), Fail> {
-    for (lines, (items, second, words, loops)) in ROWS {
-        let text = program_of(rt.alloc(), &lines)?;
-        let code = code_of(lower(rt.alloc(), text.program()))?;
-        assert_eq!(rt; code.items().len(), items);
-        assert_eq!(rt; code.words().len(), words);
-        assert_eq!(rt; code.place_of(10), 0);
-        assert_eq!(rt; code.place_of(20), second);
-        assert_eq!(rt; code.place_of(30), items);
-        assert_eq!(rt; loops_in_program(rt.alloc(), text.program()), Ok(loops));
-    }
+    let wrong = first_wrong(rt.alloc())?;
+    assert_eq!(rt; wrong, None);
     Ok(())
 }

@@ -37,59 +37,105 @@ fn running(alloc: Global, shown: &[u8]) -> Result<Running, Fail> {
     })
 }
 
-fn division() -> Exit {
-    Exit::Fault(Fault::new(61))
+/// How a program ends, in few words.
+#[derive(Clone, Copy)]
+enum Why {
+    Division,
+    TooDeep,
+    Gone,
+    Ended,
+    Stopped,
+    StoppedInside,
 }
 
-fn stop() -> Exit {
-    Exit::Stopped(Spot::new(3, HOME))
+fn exit(why: Why) -> Exit {
+    match why {
+        Why::Division => Exit::Fault(Fault::new(61)),
+        Why::TooDeep => Exit::Halt(Halt::TooDeep),
+        Why::Gone => Exit::Gone,
+        Why::Ended => Exit::Ended,
+        Why::Stopped => Exit::Stopped(Spot::new(3, HOME)),
+        Why::StoppedInside => Exit::StoppedInside(HOME),
+    }
+}
+
+/// What a screen shows before, the end and its line, and what the screen shows then.
+type Ending = (&'static [u8], Why, u16, &'static [u8]);
+
+static ENDINGS: [Ending; 8] = [
+    (b"", Why::Division, 20, b"?Division by 0 at line 20\r\n"),
+    (b"AB", Why::Division, 0, b"AB\r\n?Division by 0\r\n"),
+    (
+        b"A\r\n",
+        Why::TooDeep,
+        32767,
+        b"A\r\n?Nested too deep at line 32767\r\n",
+    ),
+    (b"A", Why::Gone, 20, b"A\r\n?Job expired\r\n"),
+    (b"A", Why::Ended, 20, b"A"),
+    (b"A", Why::Stopped, 30, b"A\r\nStop at line 30\r\n"),
+    (b"", Why::Stopped, 1, b"Stop at line 1\r\n"),
+    (b"", Why::StoppedInside, 40, b"Stop at line 40\r\n"),
+];
+
+fn is_told(alloc: Global, ending: &Ending) -> Result<bool, Fail> {
+    let mut state = running(alloc, ending.0)?;
+    state.line = ending.2;
+    write_ending(&mut state, exit(ending.1))?;
+    Ok(state.screen.bytes() == ending.3)
+}
+
+fn first_wrong(alloc: Global) -> Result<Option<usize>, Fail> {
+    for (place, ending) in ENDINGS.iter().enumerate() {
+        if !is_told(alloc, ending)? {
+            return Ok(Some(place));
+        }
+    }
+    Ok(None)
 }
 
 #[test]
 fn endings_are_told_at_the_start_of_a_line(rt: HostRuntime) -> Result<(), Fail> {
-    let rows: [(&[u8], Exit, u16, &[u8]); 8] = [
-        (b"", division(), 20, b"?Division by 0 at line 20\r\n"),
-        (b"AB", division(), 0, b"AB\r\n?Division by 0\r\n"),
-        (
-            b"A\r\n",
-            Exit::Halt(Halt::TooDeep),
-            32767,
-            b"A\r\n?Nested too deep at line 32767\r\n",
-        ),
-        (b"A", Exit::Gone, 20, b"A\r\n?Job expired\r\n"),
-        (b"A", Exit::Ended, 20, b"A"),
-        (b"A", stop(), 30, b"A\r\nStop at line 30\r\n"),
-        (b"", stop(), 1, b"Stop at line 1\r\n"),
-        (b"", Exit::StoppedInside(HOME), 40, b"Stop at line 40\r\n"),
-    ];
-    for (shown, why, line, wanted) in rows {
-        let mut state = running(rt.alloc(), shown)?;
-        state.line = line;
-        write_ending(&mut state, why)?;
-        assert_eq!(rt; state.screen.bytes(), wanted);
-    }
+    let wrong = first_wrong(rt.alloc())?;
+    assert_eq!(rt; wrong, None);
     Ok(())
+}
+
+const A: Name = Name {
+    letter: b'A',
+    digit: None,
+    text: false,
+};
+
+/// A job in which a number, a handler and a place to return to are kept.
+fn kept(alloc: Global) -> Result<Running, Fail> {
+    let mut state = running(alloc, b"A")?;
+    if state.storage.set_number(A, Int::new(7)).is_err() {
+        return Err("the number is refused")?;
+    }
+    state.trap.handler = Some(100);
+    state.returns.push(Spot::new(3, HOME))?;
+    Ok(state)
+}
+
+/// Whether nothing is kept but the screen, and limits that let a FOR take no turn.
+fn is_cleared(state: &Running) -> bool {
+    state.storage.number(A) == Int::new(0)
+        && state.trap.handler == None
+        && state.returns.len() == 0
+        && state.item == 0
+        && state.screen.bytes() == b"A".as_slice()
+}
+
+fn has_limits(state: &Running) -> bool {
+    let limits = state.limits.as_slice();
+    limits.len() == 2 && limits[1].0 == Int::new(0) && limits[1].1 == Int::new(1)
 }
 
 #[test]
 fn a_program_begins_with_nothing_kept(rt: HostRuntime) -> Result<(), Fail> {
-    let mut state = running(rt.alloc(), b"A")?;
-    let name = Name {
-        letter: b'A',
-        digit: None,
-        text: false,
-    };
-    assert!(rt; state.storage.set_number(name, Int::new(7)).is_ok());
-    state.trap.handler = Some(100);
-    state.returns.push(Spot::new(3, HOME))?;
+    let mut state = kept(rt.alloc())?;
     clear(&mut state, 2)?;
-    assert_eq!(rt; state.storage.number(name), Int::new(0));
-    assert_eq!(rt; state.trap.handler, None);
-    assert_eq!(rt; state.returns.len(), 0);
-    assert_eq!(rt; state.item, 0);
-    assert_eq!(rt; state.screen.bytes(), b"A".as_slice());
-    assert_eq!(rt; state.limits.len(), 2);
-    assert_eq!(rt; state.limits[1].0, Int::new(0));
-    assert_eq!(rt; state.limits[1].1, Int::new(1));
+    assert!(rt; is_cleared(&state) && has_limits(&state));
     Ok(())
 }

@@ -85,26 +85,33 @@ fn is_taken(alloc: Global, line: &[u8]) -> Result<bool, Fail> {
     }
 }
 
+/// The first line that is of the stage where it is not to be, or the other way round.
+fn first_wrong(alloc: Global, lines: &[&[u8]], taken: bool) -> Result<Option<usize>, Fail> {
+    for (place, line) in lines.iter().enumerate() {
+        if is_taken(alloc, line)? != taken {
+            return Ok(Some(place));
+        }
+    }
+    Ok(None)
+}
+
 #[test]
 fn programs_and_functions_are_taken(rt: HostRuntime) -> Result<(), Fail> {
-    for line in TAKEN {
-        assert_eq!(rt; (line, is_taken(rt.alloc(), line)?), (line, true));
-    }
+    let wrong = first_wrong(rt.alloc(), &TAKEN, true)?;
+    assert_eq!(rt; wrong, None);
     Ok(())
 }
 
 #[test]
 fn channels_come_later(rt: HostRuntime) -> Result<(), Fail> {
-    for line in LATER_FORMS {
-        assert_eq!(rt; (line, is_taken(rt.alloc(), line)?), (line, false));
-    }
+    let wrong = first_wrong(rt.alloc(), &LATER_FORMS, false)?;
+    assert_eq!(rt; wrong, None);
     Ok(())
 }
 
 #[test]
 fn functions_of_channels_and_messages_come_later(rt: HostRuntime) -> Result<(), Fail> {
-    for line in LATER_FUNCTIONS {
-        assert_eq!(rt; (line, is_taken(rt.alloc(), line)?), (line, false));
-    }
+    let wrong = first_wrong(rt.alloc(), &LATER_FUNCTIONS, false)?;
+    assert_eq!(rt; wrong, None);
     Ok(())
 }

@@ -1,4 +1,6 @@
-//! Tests of lowering by its public calls alone: refusals with their lines and causes, and code.
+//! Tests of programs by public calls alone: how lowering refuses a program and what code it makes,
+//! the run of items by hand over a port that plays a script, the ways into a program, and which
+//! lines are of the stage.
 #![tactic(auto)]
 
 #[cfg(test)]
@@ -8,6 +10,12 @@ mod causes;
 #[cfg(test)]
 mod code;
 #[cfg(test)]
+mod endings;
+#[cfg(test)]
+mod forms;
+#[cfg(test)]
 mod read;
 #[cfg(test)]
 mod references;
+#[cfg(test)]
+mod runs;

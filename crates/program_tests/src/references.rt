@@ -3,7 +3,6 @@
 use crate::read::{Verdict, judged};
 use program_model::LowerCause;
 use std::alloc::Global;
-use std::process::Abort;
 use std::test::Fail;
 
 /// The lines of a program, numbered 10, 20 and so on, and what it is answered.
@@ -11,11 +10,13 @@ type Row = ([&'static [u8]; 6], Verdict);
 
 const ACROSS: LowerCause = LowerCause::AcrossBody;
 
-fn check<R: Abort>(rt: &R, alloc: Global, rows: &[Row]) -> Result<(), Fail> {
-    for (lines, wanted) in rows {
-        assert_eq!(rt; judged(alloc, lines.as_slice())?, *wanted);
+fn first_wrong(alloc: Global, rows: &[Row]) -> Result<Option<usize>, Fail> {
+    for (place, (lines, wanted)) in rows.iter().enumerate() {
+        if judged(alloc, lines.as_slice())? != *wanted {
+            return Ok(Some(place));
+        }
     }
-    Ok(())
+    Ok(None)
 }
 
 static BODIES: [Row; 14] = [
@@ -126,7 +127,9 @@ static BODIES: [Row; 14] = [
 
 #[test]
 fn references_stay_in_their_body(rt: HostRuntime) -> Result<(), Fail> {
-    check(&rt, rt.alloc(), &BODIES)
+    let wrong = first_wrong(rt.alloc(), &BODIES)?;
+    assert_eq!(rt; wrong, None);
+    Ok(())
 }
 
 static LINES: [Row; 19] = [
@@ -222,7 +225,9 @@ static LINES: [Row; 19] = [
 
 #[test]
 fn lines_arrays_and_functions_are_found(rt: HostRuntime) -> Result<(), Fail> {
-    check(&rt, rt.alloc(), &LINES)
+    let wrong = first_wrong(rt.alloc(), &LINES)?;
+    assert_eq!(rt; wrong, None);
+    Ok(())
 }
 
 static LOOPS: [Row; 10] = [
@@ -312,5 +317,7 @@ static LOOPS: [Row; 10] = [
 
 #[test]
 fn loops_and_bodies_are_closed(rt: HostRuntime) -> Result<(), Fail> {
-    check(&rt, rt.alloc(), &LOOPS)
+    let wrong = first_wrong(rt.alloc(), &LOOPS)?;
+    assert_eq!(rt; wrong, None);
+    Ok(())
 }

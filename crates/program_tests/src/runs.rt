@@ -9,8 +9,7 @@ use polish_code::Item;
 use program_code::Code;
 use program_model::Home;
 use record_fields::Buffers;
-use std::alloc::{AllocGlobal, Global};
-use std::process::Abort;
+use std::alloc::Global;
 use std::test::Fail;
 use terminal_line::{Keys, Screen};
 
@@ -65,112 +64,250 @@ fn ending(answer: Result<(), Trouble<Exit>>) -> &'static str {
     }
 }
 
-/// Runs these items from the first one on: how it ends, what it writes, and how often it asks.
-fn assert_run(
-    rt: &(impl AllocGlobal + Abort),
-    items: Vec<Item>,
-    replies: Vec<Reply>,
-    ended: &str,
-    written: &[u8],
+/// An item, in few words.
+#[derive(Clone, Copy)]
+enum Small {
+    /// The first item of the statement, what is behind it, and its line.
+    Start(u32, u32, u16),
+    /// The same where a body begins.
+    Arrive(u32, u32, u16),
+    Stop(u32, u32, u16),
+    Number(u16),
+    Plus,
+    LoadX,
+    /// A call of FNF% with the parameter X% or without, and its body's place.
+    Call(bool, u32),
+    PrintValue,
+    EndLine,
+    End,
+    Answer,
+    Skip,
+    Leave,
+    Jump,
+}
+
+fn item(alloc: Global, small: Small) -> Result<Item, Fail> {
+    match small {
+        Small::Start(start, behind, line) => Ok(Item::Start(home(start, behind, line))),
+        Small::Arrive(start, behind, line) => Ok(Item::Arrive(home(start, behind, line))),
+        Small::Stop(start, behind, line) => Ok(Item::Stop(home(start, behind, line))),
+        Small::Call(has_parameter, body) => call(alloc, has_parameter, body),
+        _ => Ok(plain(small)),
+    }
+}
+
+/// An item without a place of its own.
+fn plain(small: Small) -> Item {
+    match small {
+        Small::Number(number) => Item::Number(number),
+        Small::Plus => Item::Operate(Operator::Plus),
+        Small::LoadX => Item::Load(name(b'X')),
+        Small::PrintValue => Item::PrintValue,
+        Small::EndLine => Item::EndLine,
+        Small::Answer => Item::Answer,
+        Small::Skip => Item::Skip(0),
+        Small::Leave => Item::Leave,
+        Small::Jump => Item::Jump(0),
+        _ => Item::End,
+    }
+}
+
+fn call(alloc: Global, has_parameter: bool, body: u32) -> Result<Item, Fail> {
+    let mut parameters = Vec::new(alloc);
+    if has_parameter {
+        parameters.push(name(b'X'))?;
+    }
+    let count = parameters.len() as u32;
+    Ok(Item::Call {
+        function: name(b'F'),
+        parameters: Series::from_vec(parameters),
+        count,
+        body: Some(body),
+    })
+}
+
+fn items(alloc: Global, row: &[Small]) -> Result<Vec<Item>, Fail> {
+    let mut items = Vec::new(alloc);
+    for small in row {
+        items.push(item(alloc, *small)?)?;
+    }
+    Ok(items)
+}
+
+/// So many replies that let a job go on.
+fn done(alloc: Global, count: usize) -> Result<Vec<Reply>, Fail> {
+    let mut replies = Vec::new(alloc);
+    for _ in 0..count {
+        replies.push(Reply::Done)?;
+    }
+    Ok(replies)
+}
+
+/// What a run of items comes to.
+#[derive(Drop)]
+struct Ran {
+    ended: &'static str,
+    written: Vec<u8>,
     asked: usize,
-) -> Result<Running, Fail> {
-    let alloc = rt.alloc();
+    line: u16,
+    frames: usize,
+}
+
+/// Runs these items from the first one on, over a port with so many replies.
+fn ran(alloc: Global, items: Vec<Item>, replies: Vec<Reply>) -> Result<Ran, Fail> {
     let code = Code::new(items, Vec::new(alloc), Vec::new(alloc));
     let mut state = at_rest(alloc)?;
     let mut clock = Clock::new();
     let mut port = ScriptPort::new(alloc, replies);
     let answer = run(&code, 0, &mut state, &mut clock, &mut port);
-    assert_eq!(rt; ending(answer), ended);
-    assert_eq!(rt; state.screen.bytes(), written);
-    assert_eq!(rt; port.log().len(), asked);
-    Ok(state)
+    Ok(Ran {
+        ended: ending(answer),
+        written: state.screen.bytes().to_vec(alloc)?,
+        asked: port.log().len(),
+        line: state.line,
+        frames: state.frames.len(),
+    })
 }
+
+/// Items, how many replies there are, how the run ends, what it writes, how often it asks, and in
+/// which line it is then.
+type Row = (
+    &'static [Small],
+    usize,
+    &'static str,
+    &'static [u8],
+    usize,
+    u16,
+);
+
+/// Fails with how a run ended, unless it comes to this.
+fn expect(alloc: Global, row: &Row) -> Result<(), Fail> {
+    let ran = ran(alloc, items(alloc, row.0)?, done(alloc, row.1)?)?;
+    let is_written = ran.written.as_slice() == row.3;
+    if ran.ended == row.2 && is_written && (ran.asked, ran.line, ran.frames) == (row.4, row.5, 0) {
+        Ok(())
+    } else {
+        Err(Fail::from(ran.ended))
+    }
+}
+
+static SUM: Row = (
+    &[
+        Small::Start(0, 6, 10),
+        Small::Number(2),
+        Small::Number(3),
+        Small::Plus,
+        Small::PrintValue,
+        Small::EndLine,
+    ],
+    0,
+    "ended",
+    b" 5 \r\n",
+    0,
+    10,
+);
 
 #[test]
 fn a_sum_is_printed(rt: HostRuntime) -> Result<(), Fail> {
-    let items = vec![in rt.alloc();
-        Item::Start(home(0, 6, 10)),
-        Item::Number(2),
-        Item::Number(3),
-        Item::Operate(Operator::Plus),
-        Item::PrintValue,
-        Item::EndLine,
-    ]?;
-    let state = assert_run(&rt, items, Vec::new(rt.alloc()), "ended", b" 5 \r\n", 0)?;
-    assert_eq!(rt; state.line, 10);
-    Ok(())
+    expect(rt.alloc(), &SUM)
 }
 
-/// The items of a function of one line, the value of its parameter and one.
-fn call_of_one_more(alloc: Global, then: Item) -> Result<Vec<Item>, Fail> {
-    let parameters = vec![in alloc; name(b'X')]?;
-    let call = Item::Call {
-        function: name(b'F'),
-        parameters: Series::from_vec(parameters),
-        count: 1,
-        body: Some(6),
-    };
-    let items = vec![in alloc;
-        Item::Start(home(0, 5, 10)),
-        Item::Number(4),
-        call,
-        Item::PrintValue,
-        Item::EndLine,
-        Item::End,
-        Item::Arrive(home(6, 11, 20)),
-        Item::Load(name(b'X')),
-        Item::Number(1),
-        Item::Operate(Operator::Plus),
-        Item::Answer,
-        then,
-        Item::Leave,
-    ]?;
-    Ok(items)
-}
+/// A function of one line gives the value of its parameter and one.
+static CALLED: Row = (
+    &[
+        Small::Start(0, 5, 10),
+        Small::Number(4),
+        Small::Call(true, 6),
+        Small::PrintValue,
+        Small::EndLine,
+        Small::End,
+        Small::Arrive(6, 11, 20),
+        Small::LoadX,
+        Small::Number(1),
+        Small::Plus,
+        Small::Answer,
+        Small::Skip,
+        Small::Leave,
+    ],
+    0,
+    "ended",
+    b" 5 \r\n",
+    0,
+    10,
+);
 
 #[test]
 fn a_function_is_called(rt: HostRuntime) -> Result<(), Fail> {
-    let items = call_of_one_more(rt.alloc(), Item::Skip(0))?;
-    let state = assert_run(&rt, items, Vec::new(rt.alloc()), "ended", b" 5 \r\n", 0)?;
-    assert_eq!(rt; state.line, 10);
-    assert_eq!(rt; state.frames.len(), 0);
-    Ok(())
+    expect(rt.alloc(), &CALLED)
 }
+
+static STOPPED_INSIDE: Row = (
+    &[
+        Small::Start(0, 5, 10),
+        Small::Number(4),
+        Small::Call(true, 6),
+        Small::PrintValue,
+        Small::EndLine,
+        Small::End,
+        Small::Arrive(6, 11, 20),
+        Small::LoadX,
+        Small::Number(1),
+        Small::Plus,
+        Small::Answer,
+        Small::Stop(6, 11, 20),
+        Small::Leave,
+    ],
+    0,
+    "stopped inside",
+    b"",
+    0,
+    20,
+);
 
 #[test]
 fn it_stops_in_a_body(rt: HostRuntime) -> Result<(), Fail> {
-    let items = call_of_one_more(rt.alloc(), Item::Stop(home(6, 11, 20)))?;
-    let state = assert_run(&rt, items, Vec::new(rt.alloc()), "stopped inside", b"", 0)?;
-    assert_eq!(rt; state.line, 20);
-    assert_eq!(rt; state.frames.len(), 0);
-    Ok(())
+    expect(rt.alloc(), &STOPPED_INSIDE)
 }
+
+static STOPPED: Row = (
+    &[Small::Start(0, 2, 10), Small::Stop(0, 2, 10)],
+    0,
+    "stopped",
+    b"",
+    0,
+    10,
+);
 
 #[test]
 fn it_stops(rt: HostRuntime) -> Result<(), Fail> {
-    let items = vec![in rt.alloc(); Item::Start(home(0, 2, 10)), Item::Stop(home(0, 2, 10))]?;
-    assert_run(&rt, items, Vec::new(rt.alloc()), "stopped", b"", 0)?;
-    Ok(())
+    expect(rt.alloc(), &STOPPED)
 }
+
+static TOO_DEEP: Row = (
+    &[Small::Start(0, 2, 10), Small::Call(false, 1), Small::Leave],
+    0,
+    "too deep",
+    b"",
+    0,
+    10,
+);
 
 #[test]
 fn calls_end_too_deep(rt: HostRuntime) -> Result<(), Fail> {
-    let call = Item::Call {
-        function: name(b'F'),
-        parameters: Series::from_vec(Vec::new(rt.alloc())),
-        count: 0,
-        body: Some(1),
-    };
-    let items = vec![in rt.alloc(); Item::Start(home(0, 2, 10)), call, Item::Leave]?;
-    let state = assert_run(&rt, items, Vec::new(rt.alloc()), "too deep", b"", 0)?;
-    assert_eq!(rt; state.frames.len(), 0);
-    Ok(())
+    expect(rt.alloc(), &TOO_DEEP)
 }
+
+/// A job whose third Tick is not answered.
+static TICKS: Row = (
+    &[Small::Start(0, 2, 10), Small::Jump],
+    2,
+    "gone",
+    b"",
+    3,
+    10,
+);
 
 #[test]
 fn ticks_end_a_run(rt: HostRuntime) -> Result<(), Fail> {
-    let items = vec![in rt.alloc(); Item::Start(home(0, 2, 10)), Item::Jump(0)]?;
-    let replies = vec![in rt.alloc(); Reply::Done, Reply::Done]?;
-    assert_run(&rt, items, replies, "gone", b"", 3)?;
-    Ok(())
+    expect(rt.alloc(), &TICKS)
 }
