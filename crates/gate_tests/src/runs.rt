@@ -17,7 +17,7 @@ use std::test::Fail;
 use std::thread;
 use std::thread::Threads;
 use std::time::{Clock, Duration};
-use terminal_runner::run_jobs;
+use terminal_runner::{RunEnd, run_jobs};
 
 /// How many milliseconds a call waits for the first calls of the other jobs.
 const MOST_NAPS: u32 = 20_000;
@@ -112,6 +112,40 @@ impl<'a, R: Clock> Pacer for Together<'a, R> {
     }
 }
 
+/// How many entries of a run are a job's.
+fn entries_of(end: &RunEnd, job: u32) -> u64 {
+    let entries = end.run.as_slice().iter().filter(|entry| entry.job == job);
+    entries.count() as u64
+}
+
+/// How often the pacer was called before and after the calls of a job.
+fn calls_of<R: Clock>(pacer: &Together<'_, R>, job: u32) -> (u64, u64) {
+    match pacer.calls.get(job as usize) {
+        Some(calls) => (
+            calls.before.load(Ordering::SeqCst),
+            calls.after.load(Ordering::SeqCst),
+        ),
+        None => (0, 0),
+    }
+}
+
+/// Fails unless each of so many jobs made two calls, at each of which the pacer held it, and no job
+/// waited for the others in vain.
+fn expect_held<R: Clock>(pacer: &Together<'_, R>, end: &RunEnd, jobs: u32) -> Result<(), Fail> {
+    if pacer.late.load(Ordering::SeqCst) != 0 {
+        return Err("a job waited for the others in vain")?;
+    }
+    if end.screens.len() != jobs as usize {
+        return Err("another number of screens")?;
+    }
+    for job in 0..jobs {
+        if entries_of(end, job) != 2 || calls_of(pacer, job) != (2, 2) {
+            return Err("a job was not held at each of its calls")?;
+        }
+    }
+    Ok(())
+}
+
 /// Runs so many jobs, of which none makes its second call before each has made its first.
 fn run_together<R: Threads + Wait + Clock + Abort + Sync>(
     rt: &R,
@@ -129,23 +163,7 @@ fn run_together<R: Threads + Wait + Clock + Abort + Sync>(
     };
     let pacer = Together::new(rt, alloc, jobs)?;
     let end = run_jobs(rt, alloc, monitor, &body, jobs, &pacer)?;
-    assert!(rt;
-        pacer.late.load(Ordering::SeqCst) == 0,
-        "a job waited for the others in vain"
-    );
-    assert_eq!(rt; end.screens.len(), jobs as usize);
-    assert_eq!(rt; end.run.as_slice().len(), 2 * jobs as usize);
-    for (job, calls) in (0..jobs).zip(pacer.calls.iter()) {
-        let entries = end
-            .run
-            .as_slice()
-            .iter()
-            .filter(|entry| entry.job == job)
-            .count() as u64;
-        assert_eq!(rt; calls.before.load(Ordering::SeqCst), entries);
-        assert_eq!(rt; calls.after.load(Ordering::SeqCst), entries);
-    }
-    Ok(())
+    expect_held(&pacer, &end, jobs)
 }
 
 #[test]

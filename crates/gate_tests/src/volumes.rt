@@ -20,6 +20,7 @@ pub(crate) fn volume(alloc: Global) -> Result<Volume, Fail> {
         account: DEMO,
         password: password()?,
         limit: 100,
+        quota: 8,
     })?;
     Ok(Volume {
         blocks: 8,

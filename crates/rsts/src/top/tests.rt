@@ -6,10 +6,10 @@ ghost use Rattle.rsts.specs.Headline.{HasRan};
 use super::*;
 use crate::streams::INPUT_LIMIT;
 use crate::top::pacing::Together;
+use monitor_calls::RunRecord;
 use rsts_io::{IdlePacer, MemorySink, MemorySource, PlainSink, PlainSource, StdSink, StdSource};
 use std::io;
 use std::io::{Read, Write};
-use std::process::Abort;
 use std::sync::Wait;
 use std::test::Fail;
 use std::thread::Threads;
@@ -31,20 +31,25 @@ struct Ended {
     written: Vec<u8>,
 }
 
-/// Calls the program with a word and an input, over ends that fail at the listed calls.
-fn call<R: Threads + Wait + Sync>(
-    rt: &R,
-    alloc: Global,
-    word: &str,
-    input: &[u8],
-    failing_takes: &[u64],
-    failing_gifts: &[u64],
-) -> Result<Ended, Fail> {
-    call_with(rt, alloc, &[word], input, failing_takes, failing_gifts)
+/// What a call is to leave.
+#[derive(Clone, Copy)]
+struct Want<'a> {
+    status: u8,
+    line: &'a str,
+    written: &'a [u8],
 }
 
-/// The same with any words.
-fn call_with<R: Threads + Wait + Sync>(
+/// The words of a call.
+fn words_of(alloc: Global, asked: &[&str]) -> Result<Vec<String>, Fail> {
+    let mut words = Vec::new(alloc);
+    for word in asked {
+        words.push(String::from_str(alloc, word)?)?;
+    }
+    Ok(words)
+}
+
+/// Calls the program with words and an input, over ends that fail at the listed calls.
+fn call<R: Threads + Wait + Sync>(
     rt: &R,
     alloc: Global,
     asked: &[&str],
@@ -52,153 +57,205 @@ fn call_with<R: Threads + Wait + Sync>(
     failing_takes: &[u64],
     failing_gifts: &[u64],
 ) -> Result<Ended, Fail> {
-    let mut words = Vec::new(alloc);
-    for word in asked {
-        words.push(String::from_str(alloc, word)?)?;
-    }
+    let words = words_of(alloc, asked)?;
     let mut source = MemorySource::new(alloc, input, failing_takes)?;
     let mut sink = MemorySink::new(alloc, failing_gifts)?;
     let outcome = rsts_main(rt, alloc, &words, &mut source, &mut sink, &IdlePacer);
+    left(alloc, &outcome, sink.bytes())
+}
+
+fn left(alloc: Global, outcome: &Outcome, written: &[u8]) -> Result<Ended, Fail> {
     Ok(Ended {
         status: outcome.status(),
         line: String::from_utf8(outcome.line().as_slice().to_vec(alloc)?)?,
-        written: sink.bytes().to_vec(alloc)?,
+        written: written.to_vec(alloc)?,
     })
 }
 
-/// The front of a deck, and so many key bytes in a line.
-fn deck_with_keys(alloc: Global, count: usize) -> Result<Vec<u8>, Fail> {
-    let mut deck = HEAD.to_vec(alloc)?;
-    deck.push(b'>')?;
-    deck.resize(deck.len().saturating_add(count), b'A')?;
-    deck.extend_from_slice(b"\nEND\n")?;
-    Ok(deck)
+/// Fails with what was told or written, unless a call left this.
+fn expect(ended: Ended, want: Want<'_>) -> Result<(), Fail> {
+    if ended.written.as_slice() != want.written {
+        return Err(Fail::new(String::from_utf8(ended.written)?));
+    }
+    if ended.status != want.status || ended.line.as_str() != want.line {
+        return Err(Fail::new(ended.line));
+    }
+    Ok(())
 }
+
+/// A call over ends that never fail leaves this.
+fn expect_call<R: Threads + Wait + Sync>(
+    rt: &R,
+    alloc: Global,
+    asked: &[&str],
+    input: &[u8],
+    want: Want<'_>,
+) -> Result<(), Fail> {
+    expect(call(rt, alloc, asked, input, &[], &[])?, want)
+}
+
+/// What a call leaves that writes this and says nothing.
+fn good(written: &[u8]) -> Want<'_> {
+    Want {
+        status: 0,
+        line: "",
+        written,
+    }
+}
+
+/// What a call leaves that writes nothing.
+fn refused(status: u8, line: &str) -> Want<'_> {
+    Want {
+        status,
+        line,
+        written: b"",
+    }
+}
+
+const NO_KEYS: &[u8] = b"RSTS-DECK 1\nDISK 8\nACCOUNT 100,5 DEMO 100\nTERMINAL T1\nEND\n";
+
+/// The words of a call, an input, and what is written.
+type Good = (&'static [&'static str], &'static [u8], &'static [u8]);
+
+fn expect_all<R: Threads + Wait + Sync>(rt: &R, alloc: Global, rows: &[Good]) -> Result<(), Fail> {
+    for (words, input, written) in rows {
+        expect_call(rt, alloc, words, input, good(written))?;
+    }
+    Ok(())
+}
+
+static RUN_OR_CHECKED: [Good; 4] = [
+    (&["run"], FIRST_SUM, SUM_REPORT),
+    (&["run"], NO_KEYS, b"TERMINAL T1 0\n\n"),
+    (&["check"], FIRST_SUM, b"GOOD 1 0 1\n"),
+    (&["check"], NO_KEYS, b"GOOD 1 0 1\n"),
+];
 
 #[test]
 fn a_program_that_always_wants_memory_fails_these_rows(rt: HostRuntime) -> Result<(), Fail> {
-    let mut no_keys = HEAD.to_vec(rt.alloc())?;
-    no_keys.extend_from_slice(b"END\n")?;
-    let rows: [(&str, &[u8], &[u8]); 4] = [
-        ("run", FIRST_SUM, SUM_REPORT),
-        ("run", no_keys.as_slice(), b"TERMINAL T1 0\n\n"),
-        ("check", FIRST_SUM, b"GOOD 1 0 1\n"),
-        ("check", no_keys.as_slice(), b"GOOD 1 0 1\n"),
-    ];
-    for (word, input, want) in rows {
-        let ended = call(&rt, rt.alloc(), word, input, &[], &[])?;
-        assert_eq!(rt; ended.written.as_slice(), want);
-        assert_eq!(rt; ended.line.as_str(), "");
-        assert_eq!(rt; ended.status, 0);
+    expect_all(&rt, rt.alloc(), &RUN_OR_CHECKED)
+}
+
+const USAGE: &str = "usage: rsts run [--history] | check | drill N";
+
+static OTHER_WORDS: [&[&str]; 8] = [
+    &[""],
+    &["RUN"],
+    &["runs"],
+    &["check "],
+    &["drill"],
+    &[],
+    &["run", "run"],
+    &["check", "--history"],
+];
+
+#[test]
+fn other_words_are_told_the_usage(rt: HostRuntime) -> Result<(), Fail> {
+    for words in OTHER_WORDS.iter() {
+        let ended = call(&rt, rt.alloc(), words, FIRST_SUM, &[1], &[1])?;
+        expect(ended, refused(1, USAGE))?;
     }
     Ok(())
 }
 
-#[test]
-fn other_words_are_told_the_usage(rt: HostRuntime) -> Result<(), Fail> {
-    for word in ["", "RUN", "runs", "check ", "drill"] {
-        let ended = call(&rt, rt.alloc(), word, FIRST_SUM, &[1], &[1])?;
-        assert_eq!(rt; ended.status, 1);
-        assert_eq!(rt;
-            ended.line.as_str(),
-            "usage: rsts run [--history] | check | drill N"
-        );
-        assert_eq!(rt; ended.written.len(), 0);
-    }
-    let mut words = Vec::new(rt.alloc());
-    let mut source = MemorySource::new(rt.alloc(), FIRST_SUM, &[])?;
-    let mut sink = MemorySink::new(rt.alloc(), &[])?;
-    for _ in 0..3 {
-        let outcome = rsts_main(&rt, rt.alloc(), &words, &mut source, &mut sink, &IdlePacer);
-        assert_eq!(rt; outcome.status(), if words.len() == 1 { 0 } else { 1 });
-        words.push(String::from_str(rt.alloc(), "run")?)?;
-    }
-    Ok(())
+/// An input, the calls of its source that fail, and what is told of it.
+type Bad = (&'static [u8], &'static [u64], u8, &'static str);
+
+static BAD: [Bad; 5] = [
+    (b"", &[], 2, "deck line 1: input ends early"),
+    (
+        b"RSTS-DECK 9\nDISK 8\nACCOUNT 100,5 DEMO 100\nTERMINAL T1\nEND\n",
+        &[],
+        2,
+        "deck line 1: not a version 1 or 2 deck",
+    ),
+    (
+        b"RSTS-DECK 1\nDISK 8\nACCOUNT 100,5 DEMO 100\nTERMINAL T1\nTERMINAL T1\nEND\n",
+        &[],
+        2,
+        "deck line 5: name given twice",
+    ),
+    (FIRST_SUM, &[1], 3, "read fault"),
+    (FIRST_SUM, &[2], 3, "read fault"),
+];
+
+fn expect_bad<R: Threads + Wait + Sync>(
+    rt: &R,
+    alloc: Global,
+    input: &[u8],
+    failing: &[u64],
+    want: Want<'_>,
+) -> Result<(), Fail> {
+    expect(call(rt, alloc, &["run"], input, failing, &[])?, want)?;
+    expect(call(rt, alloc, &["check"], input, failing, &[])?, want)
+}
+
+/// A deck with so many key bytes in a line.
+fn expect_bad_keys<R: Threads + Wait + Sync>(
+    rt: &R,
+    alloc: Global,
+    count: usize,
+    want: Want<'_>,
+) -> Result<(), Fail> {
+    let keys = vec![in alloc; b'A'; count]?;
+    let mut deck = HEAD.to_vec(alloc)?;
+    deck.push(b'>')?;
+    deck.extend_from_slice(&keys)?;
+    deck.extend_from_slice(b"\nEND\n")?;
+    expect_bad(rt, alloc, deck.as_slice(), &[], want)
 }
 
 #[test]
 fn bad_input_is_refused_and_nothing_is_written(rt: HostRuntime) -> Result<(), Fail> {
-    let long_keys = deck_with_keys(rt.alloc(), 256)?;
-    let too_long = deck_with_keys(rt.alloc(), INPUT_LIMIT + 1 - HEAD.len() - 6)?;
-    let rows: [(&[u8], &[u64], u8, &str); 7] = [
-        (b"", &[], 2, "deck line 1: input ends early"),
-        (
-            b"RSTS-DECK 9\nDISK 8\nACCOUNT 100,5 DEMO 100\nTERMINAL T1\nEND\n",
-            &[],
-            2,
-            "deck line 1: not a version 1 or 2 deck",
-        ),
-        (
-            b"RSTS-DECK 1\nDISK 8\nACCOUNT 100,5 DEMO 100\nTERMINAL T1\nTERMINAL T1\nEND\n",
-            &[],
-            2,
-            "deck line 5: name given twice",
-        ),
-        (
-            long_keys.as_slice(),
-            &[],
-            2,
-            "deck line 5: number or text out of range",
-        ),
-        (too_long.as_slice(), &[], 4, "input too long"),
-        (FIRST_SUM, &[1], 3, "read fault"),
-        (FIRST_SUM, &[2], 3, "read fault"),
-    ];
-    for word in ["run", "check"] {
-        for (input, failing, status, line) in rows {
-            let ended = call(&rt, rt.alloc(), word, input, failing, &[])?;
-            assert_eq!(rt; ended.line.as_str(), line);
-            assert_eq!(rt; ended.status, status);
-            assert_eq!(rt; ended.written.len(), 0);
-        }
+    let alloc = rt.alloc();
+    for (input, failing, status, line) in BAD.iter() {
+        expect_bad(&rt, alloc, input, failing, refused(*status, line))?;
     }
-    Ok(())
+    let out_of_range = refused(2, "deck line 5: number or text out of range");
+    expect_bad_keys(&rt, alloc, 256, out_of_range)?;
+    let beyond = INPUT_LIMIT + 1 - HEAD.len() - 6;
+    expect_bad_keys(&rt, alloc, beyond, refused(4, "input too long"))
+}
+
+/// How many lines are whole in some bytes, and one.
+fn last_line(bytes: &[u8]) -> usize {
+    let whole = bytes.iter().filter(|b| **b == b'\n').count();
+    whole.saturating_add(1)
+}
+
+fn expect_cut<R: Threads + Wait + Sync>(rt: &R, alloc: Global, end: usize) -> Result<(), Fail> {
+    let bytes = &FIRST_SUM[..end.min(FIRST_SUM.len())];
+    let line = last_line(bytes);
+    let told = format!(in alloc; "deck line {line}: input ends early")?;
+    expect_call(rt, alloc, &["run"], bytes, refused(2, told.as_str()))
 }
 
 #[test]
 fn a_deck_that_is_cut_at_any_byte_is_refused(rt: HostRuntime) -> Result<(), Fail> {
     for end in 0..FIRST_SUM.len() {
-        let whole = FIRST_SUM[..end].iter().filter(|b| **b == b'\n').count();
-        let line = whole.saturating_add(1);
-        let want = format!(in rt.alloc(); "deck line {line}: input ends early")?;
-        let ended = call(&rt, rt.alloc(), "run", &FIRST_SUM[..end], &[], &[])?;
-        assert_eq!(rt; ended.status, 2, "cut at {end}");
-        assert_eq!(rt; ended.line.as_str(), want.as_str());
-        assert_eq!(rt; ended.written.len(), 0);
+        expect_cut(&rt, rt.alloc(), end)?;
     }
     Ok(())
 }
 
+/// The report of the first sum, and its history behind it.
+const SUM_HISTORY: &[u8] =
+    b"TERMINAL T1 60\nHELLO 100,5;DEMO\r\nReady\r\nPRINT 2%+3%\r\n 5 \r\nReady\r\nBYE\r\nBye\r\n\n\
+HISTORY 2\n0 LOGIN 100,5 44454d4f = DONE\n0 LOGOUT = DONE\n";
+
+static HISTORIES: [Good; 3] = [
+    (&["run", "--history"], FIRST_SUM, SUM_HISTORY),
+    (&["--history", "run"], FIRST_SUM, SUM_HISTORY),
+    (
+        &["run", "--history"],
+        NO_KEYS,
+        b"TERMINAL T1 0\n\nHISTORY 0\n",
+    ),
+];
+
 #[test]
 fn the_history_stands_behind_the_report(rt: HostRuntime) -> Result<(), Fail> {
-    let mut want = SUM_REPORT.to_vec(rt.alloc())?;
-    want.extend_from_slice(b"HISTORY 2\n0 LOGIN 100,5 44454d4f = DONE\n0 LOGOUT = DONE\n")?;
-    let mut no_keys = HEAD.to_vec(rt.alloc())?;
-    no_keys.extend_from_slice(b"END\n")?;
-    let rows: [(&[&str], &[u8], &[u8]); 3] = [
-        (&["run", "--history"], FIRST_SUM, want.as_slice()),
-        (&["--history", "run"], FIRST_SUM, want.as_slice()),
-        (
-            &["run", "--history"],
-            no_keys.as_slice(),
-            b"TERMINAL T1 0\n\nHISTORY 0\n",
-        ),
-    ];
-    for (words, input, want) in rows {
-        let ended = call_with(&rt, rt.alloc(), words, input, &[], &[])?;
-        assert_eq!(rt; ended.written.as_slice(), want);
-        assert_eq!(rt; ended.status, 0);
-    }
-    let ended = call_with(
-        &rt,
-        rt.alloc(),
-        &["check", "--history"],
-        FIRST_SUM,
-        &[],
-        &[],
-    )?;
-    assert_eq!(rt; ended.status, 1);
-    Ok(())
+    expect_all(&rt, rt.alloc(), &HISTORIES)
 }
 
 const TWO: &[u8] = b"RSTS-DECK 1\nDISK 8\nACCOUNT 100,5 DEMO 100\nACCOUNT 1,2 SYS 50\n\
@@ -207,8 +264,44 @@ TERMINAL T1\n>HELLO 100,5;DEMO\n>BYE\nTERMINAL T2\n>HELLO 1,2;SYS\n>BYE\nEND\n";
 const TWO_REPORT: &[u8] = b"TERMINAL T1 35\nHELLO 100,5;DEMO\r\nReady\r\nBYE\r\nBye\r\n\n\
 TERMINAL T2 32\nHELLO 1,2;SYS\r\nReady\r\nBYE\r\nBye\r\n\n";
 
-/// Runs a deck whose jobs are held by the pacer, and asserts that each was, and what was written.
-fn run_together<R: Threads + Wait + Clock + Abort + Sync>(
+/// Runs a deck whose jobs are held by the pacer.
+fn run_held<R: Threads + Wait + Clock + Sync>(
+    rt: &R,
+    alloc: Global,
+    deck: &[u8],
+    want: &[u8],
+    pacer: &Together<'_, R>,
+) -> Result<Outcome, Fail> {
+    let words = words_of(alloc, &["run"])?;
+    let mut source = MemorySource::new(alloc, deck, &[])?;
+    let mut sink = MemorySink::new(alloc, &[])?;
+    let outcome = rsts_main(rt, alloc, words.as_slice(), &mut source, &mut sink, pacer);
+    if sink.bytes() != want {
+        return Err("another report was written")?;
+    }
+    Ok(outcome)
+}
+
+/// How many entries of a history are a job's.
+fn entries_of(record: &RunRecord, job: u32) -> u64 {
+    let entries = record.as_slice().iter().filter(|entry| entry.job == job);
+    entries.count() as u64
+}
+
+/// Whether the pacer held each job: it was called before and after each call, and nobody waited in
+/// vain.
+fn were_held<R: Clock>(pacer: &Together<'_, R>, record: &RunRecord, jobs: u32) -> bool {
+    for job in 0..jobs {
+        let entries = entries_of(record, job);
+        if pacer.calls_of(job) != (entries, entries) {
+            return false;
+        }
+    }
+    !pacer.is_late()
+}
+
+/// Runs a deck whose jobs are held by the pacer, and fails unless each was, and this was written.
+fn run_together<R: Threads + Wait + Clock + Sync>(
     rt: &R,
     alloc: Global,
     jobs: u32,
@@ -216,26 +309,11 @@ fn run_together<R: Threads + Wait + Clock + Abort + Sync>(
     want: &[u8],
 ) -> Result<(), Fail> {
     let pacer = Together::new(rt, alloc, jobs)?;
-    let mut words = Vec::new(alloc);
-    words.push(String::from_str(alloc, "run")?)?;
-    let mut source = MemorySource::new(alloc, deck, &[])?;
-    let mut sink = MemorySink::new(alloc, &[])?;
-    let outcome = rsts_main(rt, alloc, words.as_slice(), &mut source, &mut sink, &pacer);
-    assert_eq!(rt; sink.bytes(), want);
-    let record = match outcome {
-        Outcome::Ok(record) => record,
-        _ => return Err("the deck was not run")?,
-    };
-    assert!(rt; !pacer.is_late(), "a job waited for the others in vain");
-    for job in 0..jobs {
-        let entries = record
-            .as_slice()
-            .iter()
-            .filter(|entry| entry.job == job)
-            .count() as u64;
-        assert_eq!(rt; pacer.calls_of(job), (entries, entries));
+    match run_held(rt, alloc, deck, want, &pacer)? {
+        Outcome::Ok(record) if were_held(&pacer, &record, jobs) => Ok(()),
+        Outcome::Ok(_) => Err("a job was not held")?,
+        _ => Err("the deck was not run")?,
     }
-    Ok(())
 }
 
 #[test]
@@ -243,107 +321,70 @@ fn two_terminals_run_beside_each_other(rt: HostRuntime) -> Result<(), Fail> {
     run_together(&rt, rt.alloc(), 2, TWO, TWO_REPORT)
 }
 
-#[test]
-fn four_terminals_run_beside_each_other(rt: HostRuntime) -> Result<(), Fail> {
-    let alloc = rt.alloc();
+/// The terminals T1, T2 and so on, each of which logs in and out, and their report.
+fn deck_and_report(alloc: Global, count: u32) -> Result<(Vec<u8>, Vec<u8>), Fail> {
     let mut deck = b"RSTS-DECK 1\nDISK 8\nACCOUNT 100,5 DEMO 100\n".to_vec(alloc)?;
-    let mut want = Vec::new(alloc);
-    for name in ["T1", "T2", "T3", "T4"] {
-        let keys = format!(in alloc; "TERMINAL {name}\n>HELLO 100,5;DEMO\n>BYE\n")?;
+    let mut report = Vec::new(alloc);
+    for number in 1..=count {
+        let keys = format!(in alloc; "TERMINAL T{number}\n>HELLO 100,5;DEMO\n>BYE\n")?;
         deck.extend_from_slice(keys.as_bytes())?;
         let screen = format!(in alloc;
-            "TERMINAL {name} 35\nHELLO 100,5;DEMO\r\nReady\r\nBYE\r\nBye\r\n\n"
+            "TERMINAL T{number} 35\nHELLO 100,5;DEMO\r\nReady\r\nBYE\r\nBye\r\n\n"
         )?;
-        want.extend_from_slice(screen.as_bytes())?;
+        report.extend_from_slice(screen.as_bytes())?;
     }
     deck.extend_from_slice(b"END\n")?;
-    run_together(&rt, alloc, 4, deck.as_slice(), want.as_slice())
+    Ok((deck, report))
+}
+
+#[test]
+fn four_terminals_run_beside_each_other(rt: HostRuntime) -> Result<(), Fail> {
+    let (deck, report) = deck_and_report(rt.alloc(), 4)?;
+    run_together(&rt, rt.alloc(), 4, deck.as_slice(), report.as_slice())
+}
+
+/// A word, the gifts that the sink fails at, the status, and what it keeps.
+static FAILING: [(&str, &[u64], u8, &[u8]); 5] = [
+    ("run", &[1], 5, b""),
+    ("run", &[2], 5, b"TERMINAL T1 60\n"),
+    ("run", &[3], 0, SUM_REPORT),
+    ("check", &[1], 5, b""),
+    ("check", &[2], 0, b"GOOD 1 0 1\n"),
+];
+
+fn expect_failing<R: Threads + Wait + Sync>(
+    rt: &R,
+    alloc: Global,
+    word: &str,
+    failing: &[u64],
+    status: u8,
+    written: &[u8],
+) -> Result<(), Fail> {
+    let line = if status == 5 { "write fault" } else { "" };
+    let ended = call(rt, alloc, &[word], FIRST_SUM, &[], failing)?;
+    expect(
+        ended,
+        Want {
+            status,
+            line,
+            written,
+        },
+    )
 }
 
 #[test]
 fn a_failing_sink_leaves_a_proper_front(rt: HostRuntime) -> Result<(), Fail> {
-    let rows: [(&str, &[u64], u8, &[u8]); 5] = [
-        ("run", &[1], 5, b""),
-        ("run", &[2], 5, b"TERMINAL T1 60\n"),
-        ("run", &[3], 0, SUM_REPORT),
-        ("check", &[1], 5, b""),
-        ("check", &[2], 0, b"GOOD 1 0 1\n"),
-    ];
-    for (word, failing, status, want) in rows {
-        let ended = call(&rt, rt.alloc(), word, FIRST_SUM, &[], failing)?;
-        assert_eq!(rt; ended.status, status);
-        assert_eq!(rt;
-            ended.line.as_str(),
-            if status == 5 { "write fault" } else { "" }
-        );
-        assert_eq!(rt; ended.written.as_slice(), want);
+    for (word, failing, status, written) in FAILING.iter() {
+        expect_failing(&rt, rt.alloc(), word, failing, *status, written)?;
     }
     Ok(())
 }
 
-/// Asserts what the program shows of one line behind the login, in front of CR LF and Ready.
-fn assert_line<R: AllocGlobal + Abort + Threads + Wait + Sync>(
-    rt: &R,
-    line: &str,
-    answer: &str,
-) -> Result<(), Fail> {
-    let alloc = rt.alloc();
-    let mut deck = HEAD.to_vec(alloc)?;
-    deck.extend_from_slice(b">HELLO 100,5;DEMO\n>")?;
-    deck.extend_from_slice(line.as_bytes())?;
-    deck.extend_from_slice(b"\n>BYE\nEND\n")?;
-    let screen = format!(in alloc;
-        "HELLO 100,5;DEMO\r\nReady\r\n{line}\r\n{answer}\r\nReady\r\nBYE\r\nBye\r\n"
-    )?;
-    let count = screen.len();
-    let want = format!(in alloc; "TERMINAL T1 {count}\n{screen}\n")?;
-    let ended = call(rt, alloc, "run", deck.as_slice(), &[], &[])?;
-    assert_eq!(rt;
-        ended.written.as_slice(),
-        want.as_bytes(),
-        "of the line {line:?}"
-    );
-    assert_eq!(rt; ended.status, 0);
-    Ok(())
-}
+/// A line, and what it shows.
+type Row = (&'static str, &'static str);
 
-#[test]
-fn lines_are_judged_by_the_grammar(rt: HostRuntime) -> Result<(), Fail> {
-    for (line, answer) in [
-        ("PRINT A", "?Floating variable"),
-        ("PRINT 1.5", "?Floating literal"),
-        ("PRINT 40000", "?Number too wide"),
-        ("PRINT \"AB", "?Open string"),
-        ("PRINT 1%+", "?Syntax error"),
-        ("&", "?Stray byte"),
-        ("10 PRINT A", "?Floating variable"),
-        ("0 PRINT 1%", "?Illegal line number"),
-        ("GOTO 10", "?Illegal in immediate mode"),
-        ("LIST", "NONAME"),
-        ("RUN", "NONAME"),
-        ("OLD", "?Illegal command"),
-        ("PRINT (2%)", " 2 "),
-        ("print 2 + 3%", " 5 "),
-    ] {
-        assert_line(&rt, line, answer)?;
-    }
-    let mut line = String::from_str(rt.alloc(), "PRINT ")?;
-    for _ in 0..65 {
-        line.push_str("(")?;
-    }
-    line.push_str("1%")?;
-    for _ in 0..65 {
-        line.push_str(")")?;
-    }
-    assert_line(&rt, line.as_str(), "?Expression too deep")
-}
-
-/// Asserts what the program shows of lines behind the login, each given with what it shows.
-fn assert_lines<R: AllocGlobal + Abort + Threads + Wait + Sync>(
-    rt: &R,
-    lines: &[(&str, &str)],
-) -> Result<(), Fail> {
-    let alloc = rt.alloc();
+/// The deck of lines behind the login, each given with what it shows, and the screen.
+fn deck_and_screen(alloc: Global, lines: &[(&str, &str)]) -> Result<(Vec<u8>, String), Fail> {
     let mut deck = HEAD.to_vec(alloc)?;
     deck.extend_from_slice(b">HELLO 100,5;DEMO\n")?;
     let mut screen = String::from_str(alloc, "HELLO 100,5;DEMO\r\nReady\r\n")?;
@@ -357,84 +398,145 @@ fn assert_lines<R: AllocGlobal + Abort + Threads + Wait + Sync>(
     }
     deck.extend_from_slice(b"END\n")?;
     screen.push_str("Bye\r\n")?;
-    let count = screen.len();
-    let want = format!(in alloc; "TERMINAL T1 {count}\n{screen}\n")?;
-    let ended = call(rt, alloc, "run", deck.as_slice(), &[], &[])?;
-    assert_eq!(rt; ended.written.as_slice(), want.as_bytes());
-    assert_eq!(rt; ended.status, 0);
-    Ok(())
+    Ok((deck, screen))
 }
+
+/// The program shows this of lines behind the login, each given with what it shows.
+fn expect_lines<R: Threads + Wait + Sync>(
+    rt: &R,
+    alloc: Global,
+    lines: &[(&str, &str)],
+) -> Result<(), Fail> {
+    let (deck, screen) = deck_and_screen(alloc, lines)?;
+    let count = screen.len();
+    let report = format!(in alloc; "TERMINAL T1 {count}\n{screen}\n")?;
+    expect_call(
+        rt,
+        alloc,
+        &["run"],
+        deck.as_slice(),
+        good(report.as_bytes()),
+    )
+}
+
+/// The same of one line, in front of CR LF and Ready.
+fn expect_line<R: Threads + Wait + Sync>(
+    rt: &R,
+    alloc: Global,
+    line: &str,
+    answer: &str,
+) -> Result<(), Fail> {
+    let shown = format!(in alloc; "{answer}\r\nReady\r\n")?;
+    expect_lines(rt, alloc, &[(line, shown.as_str())])
+}
+
+static JUDGED: [Row; 14] = [
+    ("PRINT A", "?Floating variable"),
+    ("PRINT 1.5", "?Floating literal"),
+    ("PRINT 40000", "?Number too wide"),
+    ("PRINT \"AB", "?Open string"),
+    ("PRINT 1%+", "?Syntax error"),
+    ("&", "?Stray byte"),
+    ("10 PRINT A", "?Floating variable"),
+    ("0 PRINT 1%", "?Illegal line number"),
+    ("GOTO 10", "?Illegal in immediate mode"),
+    ("LIST", "NONAME"),
+    ("RUN", "NONAME"),
+    ("OLD", "?Illegal command"),
+    ("PRINT (2%)", " 2 "),
+    ("print 2 + 3%", " 5 "),
+];
+
+/// PRINT of a number in so many parentheses.
+fn print_in_parentheses(alloc: Global, levels: usize) -> Result<String, Fail> {
+    let mut line = String::from_str(alloc, "PRINT ")?;
+    for _ in 0..levels {
+        line.push_str("(")?;
+    }
+    line.push_str("1%")?;
+    for _ in 0..levels {
+        line.push_str(")")?;
+    }
+    Ok(line)
+}
+
+#[test]
+fn lines_are_judged_by_the_grammar(rt: HostRuntime) -> Result<(), Fail> {
+    for (line, answer) in JUDGED.iter() {
+        expect_line(&rt, rt.alloc(), line, answer)?;
+    }
+    let line = print_in_parentheses(rt.alloc(), 65)?;
+    expect_line(&rt, rt.alloc(), line.as_str(), "?Expression too deep")
+}
+
+const MODIFIED: &str = "PRINT I%; FOR I%=1% TO 3% IF I%=0%";
+
+static EXPRESSIONS: [Row; 9] = [
+    ("PRINT 32767%+1%; -7%/2%", "-32768 -3 \r\nReady\r\n"),
+    ("PRINT 'AB'='AB  '; 'AB'=='AB  '", "-1  0 \r\nReady\r\n"),
+    (
+        "PRINT ASCII(CVT%$(258%)); CVT$%(CVT%$(258%)); SWAP%(258%)",
+        " 1  258  513 \r\nReady\r\n",
+    ),
+    (
+        "PRINT LEFT('ABCDE',2%);MID('ABCDE',2%,3%);RIGHT('ABCDE',4%)",
+        "ABBCDDE\r\nReady\r\n",
+    ),
+    ("PRINT 1%,2%", " 1             2 \r\nReady\r\n"),
+    (MODIFIED, " 1  2  3 \r\nReady\r\n"),
+    (MODIFIED, "Ready\r\n"),
+    ("10 A=1", "?Floating variable\r\nReady\r\n"),
+    ("LISTNH", "Ready\r\n"),
+];
 
 #[test]
 fn expressions_of_immediate_lines(rt: HostRuntime) -> Result<(), Fail> {
-    let modifiers = "PRINT I%; FOR I%=1% TO 3% IF I%=0%";
-    assert_lines(
-        &rt,
-        &[
-            ("PRINT 32767%+1%; -7%/2%", "-32768 -3 \r\nReady\r\n"),
-            ("PRINT 'AB'='AB  '; 'AB'=='AB  '", "-1  0 \r\nReady\r\n"),
-            (
-                "PRINT ASCII(CVT%$(258%)); CVT$%(CVT%$(258%)); SWAP%(258%)",
-                " 1  258  513 \r\nReady\r\n",
-            ),
-            (
-                "PRINT LEFT('ABCDE',2%);MID('ABCDE',2%,3%);RIGHT('ABCDE',4%)",
-                "ABBCDDE\r\nReady\r\n",
-            ),
-            ("PRINT 1%,2%", " 1             2 \r\nReady\r\n"),
-            (modifiers, " 1  2  3 \r\nReady\r\n"),
-            (modifiers, "Ready\r\n"),
-            ("10 A=1", "?Floating variable\r\nReady\r\n"),
-            ("LISTNH", "Ready\r\n"),
-        ],
-    )
+    expect_lines(&rt, rt.alloc(), &EXPRESSIONS)
 }
+
+static ERRORS: [Row; 12] = [
+    ("10 ON ERROR GOTO 100", ""),
+    ("20 PRINT 1%; : PRINT 6%/D%; : PRINT 3%", ""),
+    ("30 END", ""),
+    ("100 D%=2% : RESUME", ""),
+    ("RUNNH", " 1  3  3 \r\nReady\r\n"),
+    ("100 PRINT 2%/0%", ""),
+    ("RUNNH", " 1 \r\n?Division by 0 at line 100\r\nReady\r\n"),
+    ("NEW", "Ready\r\n"),
+    ("10 PRINT 1%/0%", ""),
+    ("RUNNH", "?Division by 0 at line 10\r\nReady\r\n"),
+    ("10 GOTO 20", ""),
+    ("RUNNH", "?Undefined line at line 10\r\nReady\r\n"),
+];
 
 #[test]
 fn errors_and_traps(rt: HostRuntime) -> Result<(), Fail> {
-    assert_lines(
-        &rt,
-        &[
-            ("10 ON ERROR GOTO 100", ""),
-            ("20 PRINT 1%; : PRINT 6%/D%; : PRINT 3%", ""),
-            ("30 END", ""),
-            ("100 D%=2% : RESUME", ""),
-            ("RUNNH", " 1  3  3 \r\nReady\r\n"),
-            ("100 PRINT 2%/0%", ""),
-            ("RUNNH", " 1 \r\n?Division by 0 at line 100\r\nReady\r\n"),
-            ("NEW", "Ready\r\n"),
-            ("10 PRINT 1%/0%", ""),
-            ("RUNNH", "?Division by 0 at line 10\r\nReady\r\n"),
-            ("10 GOTO 20", ""),
-            ("RUNNH", "?Undefined line at line 10\r\nReady\r\n"),
-        ],
-    )
+    expect_lines(&rt, rt.alloc(), &ERRORS)
 }
+
+static FUNCTIONS: [Row; 17] = [
+    ("10 DEF FNF%(N%)", ""),
+    ("20 IF N%<2% THEN FNF%=1% ELSE FNF%=N%*FNF%(N%-1%)", ""),
+    ("30 FNEND", ""),
+    ("40 PRINT FNF%(7%)", ""),
+    ("RUNNH", " 5040 \r\nReady\r\n"),
+    ("40 PRINT FNF%(40%)", ""),
+    ("RUNNH", "?Nested too deep at line 20\r\nReady\r\n"),
+    ("NEW", "Ready\r\n"),
+    ("10 FOR I%=3% TO 1%", ""),
+    ("20 NEXT I%", ""),
+    ("30 PRINT I%", ""),
+    ("RUNNH", " 3 \r\nReady\r\n"),
+    ("NEW", "Ready\r\n"),
+    ("10 STOP", ""),
+    ("20 PRINT 2%", ""),
+    ("RUNNH", "Stop at line 10\r\nReady\r\n"),
+    ("CONT", " 2 \r\nReady\r\n"),
+];
 
 #[test]
 fn functions_and_loops(rt: HostRuntime) -> Result<(), Fail> {
-    assert_lines(
-        &rt,
-        &[
-            ("10 DEF FNF%(N%)", ""),
-            ("20 IF N%<2% THEN FNF%=1% ELSE FNF%=N%*FNF%(N%-1%)", ""),
-            ("30 FNEND", ""),
-            ("40 PRINT FNF%(7%)", ""),
-            ("RUNNH", " 5040 \r\nReady\r\n"),
-            ("40 PRINT FNF%(40%)", ""),
-            ("RUNNH", "?Nested too deep at line 20\r\nReady\r\n"),
-            ("NEW", "Ready\r\n"),
-            ("10 FOR I%=3% TO 1%", ""),
-            ("20 NEXT I%", ""),
-            ("30 PRINT I%", ""),
-            ("RUNNH", " 3 \r\nReady\r\n"),
-            ("NEW", "Ready\r\n"),
-            ("10 STOP", ""),
-            ("20 PRINT 2%", ""),
-            ("RUNNH", "Stop at line 10\r\nReady\r\n"),
-            ("CONT", " 2 \r\nReady\r\n"),
-        ],
-    )
+    expect_lines(&rt, rt.alloc(), &FUNCTIONS)
 }
 
 /// A line in which a call of FNF% stands inside 64 levels, the most that are read: 57 openings,
@@ -451,14 +553,8 @@ fn deepest_line(alloc: Global, opening: &str) -> Result<String, Fail> {
     Ok(line)
 }
 
-/// Asserts what the program writes when these lines are typed at each of two terminals, of which
-/// one at least has a thread that was made for it. The last line shows the answer.
-fn assert_at_two_terminals<R: AllocGlobal + Abort + Threads + Wait + Sync>(
-    rt: &R,
-    lines: &[&str],
-    answer: &str,
-) -> Result<(), Fail> {
-    let alloc = rt.alloc();
+/// The keys of lines behind the login, and the screen up to what they show.
+fn keys_and_screen(alloc: Global, lines: &[&str]) -> Result<(String, String), Fail> {
     let mut keys = String::from_str(alloc, ">HELLO 100,5;DEMO\n")?;
     let mut screen = String::from_str(alloc, "HELLO 100,5;DEMO\r\nReady\r\n")?;
     for line in lines {
@@ -468,29 +564,44 @@ fn assert_at_two_terminals<R: AllocGlobal + Abort + Threads + Wait + Sync>(
         screen.push_str(line)?;
         screen.push_str("\r\n")?;
     }
-    screen.push_str(answer)?;
-    screen.push_str("\r\nReady\r\nBye\r\n")?;
-    let mut deck = HEAD.to_vec(alloc)?;
-    deck.extend_from_slice(keys.as_bytes())?;
-    deck.extend_from_slice(b"TERMINAL T2\n")?;
-    deck.extend_from_slice(keys.as_bytes())?;
-    deck.extend_from_slice(b"END\n")?;
-    let count = screen.len();
-    let want = format!(in alloc; "TERMINAL T1 {count}\n{screen}\nTERMINAL T2 {count}\n{screen}\n")?;
-    let ended = call(rt, alloc, "run", deck.as_slice(), &[], &[])?;
-    assert_eq!(rt; ended.written.as_slice(), want.as_bytes());
-    assert_eq!(rt; ended.status, 0);
-    Ok(())
+    Ok((keys, screen))
 }
 
-/// Asserts the answer of a program of these calls, each made inside 64 levels.
-fn assert_deepest_run<R: AllocGlobal + Abort + Threads + Wait + Sync>(
+/// The program writes this when these lines are typed at each of two terminals, of which one at
+/// least has a thread that was made for it. The last line shows the answer.
+fn expect_at_two_terminals<R: Threads + Wait + Sync>(
     rt: &R,
+    alloc: Global,
+    lines: &[&str],
+    answer: &str,
+) -> Result<(), Fail> {
+    let (keys, mut screen) = keys_and_screen(alloc, lines)?;
+    screen.push_str(answer)?;
+    screen.push_str("\r\nReady\r\nBye\r\n")?;
+    let front = "RSTS-DECK 1\nDISK 8\nACCOUNT 100,5 DEMO 100\n";
+    let deck = format!(in alloc; "{front}TERMINAL T1\n{keys}TERMINAL T2\n{keys}END\n")?;
+    let count = screen.len();
+    let report = format!(in alloc;
+        "TERMINAL T1 {count}\n{screen}\nTERMINAL T2 {count}\n{screen}\n"
+    )?;
+    expect_call(
+        rt,
+        alloc,
+        &["run"],
+        deck.as_bytes(),
+        good(report.as_bytes()),
+    )
+}
+
+/// The answer of a program of these calls, each made inside 64 levels.
+fn expect_deepest_run<R: Threads + Wait + Sync>(
+    rt: &R,
+    alloc: Global,
     calls: &str,
     opening: &str,
     answer: &str,
 ) -> Result<(), Fail> {
-    let deepest = deepest_line(rt.alloc(), opening)?;
+    let deepest = deepest_line(alloc, opening)?;
     let lines = [
         calls,
         "20 A%(1)=2 : A%(2)=1",
@@ -505,50 +616,51 @@ fn assert_deepest_run<R: AllocGlobal + Abort + Threads + Wait + Sync>(
         "110 FNEND",
         "RUNNH",
     ];
-    assert_at_two_terminals(rt, &lines, answer)
+    expect_at_two_terminals(rt, alloc, &lines, answer)
 }
+
+static DEEPEST: [(&str, &str, &str); 3] = [
+    ("10 N%=32", "1+(", " 1768 "),
+    ("10 N%=32", "A%(", " 2 "),
+    ("10 N%=33", "A%(", "?Nested too deep at line 80"),
+];
 
 /// 32 calls run inside one another, each inside 64 levels.
 #[test]
 fn the_deepest_run_in_a_thread(rt: HostRuntime) -> Result<(), Fail> {
-    for (calls, opening, answer) in [
-        ("10 N%=32", "1+(", " 1768 "),
-        ("10 N%=32", "A%(", " 2 "),
-        ("10 N%=33", "A%(", "?Nested too deep at line 80"),
-    ] {
-        assert_deepest_run(&rt, calls, opening, answer)?;
+    for (calls, opening, answer) in DEEPEST.iter() {
+        expect_deepest_run(&rt, rt.alloc(), calls, opening, answer)?;
     }
     Ok(())
 }
 
+static END_OF_KEYS: [Row; 6] = [
+    ("10 ON ERROR GOTO 40", ""),
+    ("20 READ A% : PRINT A% : GOTO 20", ""),
+    ("30 DATA 7", ""),
+    ("40 PRINT ERR : IF ERR=57% THEN RESUME 50 ELSE END", ""),
+    ("50 INPUT A%", ""),
+    ("RUNNH", " 7 \r\n 57 \r\n?  11 \r\nReady\r\n"),
+];
+
 #[test]
 fn the_end_of_the_keys_is_an_error_of_input(rt: HostRuntime) -> Result<(), Fail> {
-    assert_lines(
-        &rt,
-        &[
-            ("10 ON ERROR GOTO 40", ""),
-            ("20 READ A% : PRINT A% : GOTO 20", ""),
-            ("30 DATA 7", ""),
-            ("40 PRINT ERR : IF ERR=57% THEN RESUME 50 ELSE END", ""),
-            ("50 INPUT A%", ""),
-            ("RUNNH", " 7 \r\n 57 \r\n?  11 \r\nReady\r\n"),
-        ],
-    )
+    expect_lines(&rt, rt.alloc(), &END_OF_KEYS)
 }
 
 /// An account of five calls, and a program that runs for ever.
+const FIVE_CALLS: &[u8] = b"RSTS-DECK 1\nDISK 8\nACCOUNT 100,5 DEMO 5\nTERMINAL T1\n\
+    >HELLO 100,5;DEMO\n>10 GOTO 10\n>RUNNH\nEND\n";
+
+const FIVE_CALLS_REPORT: &[u8] =
+    b"TERMINAL T1 58\nHELLO 100,5;DEMO\r\nReady\r\n10 GOTO 10\r\nRUNNH\r\n?Job expired\r\n\n\
+    HISTORY 6\n0 LOGIN 100,5 44454d4f = DONE\n0 TICK = DONE\n0 TICK = DONE\n0 TICK = DONE\n\
+    0 TICK = DONE\n0 TICK = EXPIRED\n";
+
 #[test]
 fn a_limit_of_five_calls(rt: HostRuntime) -> Result<(), Fail> {
-    let alloc = rt.alloc();
-    let deck = b"RSTS-DECK 1\nDISK 8\nACCOUNT 100,5 DEMO 5\nTERMINAL T1\n\
-        >HELLO 100,5;DEMO\n>10 GOTO 10\n>RUNNH\nEND\n";
-    let want =
-        b"TERMINAL T1 58\nHELLO 100,5;DEMO\r\nReady\r\n10 GOTO 10\r\nRUNNH\r\n?Job expired\r\n\n\
-        HISTORY 6\n0 LOGIN 100,5 44454d4f = DONE\n0 TICK = DONE\n0 TICK = DONE\n0 TICK = DONE\n\
-        0 TICK = DONE\n0 TICK = EXPIRED\n";
-    let ended = call_with(&rt, alloc, &["run", "--history"], deck, &[], &[])?;
-    assert_eq!(rt; ended.written.as_slice(), want.as_slice());
-    Ok(())
+    let want = good(FIVE_CALLS_REPORT);
+    expect_call(&rt, rt.alloc(), &["run", "--history"], FIVE_CALLS, want)
 }
 
 /// Runs an input between ends in memory. What must come is no empty promise: here a deck is run,
@@ -620,24 +732,29 @@ impl Write for DribblingWriter<'_> {
     }
 }
 
+/// What is written where a deck is run between ends that move one byte at a time.
+fn run_dribbling<R: Threads + Wait + Sync>(
+    rt: &R,
+    alloc: Global,
+    text: &'static [u8],
+) -> Result<Ended, Fail> {
+    let words = words_of(alloc, &["run"])?;
+    let mut kept = Vec::new(alloc);
+    let mut source = StdSource::new(DribblingReader { text });
+    let mut sink = StdSink::new(DribblingWriter { kept: &mut kept });
+    let outcome = rsts_main(
+        rt,
+        alloc,
+        words.as_slice(),
+        &mut source,
+        &mut sink,
+        &IdlePacer,
+    );
+    drop(sink);
+    left(alloc, &outcome, kept.as_slice())
+}
+
 #[test]
 fn ends_that_move_one_byte_at_a_time_change_nothing(rt: HostRuntime) -> Result<(), Fail> {
-    let mut words = Vec::new(rt.alloc());
-    words.push(String::from_str(rt.alloc(), "run")?)?;
-    let mut kept = Vec::new(rt.alloc());
-    {
-        let mut source = StdSource::new(DribblingReader { text: FIRST_SUM });
-        let mut sink = StdSink::new(DribblingWriter { kept: &mut kept });
-        let outcome = rsts_main(
-            &rt,
-            rt.alloc(),
-            words.as_slice(),
-            &mut source,
-            &mut sink,
-            &IdlePacer,
-        );
-        assert_eq!(rt; outcome.status(), 0);
-    }
-    assert_eq!(rt; kept.as_slice(), SUM_REPORT);
-    Ok(())
+    expect(run_dribbling(&rt, rt.alloc(), FIRST_SUM)?, good(SUM_REPORT))
 }
