@@ -15,7 +15,26 @@ fn is_function_in_stage(function: Function) -> bool
 {
     match function {
         Function::Pos | Function::Recount | Function::Sys => false,
-        _ => true,
+        Function::Len
+        | Function::Ascii
+        | Function::Left
+        | Function::Right
+        | Function::Mid
+        | Function::Instr
+        | Function::Chr
+        | Function::Space
+        | Function::StringOf
+        | Function::Num1
+        | Function::Num
+        | Function::Val
+        | Function::CvtToText
+        | Function::CvtToNumber
+        | Function::Swap
+        | Function::Abs
+        | Function::Sgn
+        | Function::Xlate
+        | Function::Err
+        | Function::Erl => true,
     }
 }
 
