@@ -24,15 +24,18 @@ use Rattle.basic_tree.specs.GrammarWords.{function_of, is_same_sign, is_same_key
 use Rattle.basic_tree.specs.MachineStack.{Action, Close, Do, Exponent, Level, MakeComparison, MakeFunction, MakeNegative, MakeNot, MakeOperation, MakePositive, More, MoreRelations, SecondSubscript, Several, Subscripts, Symbol, Term, Value, Values}
 use Rattle.basic_tree.specs.MachineStarts.{arguments_expected, takes}
 use Rattle.basic_tree.specs.MachineMoves.{right_of}
-use Rattle.basic_tree.specs.MachineRun.{TooDeep, Wrong, run}
+use Rattle.basic_tree.specs.MachineRun.{Halt, TooDeep, Wrong, run}
 
 -- ---- symbols
 
--- with these symbols and values on top, the machine stops at this place, whatever stands below
+-- with these symbols and values on top, the machine stops so, whatever stands below
+abbrev pub HaltsAll : ℕ → List Word → List Symbol → Values → ℕ → Halt → Type 0
+HaltsAll n ws ss v from halt = (k : List Symbol) (vs : Values) → run n (drop from ws) (ss ++ k) (v ++ vs) ≡ Err halt
+
 abbrev pub RefusesAll : ℕ → List Word → List Symbol → Values → ℕ → Failure → Type 0
 RefusesAll n ws ss v from failure.NoMemory = Unit {0}
-RefusesAll n ws ss v from (failure.Wrong place) = (place ≤ length ws) × ((k : List Symbol) (vs : Values) → run n (drop from ws) (ss ++ k) (v ++ vs) ≡ Err (Wrong (drop place ws)))
-RefusesAll n ws ss v from (failure.TooDeep place) = (place < length ws) × ((k : List Symbol) (vs : Values) → run n (drop from ws) (ss ++ k) (v ++ vs) ≡ Err (TooDeep (drop place ws)))
+RefusesAll n ws ss v from (failure.Wrong place) = (place ≤ length ws) × HaltsAll n ws ss v from (Wrong (drop place ws))
+RefusesAll n ws ss v from (failure.TooDeep place) = (place < length ws) × HaltsAll n ws ss v from (TooDeep (drop place ws))
 
 -- with these symbols and values on top, the words up to the end are taken, and this value stands in the place of the values
 abbrev pub TakesAll : ℕ → List Word → List Symbol → Values → ℕ → ℕ → Value → Type 0
@@ -95,15 +98,46 @@ ReadsSign ws s from (Err e) = RefusesSign ws s from e
 abbrev pub goes_on : Operator → ℕ → Bool → Bool
 goes_on o level text = operator_level o == level && (not text || joins_texts o)
 
+-- at a place, behind an operand of this kind, the operator goes on with the level
+abbrev pub TakesOperator : List Word → ℕ → ℕ → Bool → Operator → Type 0
+TakesOperator ws place level text o =
+    (n : ℕ) (k : List Symbol) (a : Tree) (vs : Values) → is_text a ≡ text
+    → run n (drop place ws) (More level ∷ k) (Term a ∷ vs) ≡ run n (drop (place + 1) ws) (right_of o text ∷ Do (MakeOperation o) ∷ More level ∷ k) (Term a ∷ vs)
+
+-- at a place, behind an operand of this kind, the level ends
+abbrev pub EndsLevel : List Word → ℕ → ℕ → Bool → Type 0
+EndsLevel ws place level text =
+    (n : ℕ) (k : List Symbol) (a : Tree) (vs : Values) → is_text a ≡ text
+    → run n (drop place ws) (More level ∷ k) (Term a ∷ vs) ≡ run n (drop place ws) k (Term a ∷ vs)
+
 -- the operator at a place that goes on with a level, or none
 abbrev pub OperatorAt : List Word → ℕ → ℕ → Bool → Option Operator → Type 0
-OperatorAt ws place level text (Some o) = (place < length ws) × ((n : ℕ) (k : List Symbol) (a : Tree) (vs : Values) → is_text a ≡ text → run n (drop place ws) (More level ∷ k) (Term a ∷ vs) ≡ run n (drop (place + 1) ws) (right_of o text ∷ Do (MakeOperation o) ∷ More level ∷ k) (Term a ∷ vs))
-OperatorAt ws place level text None = (n : ℕ) (k : List Symbol) (a : Tree) (vs : Values) → is_text a ≡ text → run n (drop place ws) (More level ∷ k) (Term a ∷ vs) ≡ run n (drop place ws) k (Term a ∷ vs)
+OperatorAt ws place level text (Some o) = (place < length ws) × TakesOperator ws place level text o
+OperatorAt ws place level text None = EndsLevel ws place level text
+
+-- at a place the relation goes on behind an operand
+abbrev pub TakesRelation : List Word → ℕ → Relation → Type 0
+TakesRelation ws place r =
+    (n : ℕ) (must_be_number : Bool) (k : List Symbol) (a : Tree) (vs : Values)
+    → run n (drop place ws) (MoreRelations must_be_number ∷ k) (Term a ∷ vs)
+    ≡ run n (drop (place + 1) ws) (Level 4 (want_of (is_text a)) ∷ Do (MakeComparison r) ∷ MoreRelations must_be_number ∷ k) (Term a ∷ vs)
+
+-- at a place the relations end behind an operand of a kind that may be the whole
+abbrev pub EndsRelations : List Word → ℕ → Type 0
+EndsRelations ws place =
+    (n : ℕ) (must_be_number : Bool) (k : List Symbol) (a : Tree) (vs : Values) → (must_be_number && is_text a) ≡ false
+    → run n (drop place ws) (MoreRelations must_be_number ∷ k) (Term a ∷ vs) ≡ run n (drop place ws) k (Term a ∷ vs)
+
+-- at a place a text is refused that has to become a number
+abbrev pub RefusesText : List Word → ℕ → Type 0
+RefusesText ws place =
+    (n : ℕ) (k : List Symbol) (a : Tree) (vs : Values) → is_text a ≡ true
+    → run n (drop place ws) (MoreRelations true ∷ k) (Term a ∷ vs) ≡ Err (Wrong (drop place ws))
 
 -- the relation at a place, or none
 abbrev pub RelationAt : List Word → ℕ → Option Relation → Type 0
-RelationAt ws place (Some r) = (place < length ws) × ((n : ℕ) (must_be_number : Bool) (k : List Symbol) (a : Tree) (vs : Values) → run n (drop place ws) (MoreRelations must_be_number ∷ k) (Term a ∷ vs) ≡ run n (drop (place + 1) ws) (Level 4 (want_of (is_text a)) ∷ Do (MakeComparison r) ∷ MoreRelations must_be_number ∷ k) (Term a ∷ vs))
-RelationAt ws place None = ((n : ℕ) (must_be_number : Bool) (k : List Symbol) (a : Tree) (vs : Values) → (must_be_number && is_text a) ≡ false → run n (drop place ws) (MoreRelations must_be_number ∷ k) (Term a ∷ vs) ≡ run n (drop place ws) k (Term a ∷ vs)) × ((n : ℕ) (k : List Symbol) (a : Tree) (vs : Values) → is_text a ≡ true → run n (drop place ws) (MoreRelations true ∷ k) (Term a ∷ vs) ≡ Err (Wrong (drop place ws)))
+RelationAt ws place (Some r) = (place < length ws) × TakesRelation ws place r
+RelationAt ws place None = EndsRelations ws place × RefusesText ws place
 
 -- whether relations may stand where a kind is wanted: a relation gives a number
 abbrev pub takes_relations : Want → Bool
@@ -128,14 +162,32 @@ prefixed prefix.Minus a = Negative a
 prefixed prefix.Plus a = Positive a
 prefixed prefix.Not a = Not a
 
--- the prefix at a place opens a level for the operand, where a number fits; without one there stands what is tighter
+-- at a place, where a number fits, a prefix opens a level for the operand
+abbrev pub OpensPrefixed : (Want → Bool) → (Want → Symbol) → Symbol → List Word → ℕ → Prefix → Type 0
+OpensPrefixed fits s operand ws place p =
+    (n : ℕ) (w : Want) (k : List Symbol) (vs : Values) → fits w ≡ true
+    → run (suc n) (drop place ws) (s w ∷ k) vs ≡ run n (drop (place + 1) ws) (operand ∷ Close ∷ Do (action_of p) ∷ k) vs
+
+-- with no level left it is too deep there
+abbrev pub DeepPrefixed : (Want → Bool) → (Want → Symbol) → List Word → ℕ → Type 0
+DeepPrefixed fits s ws place =
+    (w : Want) (k : List Symbol) (vs : Values) → fits w ≡ true → run 0 (drop place ws) (s w ∷ k) vs ≡ Err (TooDeep (drop place ws))
+
+-- where no number fits it is refused
+abbrev pub RefusesPrefixed : (Want → Bool) → (Want → Symbol) → List Word → ℕ → Type 0
+RefusesPrefixed fits s ws place =
+    (n : ℕ) (w : Want) (k : List Symbol) (vs : Values) → fits w ≡ false → run n (drop place ws) (s w ∷ k) vs ≡ Err (Wrong (drop place ws))
+
+-- what is tighter stands there
+abbrev pub GoesTighter : (Want → Symbol) → (Want → Symbol) → List Word → ℕ → Type 0
+GoesTighter s tighter ws place =
+    (n : ℕ) (w : Want) (k : List Symbol) (vs : Values) → run n (drop place ws) (s w ∷ k) vs ≡ run n (drop place ws) (tighter w ∷ k) vs
+
+-- the prefix at a place, or none
 abbrev pub PrefixAt : (Want → Bool) → (Want → Symbol) → Symbol → (Want → Symbol) → List Word → ℕ → Option Prefix → Type 0
 PrefixAt fits s operand tighter ws place (Some p) =
-    (place < length ws)
-    × ((n : ℕ) (w : Want) (k : List Symbol) (vs : Values) → fits w ≡ true → run (suc n) (drop place ws) (s w ∷ k) vs ≡ run n (drop (place + 1) ws) (operand ∷ Close ∷ Do (action_of p) ∷ k) vs)
-    × ((w : Want) (k : List Symbol) (vs : Values) → fits w ≡ true → run 0 (drop place ws) (s w ∷ k) vs ≡ Err (TooDeep (drop place ws)))
-    × ((n : ℕ) (w : Want) (k : List Symbol) (vs : Values) → fits w ≡ false → run n (drop place ws) (s w ∷ k) vs ≡ Err (Wrong (drop place ws)))
-PrefixAt fits s operand tighter ws place None = (n : ℕ) (w : Want) (k : List Symbol) (vs : Values) → run n (drop place ws) (s w ∷ k) vs ≡ run n (drop place ws) (tighter w ∷ k) vs
+    (place < length ws) × OpensPrefixed fits s operand ws place p × DeepPrefixed fits s ws place × RefusesPrefixed fits s ws place
+PrefixAt fits s operand tighter ws place None = GoesTighter s tighter ws place
 
 -- a number may stand where it is wanted
 abbrev pub takes_number : Want → Bool
@@ -192,8 +244,14 @@ abbrev pub second_tree : Option Expr → Trees
 second_tree None = NoTrees
 second_tree (Some e) = AndTrees (tree_of e) NoTrees
 
+-- behind a first subscript the words up to the end are taken as a second one, or none
+abbrev pub TakesSecond : ℕ → List Word → ℕ → Option Expr → ℕ → Type 0
+TakesSecond n ws from second end =
+    (k : List Symbol) (a : Tree) (vs : Values)
+    → run n (drop from ws) (SecondSubscript ∷ k) (Several (AndTrees a NoTrees) ∷ vs) ≡ run n (drop end ws) k (Several (AndTrees a (second_tree second)) ∷ vs)
+
 abbrev pub ReadsSecond : ℕ → List Word → ℕ → Result (Option Expr × ℕ) Failure → Type 0
-ReadsSecond n ws from (Ok x) = (from ≤ x.1) × (x.1 ≤ length ws) × ((k : List Symbol) (a : Tree) (vs : Values) → run n (drop from ws) (SecondSubscript ∷ k) (Several (AndTrees a NoTrees) ∷ vs) ≡ run n (drop x.1 ws) k (Several (AndTrees a (second_tree x.0)) ∷ vs))
+ReadsSecond n ws from (Ok x) = (from ≤ x.1) × (x.1 ≤ length ws) × TakesSecond n ws from x.0 x.1
 ReadsSecond n ws from (Err e) = RefusesAt n ws SecondSubscript from e
 
 -- what is expected behind the name of a function of the language

@@ -24,6 +24,6 @@ IsShort (Quotation bytes) = length bytes.now ≤ LINE_LENGTH
 IsShort (Item bytes) = length bytes.now ≤ LINE_LENGTH
 IsShort other = Unit {0}
 
--- how many words a line may have
+-- how many words a line may have: one for each byte
 abbrev pub most_words : ℕ
-most_words = 256
+most_words = LINE_LENGTH

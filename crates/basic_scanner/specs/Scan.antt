@@ -1,23 +1,13 @@
--- What scanning answers.
-use Rattle.std.specs.Prelude.{◌≡◌, ℕ, ◌+◌, ◌-◌, min, nat_lt, if◌then◌else◌, List, [], ◌∷◌, ◌++◌, length, take, drop, None, Result, Ok, Err}
+-- The steps of scanning.
+use Rattle.std.specs.Prelude.{◌≡◌, ℕ, ◌+◌, ◌-◌, min, nat_lt, if◌then◌else◌, List, [], ◌∷◌, ◌++◌, length, take, drop, None}
 use Rattle.std.specs.Char.{is_ascii_digit}
 use Rattle.std.specs.List.{prefix_len}
 use Rattle.std.specs.Str.Parse.{digits_value}
-use Rattle.basic_tree.specs.Tokens.{Lexeme, items_from, tokens_of}
+use Rattle.basic_tree.specs.Tokens.{Lexeme, items_from}
 use Rattle.basic_tree.specs.declared.tokens.TokenKind.{TokenKind}
 use Rattle.basic_tree.specs.declared.tokens.TokenKind.TheVariants as kind
-use Rattle.basic_tree.specs.declared.tokens.Refusal.{Refusal}
 use Rattle.basic_scanner.specs.declared.scanner.Token.{Token}
 use Rattle.basic_scanner.specs.Lexemes.{lexemes}
-use Rattle.basic_values.specs.declared.failures.Trouble.{Trouble}
-use Rattle.basic_values.specs.declared.failures.Trouble.TheVariants.{Refused, NoMemory}
-
--- the tokens exactly where the line has tokens, and exactly the first place that is refused
--- and why; or memory ran out
-abbrev pub Scans : List ℕ → Result (List Lexeme) (Trouble Refusal) → Type 0
-Scans line (Ok tokens) = tokens_of line ≡ Ok tokens
-Scans line (Err (Refused refusal)) = tokens_of line ≡ Err refusal
-Scans line (Err NoMemory) = Unit {0}
 
 -- the item from start to end, and the items behind the comma at its end, where there is one
 abbrev pub item_and_more : ℕ → ℕ → List ℕ → List Lexeme

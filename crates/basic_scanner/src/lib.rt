@@ -1,5 +1,6 @@
 //! From the bytes of a line to its tokens. It stands on the grammar's tokens in `basic_tree`.
 //! `scan` carries the promise: the tokens of the line exactly, or the first place that is refused.
+//! It takes no memory: the tokens lie in an `ArrayVec`, in the value itself.
 #![tactic(auto)]
 
 mod front;

@@ -1,15 +1,16 @@
-//! The tokens of a line.
+//! The tokens of a line. They lie in the value itself: a line of 255 bytes has no more tokens.
 
-ghost use Rattle.std.specs.Prelude.{◌≡◌, ◌≤◌, ◌<◌, ◌+◌, ◌^◌, ◌++◌, ◌∷◌, [], take, drop, length, vec_len, slice_get, None, Some, OnOk, IfOk, IfErr};
+ghost use Rattle.std.specs.Prelude.{◌≡◌, ◌≤◌, ◌<◌, ◌+◌, ◌^◌, ◌++◌, ◌∷◌, [], take, drop, length, slice_get, None, Some, Ok, Err, IfOk, IfErr};
+ghost use Rattle.arrayvec.specs.ArrayVec.{array_vec_len};
 ghost use Rattle.basic_tree.specs.Tokens.{quote_after, cuts, tokens_of, front_of};
 ghost use Rattle.basic_tree.specs.TokenLaws.{LiesIn, AreCut};
 ghost use Rattle.basic_scanner.specs.Lexemes.{lexeme_of, lexemes};
-ghost use Rattle.basic_scanner.specs.Scan.{Scans, Grew, item_and_more, items_at, token_at};
+ghost use Rattle.basic_scanner.specs.Scan.{Grew, item_and_more, items_at, token_at};
 
 use crate::front::{front_of, is_quote};
+use arrayvec::ArrayVec;
 use basic_tree::{Front, Refusal, TokenKind};
-use basic_values::{LINE_LENGTH, NoMemory, Trouble};
-use std::alloc::Global;
+use basic_values::LINE_LENGTH;
 use std::marker::Model;
 
 /// A token: its sort, the place of its first byte in the line, and its bytes, a slice of the line.
@@ -20,14 +21,25 @@ pub struct Token<'a> {
     pub bytes: &'a [u8],
 }
 
-/// The tokens of a line.
+/// A token of no bytes, for the places that no token takes.
+impl<'a> Default for Token<'a> {
+    fn default() -> Token<'a> {
+        Token {
+            kind: TokenKind::Sign,
+            start: 0,
+            bytes: &[],
+        }
+    }
+}
+
+/// The tokens of a line, one for each byte at the most.
 #[derive(Drop)]
 pub struct Tokens<'a> {
-    tokens: Vec<Token<'a>>,
+    tokens: ArrayVec<Token<'a>, LINE_LENGTH>,
 }
 
 impl<'a> Model for Tokens<'a> {
-    ghost use Rattle.std.specs.Prelude.{List, ◌≤◌, vec_len};
+    ghost use Rattle.std.specs.Prelude.{List};
     ghost use Rattle.basic_tree.specs.Tokens.{Lexeme};
 
     ghost Value = { List Lexeme };
@@ -36,14 +48,14 @@ impl<'a> Model for Tokens<'a> {
 
     ghost view = { λ all. lexemes all.tokens.items };
 
-    ghost invariant = { λ all. (vec_len all.tokens ≤ 256) × AreShort (lexemes all.tokens.items) };
+    ghost invariant = { λ all. AreShort (lexemes all.tokens.items) };
 }
 
 impl<'a> Tokens<'a> {
     /// How many there are.
     pub fn len(&self) -> u16
         ensures value { result ≡ length self.now }
-        ensures few { result ≤ 256 }
+        ensures few { result ≤ LINE_LENGTH }
     {
         self.tokens.len() as u16
     }
@@ -97,41 +109,39 @@ fn item_end(line: &[u8], start: usize) -> usize
 
 /// One token more, of so many bytes of the line from its start on.
 fn push<'a>(
-    tokens: &mut Vec<Token<'a>>,
+    tokens: &mut ArrayVec<Token<'a>, LINE_LENGTH>,
     kind: TokenKind,
     line: &'a [u8],
     start: usize,
     len: usize,
-) -> Result<(), NoMemory>
+)
     requires within { start + len ≤ length line.now }
     requires short { length line.now ≤ LINE_LENGTH }
+    requires room { array_vec_len tokens.now < LINE_LENGTH }
     ensures tokens { let one = token_at kind start len line.entry.now in
-        OnOk result (Grew tokens.old.items tokens.new.items (one ∷ [])) }
-    ensures count { OnOk result (vec_len tokens.new ≡ vec_len tokens.old + 1) }
+        Grew tokens.old.items tokens.new.items (one ∷ []) }
+    ensures count { array_vec_len tokens.new ≡ array_vec_len tokens.old + 1 }
 {
     tokens.push(Token {
         kind,
         start: start as u16,
         bytes: &line[start..start + len],
-    })?;
-    Ok(())
+    });
 }
 
 /// The items of DATA, from a place to the end of the line.
-fn push_items<'a>(tokens: &mut Vec<Token<'a>>, line: &'a [u8], from: usize) -> Result<(), NoMemory>
+fn push_items<'a>(tokens: &mut ArrayVec<Token<'a>, LINE_LENGTH>, line: &'a [u8], from: usize)
     requires within { from ≤ length line.now }
     requires short { length line.now ≤ LINE_LENGTH }
-    ensures items { let more = items_at from line.entry.now in
-        OnOk result (Grew tokens.old.items tokens.new.items more) }
-    ensures count { let most = vec_len tokens.old + length line.entry.now + 1 in
-        OnOk result (vec_len tokens.new + from ≤ most) }
+    requires room { array_vec_len tokens.now < from }
+    ensures { Grew tokens.old.items tokens.new.items (items_at from line.entry.now) }
 {
     let mut start = from;
-    loop {
+    'items: loop {
         let end = item_end(line, start);
-        push(tokens, TokenKind::DataItem, line, start, end - start)?;
+        push(tokens, TokenKind::DataItem, line, start, end - start);
         if end == line.len() {
-            return Ok(());
+            return;
         }
         start = end + 1;
     }
@@ -147,46 +157,45 @@ fn front_at(line: &[u8], place: usize) -> Front
 }
 
 /// The tokens of the line, or the first place that is refused.
-fn read<'a>(alloc: Global, line: &'a [u8]) -> Result<Vec<Token<'a>>, Trouble<Refusal>>
+fn read<'a>(line: &'a [u8]) -> Result<ArrayVec<Token<'a>, LINE_LENGTH>, Refusal>
     requires { length line.now ≤ LINE_LENGTH }
     ensures found { IfOk result (λ tokens. tokens_of line.entry.now ≡ Ok (lexemes tokens.items)) }
-    ensures few { IfOk result (λ tokens. vec_len tokens ≤ 256) }
-    ensures refused { IfErr result (λ trouble. Scans line.entry.now (Err trouble)) }
+    ensures refused { IfErr result (λ refusal. tokens_of line.entry.now ≡ Err refusal) }
 {
-    let mut tokens = Vec::new(alloc);
+    let mut tokens = ArrayVec::new();
     let mut place = 0;
     while place < line.len() {
         match front_at(line, place) {
             Front::Blank => place += 1,
             Front::Comment => return Ok(tokens),
             Front::Data => {
-                push(&mut tokens, TokenKind::Keyword, line, place, 4)?;
-                push_items(&mut tokens, line, place + 4)?;
+                push(&mut tokens, TokenKind::Keyword, line, place, 4);
+                push_items(&mut tokens, line, place + 4);
                 return Ok(tokens);
             }
             Front::Token(kind, len) => {
-                push(&mut tokens, kind, line, place, len)?;
+                push(&mut tokens, kind, line, place, len);
                 place += len;
             }
             Front::Refused(cause) => {
-                return Err(Trouble::Refused(Refusal {
+                return Err(Refusal {
                     place: place as u16,
                     cause,
-                }));
+                });
             }
         }
     }
     Ok(tokens)
 }
 
-/// The tokens of the line, or the first place that is refused and why.
-pub fn scan<'a>(alloc: Global, line: &'a [u8]) -> Result<Tokens<'a>, Trouble<Refusal>>
+/// The tokens of the line, or the first place that is refused and why. It takes no memory.
+pub fn scan<'a>(line: &'a [u8]) -> Result<Tokens<'a>, Refusal>
     requires { length line.now ≤ LINE_LENGTH }
-    ensures exact { Scans line.entry.now result }
+    ensures exact { result ≡ tokens_of line.entry.now }
     ensures slices { IfOk result (λ tokens. AreCut line.entry.now 0 tokens) }
 {
-    match read(alloc, line) {
+    match read(line) {
         Ok(tokens) => Ok(Tokens { tokens }),
-        Err(trouble) => Err(trouble),
+        Err(refusal) => Err(refusal),
     }
 }

@@ -8,7 +8,7 @@ ghost use Rattle.basic_scanner.specs.Tables.{entries};
 use basic_tree::{Keyword, Sign};
 
 /// The keywords and the names of the functions.
-static KEYWORDS: [(Keyword, &[u8]); 83] = [
+static KEYWORDS: [(Keyword, &[u8]); 89] = [
     (Keyword::Abs, b"ABS%"),
     (Keyword::And, b"AND"),
     (Keyword::As, b"AS"),
@@ -17,6 +17,7 @@ static KEYWORDS: [(Keyword, &[u8]); 83] = [
     (Keyword::Chr, b"CHR$"),
     (Keyword::Close, b"CLOSE"),
     (Keyword::ClusterSize, b"CLUSTERSIZE"),
+    (Keyword::Con, b"CON"),
     (Keyword::CvtToNumber, b"CVT$%"),
     (Keyword::CvtToText, b"CVT%$"),
     (Keyword::Data, b"DATA"),
@@ -36,6 +37,7 @@ static KEYWORDS: [(Keyword, &[u8]); 83] = [
     (Keyword::Go, b"GO"),
     (Keyword::Gosub, b"GOSUB"),
     (Keyword::Goto, b"GOTO"),
+    (Keyword::Idn, b"IDN"),
     (Keyword::If, b"IF"),
     (Keyword::Imp, b"IMP"),
     (Keyword::Input, b"INPUT"),
@@ -47,6 +49,7 @@ static KEYWORDS: [(Keyword, &[u8]); 83] = [
     (Keyword::Let, b"LET"),
     (Keyword::Line, b"LINE"),
     (Keyword::Lset, b"LSET"),
+    (Keyword::Mat, b"MAT"),
     (Keyword::Mid, b"MID"),
     (Keyword::Mid, b"MID$"),
     (Keyword::Mode, b"MODE"),
@@ -85,13 +88,16 @@ static KEYWORDS: [(Keyword, &[u8]); 83] = [
     (Keyword::Tab, b"TAB"),
     (Keyword::Then, b"THEN"),
     (Keyword::To, b"TO"),
+    (Keyword::Trn, b"TRN"),
     (Keyword::Unless, b"UNLESS"),
     (Keyword::Unlock, b"UNLOCK"),
     (Keyword::Until, b"UNTIL"),
+    (Keyword::Using, b"USING"),
     (Keyword::Val, b"VAL"),
     (Keyword::While, b"WHILE"),
     (Keyword::Xlate, b"XLATE"),
     (Keyword::Xor, b"XOR"),
+    (Keyword::Zer, b"ZER"),
 ];
 
 /// The signs.

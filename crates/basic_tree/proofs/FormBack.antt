@@ -32,7 +32,7 @@ keyword_from zero (k ∷ ks) = k
 keyword_from (suc n) (k ∷ ks) = keyword_from n ks
 
 abbrev all_keywords : List Keyword
-all_keywords = keyword.Abs ∷ keyword.Abs ∷ keyword.And ∷ keyword.As ∷ keyword.Ascii ∷ keyword.Chain ∷ keyword.Chr ∷ keyword.Close ∷ keyword.ClusterSize ∷ keyword.CvtToNumber ∷ keyword.CvtToText ∷ keyword.Data ∷ keyword.Def ∷ keyword.Dim ∷ keyword.Else ∷ keyword.End ∷ keyword.Eqv ∷ keyword.Erl ∷ keyword.Err ∷ keyword.Error ∷ keyword.Field ∷ keyword.File ∷ keyword.FnEnd ∷ keyword.For ∷ keyword.Get ∷ keyword.Go ∷ keyword.Gosub ∷ keyword.Goto ∷ keyword.If ∷ keyword.Imp ∷ keyword.Input ∷ keyword.Instr ∷ keyword.Kill ∷ keyword.Left ∷ keyword.Len ∷ keyword.Let ∷ keyword.Line ∷ keyword.Lset ∷ keyword.Mid ∷ keyword.Mode ∷ keyword.Name ∷ keyword.Next ∷ keyword.Not ∷ keyword.Num ∷ keyword.Num1 ∷ keyword.On ∷ keyword.Open ∷ keyword.Or ∷ keyword.Output ∷ keyword.Pos ∷ keyword.Print ∷ keyword.Put ∷ keyword.Read ∷ keyword.Record ∷ keyword.RecordSize ∷ keyword.Recount ∷ keyword.Rem ∷ keyword.Restore ∷ keyword.Resume ∷ keyword.Return ∷ keyword.Right ∷ keyword.Rset ∷ keyword.Sgn ∷ keyword.Sleep ∷ keyword.Space ∷ keyword.Step ∷ keyword.Stop ∷ keyword.StringOf ∷ keyword.Sub ∷ keyword.Swap ∷ keyword.Sys ∷ keyword.Tab ∷ keyword.Then ∷ keyword.To ∷ keyword.Unless ∷ keyword.Unlock ∷ keyword.Until ∷ keyword.Val ∷ keyword.While ∷ keyword.Xlate ∷ keyword.Xor ∷ []
+all_keywords = keyword.Abs ∷ keyword.Abs ∷ keyword.And ∷ keyword.As ∷ keyword.Ascii ∷ keyword.Chain ∷ keyword.Chr ∷ keyword.Close ∷ keyword.ClusterSize ∷ keyword.Con ∷ keyword.CvtToNumber ∷ keyword.CvtToText ∷ keyword.Data ∷ keyword.Def ∷ keyword.Dim ∷ keyword.Else ∷ keyword.End ∷ keyword.Eqv ∷ keyword.Erl ∷ keyword.Err ∷ keyword.Error ∷ keyword.Field ∷ keyword.File ∷ keyword.FnEnd ∷ keyword.For ∷ keyword.Get ∷ keyword.Go ∷ keyword.Gosub ∷ keyword.Goto ∷ keyword.Idn ∷ keyword.If ∷ keyword.Imp ∷ keyword.Input ∷ keyword.Instr ∷ keyword.Kill ∷ keyword.Left ∷ keyword.Len ∷ keyword.Let ∷ keyword.Line ∷ keyword.Lset ∷ keyword.Mat ∷ keyword.Mid ∷ keyword.Mode ∷ keyword.Name ∷ keyword.Next ∷ keyword.Not ∷ keyword.Num ∷ keyword.Num1 ∷ keyword.On ∷ keyword.Open ∷ keyword.Or ∷ keyword.Output ∷ keyword.Pos ∷ keyword.Print ∷ keyword.Put ∷ keyword.Read ∷ keyword.Record ∷ keyword.RecordSize ∷ keyword.Recount ∷ keyword.Rem ∷ keyword.Restore ∷ keyword.Resume ∷ keyword.Return ∷ keyword.Right ∷ keyword.Rset ∷ keyword.Sgn ∷ keyword.Sleep ∷ keyword.Space ∷ keyword.Step ∷ keyword.Stop ∷ keyword.StringOf ∷ keyword.Sub ∷ keyword.Swap ∷ keyword.Sys ∷ keyword.Tab ∷ keyword.Then ∷ keyword.To ∷ keyword.Trn ∷ keyword.Unless ∷ keyword.Unlock ∷ keyword.Until ∷ keyword.Using ∷ keyword.Val ∷ keyword.While ∷ keyword.Xlate ∷ keyword.Xor ∷ keyword.Zer ∷ []
 
 numbered_key : (k : Keyword) → keyword_from (keyword_number k) all_keywords ≡ k
 numbered_key keyword.Abs = refl

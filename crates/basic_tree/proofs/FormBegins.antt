@@ -1,12 +1,13 @@
 -- Every statement but IF, without modifiers: its words lead the machine from the form of its first word.
 use Rattle.std.proofs.Common.{◌≡◌, false, []}
-use Rattle.basic_tree.specs.Trees.{StatementTree, IfThen, IfGoto, Modified, For, Next, FnEnd, Data, Dim, DimFile, Def, Let, Result, Print, Input, InputLine, Read, Restore, Goto, Gosub, Return, OnGoto, OnGosub, OnErrorGoto, Resume, Stop, End, Chain, Sleep, Open, Close, Get, Put, Unlock, Field, Lset, Rset, Kill, Rename}
+use Rattle.basic_tree.specs.Trees.{StatementTree, IfThen, IfGoto, Modified, For, Next, FnEnd, Data, Dim, DimFile, Def, Let, Result, Print, Input, InputLine, Read, Restore, Goto, Gosub, Return, OnGoto, OnGosub, OnErrorGoto, Resume, Stop, End, Chain, Sleep, Open, Close, Get, Put, Unlock, Field, Lset, Rset, Kill, Rename, PrintUsing, MatRead, MatPrint, MatLet}
 use Rattle.basic_tree.specs.SpellingStatements.{is_if}
 use Rattle.basic_tree.specs.MachinePieces.{ArePieces}
 use Rattle.basic_tree.specs.MachineStatements.{closings, pieces_of}
 use Rattle.basic_tree.proofs.FormSimple.{Begun, begun_fn_end, begun_restore, begun_return, begun_stop, begun_end, begun_next, begun_result, begun_goto, begun_gosub, begun_on_error, begun_resume, begun_sleep, begun_kill, begun_rename, begun_lset, begun_rset, begun_unlock, begun_get, begun_put, begun_for}
 use Rattle.basic_tree.proofs.FormStatements.{begun_read, begun_on_goto, begun_on_gosub, begun_close, begun_field, begun_dim, begun_dim_file, begun_data, begun_print, begun_input, begun_input_line}
 use Rattle.basic_tree.proofs.FormAssignments.{begun_let, begun_def, begun_open}
+use Rattle.basic_tree.proofs.FormMatrices.{begun_using, begun_mat_read, begun_mat_print, begun_mat_let}
 use Rattle.basic_tree.proofs.FormChain.{begun_chain}
 
 pub simple_leads : (s : StatementTree) → is_if s ≡ false → closings s ≡ [] → ArePieces (pieces_of s) → Begun s
@@ -48,3 +49,7 @@ simple_leads (Lset x v) i c a = begun_lset x v a
 simple_leads (Rset x v) i c a = begun_rset x v a
 simple_leads (Kill t) i c a = begun_kill t a
 simple_leads (Rename old new) i c a = begun_rename old new a
+simple_leads (PrintUsing n t list last) i c a = begun_using n t list last a
+simple_leads (MatRead arrays) i c a = begun_mat_read arrays a
+simple_leads (MatPrint n s) i c a = begun_mat_print n s a
+simple_leads (MatLet n m) i c a = begun_mat_let n m a

@@ -10,8 +10,8 @@ use Rattle.basic_tree.specs.SpellingWords.{Punctuation}
 use Rattle.basic_tree.specs.Trees.{Tree, CloseChannelTree, FieldPartTree}
 use Rattle.basic_tree.specs.SpellingParts.{optional}
 use Rattle.basic_tree.specs.MachinePieces.{Piece, ArePieces, sign_piece, line, target, after_commas, many}
-use Rattle.basic_tree.specs.MachineParts.{shape, file_shape, element_size, name, close_channel, field_part}
-use Rattle.basic_tree.specs.MachineStack.{Value, Item, TargetItem, ShapeItem, FileItem, NameItem, LineItem, ChannelItem, FieldItem, Sequence, Targets, Shapes, FileShapes, Parameters, Lines, Channels, FieldParts, Form, MoreOf}
+use Rattle.basic_tree.specs.MachineParts.{shape, file_shape, element_size, name, array, close_channel, field_part}
+use Rattle.basic_tree.specs.MachineStack.{Value, Item, TargetItem, ShapeItem, FileItem, NameItem, LineItem, ChannelItem, FieldItem, Sequence, Targets, Shapes, FileShapes, Parameters, Arrays, Lines, Channels, FieldParts, Form, MoreOf}
 use Rattle.basic_tree.specs.MachineForms.{item_form, shape_form, size_form, has_room, list_form, targets_in, shapes_in, files_in, names_in, lines_in, channels_in, parts_in}
 use Rattle.basic_tree.proofs.PieceLists.{pieces_append, pieces_split}
 use Rattle.basic_tree.proofs.FormReads.{Reads, stopping, absent}
@@ -107,6 +107,9 @@ one_shape s h ps a q f r = read_shape s.name s.first s.second (λ x. h (ShapeIte
 
 pub one_name : {e d : Bool} {v : Value} → ReadsOne e d v Parameters name NameItem (λ ps. true)
 one_name n h ps a q f r = read_name a.0 r
+
+pub one_array : {e d : Bool} {v : Value} → ReadsOne e d v Arrays array NameItem (λ ps. true)
+one_array n h ps a q f r = read_name a.0 r
 
 pub one_line : {e d : Bool} {v : Value} → ReadsOne e d v Lines (λ n. line n ∷ []) LineItem (λ ps. true)
 one_line n h ps a q f r = read_literal a.0 r

@@ -9,13 +9,13 @@ use Rattle.basic_tree.specs.declared.kinds.Want.{Want}
 use Rattle.basic_tree.specs.declared.kinds.Want.TheVariants as want
 use Rattle.basic_tree.specs.SpellingWords.{Word, Key, Punctuation, FnNamed, Number, Quotation, Plain, Opens, words}
 use Rattle.basic_tree.specs.SpellingWords.{Item as ItemOf}
-use Rattle.basic_tree.specs.Trees.{Tree, Variable, Element, PrintItemTree, PrintChannelTree, Print}
+use Rattle.basic_tree.specs.Trees.{Tree, Variable, Element, PrintItemTree, PrintChannelTree, UsingItemTree, PrintUsing, Print}
 use Rattle.basic_tree.specs.Trees.{Value as ValueOf}
 use Rattle.basic_tree.specs.SpellingExpressions.{steps_of}
 use Rattle.basic_tree.specs.SpellingParts.{is_target}
 use Rattle.basic_tree.specs.MachinePieces.{Piece, Fixed, Expression, NameOf, LiteralOf, Holds, pieces_steps, IsPiece, ArePieces, key, sign_piece, closing}
-use Rattle.basic_tree.specs.MachineStack.{Value, Values, Term, Stated, Symbol, Go, Await, Item, Sequence, Limit, within, Form, Made, TakeKey, TakeSign, TakeClosing, IfKey, IfSign, ExprOf, TargetOf, NameIn, FnNameIn, LiteralIn, LiteralIf, QuotedIf, ItemIn, MoreItems, MoreOf, MorePrinted}
-use Rattle.basic_tree.specs.MachineForms.{begins_value, key_begins, item_form, has_room, printed_form}
+use Rattle.basic_tree.specs.MachineStack.{Value, Values, Term, Stated, Symbol, Go, Await, Item, Sequence, Limit, within, Form, Made, TakeKey, TakeSign, TakeClosing, IfKey, IfSign, ExprOf, TargetOf, NameIn, FnNameIn, LiteralIn, LiteralIf, QuotedIf, ItemIn, MoreItems, MoreOf, MorePrinted, MoreUsing}
+use Rattle.basic_tree.specs.MachineForms.{begins_value, key_begins, item_form, has_room, printed_form, using_value_form}
 use Rattle.basic_tree.specs.MachineMoves.{tab_form}
 use Rattle.basic_tree.specs.MachineRun.{run}
 use Rattle.basic_tree.proofs.MachineSteps.{First, is_opening}
@@ -24,7 +24,7 @@ use Rattle.basic_tree.proofs.MachineComplete.{depth_of, whole, takes_kind}
 use Rattle.basic_tree.proofs.MachineForms.{complete}
 use Rattle.basic_tree.proofs.FormLeads.{word_ends, Ending}
 use Rattle.basic_tree.proofs.FormWords.{is_word, is_other_word, is_number, is_quotation, is_item}
-use Rattle.basic_tree.proofs.FormSteps.{run_made, run_await, run_expr, key_taken, sign_taken, sign_opened, closing_sign_taken, if_key, if_key_not, if_sign, if_sign_opens, if_sign_not, target_tightest, name_taken, fn_name_taken, literal_taken, literal_if, literal_if_not, quoted_if, quoted_if_not, item_taken, item_added, no_more_items, one_more, no_more, tab_printed, value_printed, nothing_printed}
+use Rattle.basic_tree.proofs.FormSteps.{run_made, run_await, run_expr, key_taken, sign_taken, sign_opened, closing_sign_taken, if_key, if_key_not, if_sign, if_sign_opens, if_sign_not, target_tightest, name_taken, fn_name_taken, literal_taken, literal_if, literal_if_not, quoted_if, quoted_if_not, item_taken, item_added, no_more_items, one_more, no_more, tab_printed, value_printed, nothing_printed, value_used, nothing_used}
 use Rattle.basic_tree.proofs.FormReads.{Reads, Begins, begins_tree, stopped_follows, stopped_parted, stopping, stopping_stopped, absent, absent_first}
 
 pub read_made : {e : Bool} {v : Value} → Reads e false (Made v) [] v
@@ -195,3 +195,14 @@ read_value {t = t} {ps = ps} i a = record { bound = a.bound; by = λ n h r k vs 
 
 pub read_nothing : {e : Bool} {c : Option PrintChannelTree} {items : List PrintItemTree} → Reads e false (MorePrinted c items) [] (Stated (Print c items None))
 read_nothing = record { bound = 0; by = λ n h r k vs x. nothing_printed n _ _ r k vs (ending_value _ r x) (absent_first _ (Key keyword.Tab) [] r refl tt x) }
+
+used_value : (n : ℕ) (c : Option Tree) (format : Tree) (values : List UsingItemTree) (ws : List Word) (k : List Symbol) (vs : Values) → Begins ws → run n ws (Go (MoreUsing c format values) ∷ k) vs ≡ run n ws (Go (ExprOf want.Either (λ x. using_value_form c format values x)) ∷ k) vs
+used_value n c format values ws k vs b =
+    subst (λ y. run n y (Go (MoreUsing c format values) ∷ k) vs ≡ run n y (Go (ExprOf want.Either (λ x. using_value_form c format values x)) ∷ k) vs) (sym b.spelled)
+    (value_used n c format values b.word b.rest k vs b.begins)
+
+pub read_used : {e d : Bool} {c : Option Tree} {format : Tree} {values : List UsingItemTree} {t : Tree} {ps : List Piece} {v : Value} → IsPiece (Expression want.Either t) → Reads e d (ExprOf want.Either (λ x. using_value_form c format values x)) (Expression want.Either t ∷ ps) v → Reads e d (MoreUsing c format values) (Expression want.Either t ∷ ps) v
+read_used {t = t} {ps = ps} i a = record { bound = a.bound; by = λ n h r k vs x. used_value n _ _ _ _ k vs (begins_pieces want.Either t ps r i) ∙ a.by n h r k vs x }
+
+pub read_none_used : {e : Bool} {c : Option Tree} {format : Tree} {values : List UsingItemTree} → Reads e false (MoreUsing c format values) [] (Stated (PrintUsing c format values None))
+read_none_used = record { bound = 0; by = λ n h r k vs x. nothing_used n _ _ _ r k vs (ending_value _ r x) }

@@ -1,5 +1,5 @@
 -- The statements with lists: their words lead the machine from their form.
-use Rattle.std.proofs.Common.{subst, ◌≡◌, ℕ, Bool, true, false, List, [], ◌∷◌, ◌++◌, Option, Some, None, refl, sym, append_assoc}
+use Rattle.std.proofs.Common.{subst, ◌≡◌, not, ℕ, Bool, true, false, List, [], ◌∷◌, ◌++◌, Option, Some, None, refl, sym, append_assoc}
 use Rattle.std.proofs.lemmas.List.{append-nil}
 use Rattle.basic_tree.specs.declared.names.Name.{Name}
 use Rattle.basic_tree.specs.declared.tokens.Keyword.TheVariants as keyword
@@ -9,7 +9,7 @@ use Rattle.basic_tree.specs.declared.parts.Shape.{Shape}
 use Rattle.basic_tree.specs.declared.parts.FileShape.{FileShape}
 use Rattle.basic_tree.specs.declared.parts.Separator.{Separator}
 use Rattle.basic_tree.specs.declared.parts.Separator.TheVariants as separator
-use Rattle.basic_tree.specs.SpellingWords.{Key, Punctuation, Plain}
+use Rattle.basic_tree.specs.SpellingWords.{Word, Key, Punctuation, Plain}
 use Rattle.basic_tree.specs.SpellingWords.{Item as ItemOf}
 use Rattle.basic_tree.specs.Trees.{Tree, PrintedTree, Tab, PrintItemTree, PrintChannelTree, PromptTree, CloseChannelTree, FieldPartTree, StatementTree, Data, Dim, DimFile, Print, Input, InputLine, Read, OnGoto, OnGosub, Close, Field}
 use Rattle.basic_tree.specs.Trees.{Value as ValueOf}
@@ -18,8 +18,10 @@ use Rattle.basic_tree.specs.MachinePieces.{Piece, Fixed, ArePieces, line, target
 use Rattle.basic_tree.specs.MachineParts.{shape, file_shape, printed, print_item, close_channel, field_part}
 use Rattle.basic_tree.specs.MachineStatements.{pieces_of}
 use Rattle.basic_tree.specs.MachineStack.{Value, Stated, TargetItem, ShapeItem, FileItem, LineItem, ChannelItem, FieldItem, Targets, Shapes, FileShapes, Lines, Channels, FieldParts, MoreItems, MorePrinted}
-use Rattle.basic_tree.specs.MachineForms.{says, targets_in, shapes_in, files_in, lines_in, channels_in, parts_in}
+use Rattle.basic_tree.specs.MachineForms.{begins_value, says, targets_in, shapes_in, files_in, lines_in, channels_in, parts_in}
 use Rattle.basic_tree.specs.MachineSentences.{input_targets}
+use Rattle.basic_tree.proofs.FormLeads.{word_ends}
+use Rattle.basic_tree.proofs.FormWords.{is_word}
 use Rattle.basic_tree.proofs.FormReads.{Reads, stopping, absent}
 use Rattle.basic_tree.proofs.FormParts.{read_made, read_holds, read_key, read_sign, read_if_key, read_if_sign, read_not_key, read_not_sign, read_opening, read_closing, read_expr, read_name, read_literal, read_quoted, read_unquoted, read_item, read_item_added, read_no_items, read_tab, read_value, read_nothing}
 use Rattle.basic_tree.proofs.PieceLists.{pieces_split}
@@ -87,24 +89,24 @@ read_printed {e = e} c (i ∷ more) items last a =
     (subst (λ x. Reads e false (MorePrinted c (items ++ i ∷ [])) (each print_item more ++ optional printed last) (Stated (Print c x last))) (append_assoc items (i ∷ []) more)
     (read_printed c more (items ++ i ∷ []) last parts.1)))
 
--- without a channel no `#` stands first
-unhashed : (list : List PrintItemTree) (last : Option PrintedTree) → absent (Punctuation sign.Hash) (each print_item list ++ optional printed last) ≡ true
-unhashed [] None = refl
-unhashed [] (Some (ValueOf t)) = refl
-unhashed [] (Some (Tab t)) = refl
-unhashed (i ∷ more) last = go i.printed i.separator where
-  go : (p : PrintedTree) (s : Separator) → absent (Punctuation sign.Hash) ((print_item (record { printed = p; separator = s }) ++ each print_item more) ++ optional printed last) ≡ true
-  go (ValueOf t) s = refl
-  go (Tab t) s = refl
+-- a word with which no item begins and no statement ends does not stand first
+no_item_with : (w : Word) → not (word_ends true w) ≡ true → not (begins_value w) ≡ true → not (is_word w (Key keyword.Tab)) ≡ true → (list : List PrintItemTree) (last : Option PrintedTree) → absent w (each print_item list ++ optional printed last) ≡ true
+no_item_with w e v b [] None = e
+no_item_with w e v b [] (Some (ValueOf t)) = v
+no_item_with w e v b [] (Some (Tab t)) = b
+no_item_with w e v b (i ∷ more) last = go i.printed i.separator where
+  go : (p : PrintedTree) (s : Separator) → absent w ((print_item (record { printed = p; separator = s }) ++ each print_item more) ++ optional printed last) ≡ true
+  go (ValueOf t) s = v
+  go (Tab t) s = b
 
 print_channelled : (c : PrintChannelTree) (comma : Bool) → c.comma ≡ comma → (list : List PrintItemTree) (last : Option PrintedTree) → ArePieces (pieces_of (Print (Some (record { number = c.number; comma = comma })) list last)) → Begun (Print (Some (record { number = c.number; comma = comma })) list last)
-print_channelled c true e list last a = begun_as (Print (Some (record { number = c.number; comma = true })) list last) (Key keyword.Print) refl refl (refl, refl) (read_key (read_holds (read_if_sign (read_expr a.1.1.1.0 refl (read_if_sign (read_printed (Some (record { number = c.number; comma = true })) list [] last a.1.1.1.1.1))))))
+print_channelled c true e list last a = begun_as (Print (Some (record { number = c.number; comma = true })) list last) (Key keyword.Print) refl refl (refl, refl) (read_key (read_holds (read_if_sign (read_expr a.1.1.1.0 refl (read_if_sign (read_not_key (no_item_with (Key keyword.Using) refl refl refl list last) a.1.1.1.1.1 (read_printed (Some (record { number = c.number; comma = true })) list [] last a.1.1.1.1.1)))))))
 print_channelled c false e [] None a = begun_as (Print (Some (record { number = c.number; comma = false })) [] None) (Key keyword.Print) refl refl (refl, refl) (read_key (read_holds (read_if_sign (read_expr a.1.1.1.0 refl (read_not_sign refl tt read_made)))))
 print_channelled c false e [] (Some p) a = absurd cc
 print_channelled c false e (i ∷ list) last a = absurd cc
 
 pub begun_print : (c : Option PrintChannelTree) (list : List PrintItemTree) (last : Option PrintedTree) → ArePieces (pieces_of (Print c list last)) → Begun (Print c list last)
-begun_print None list last a = begun_as (Print None list last) (Key keyword.Print) refl refl (refl, refl) (read_key (read_holds (read_not_sign (unhashed list last) a.1.1 (read_printed None list [] last a.1.1))))
+begun_print None list last a = begun_as (Print None list last) (Key keyword.Print) refl refl (refl, refl) (read_key (read_holds (read_not_sign (no_item_with (Punctuation sign.Hash) refl refl refl list last) a.1.1 (read_not_key (no_item_with (Key keyword.Using) refl refl refl list last) a.1.1 (read_printed None list [] last a.1.1)))))
 begun_print (Some c) list last a = print_channelled c c.comma refl list last a
 
 -- ---- INPUT

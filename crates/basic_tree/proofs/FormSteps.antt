@@ -9,9 +9,9 @@ use Rattle.basic_tree.specs.declared.kinds.Want.{Want}
 use Rattle.basic_tree.specs.declared.kinds.Want.TheVariants as want
 use Rattle.basic_tree.specs.SpellingWords.{Word, Key, Punctuation, Named, FnNamed, Number, Quotation}
 use Rattle.basic_tree.specs.SpellingWords.{Item as ItemOf}
-use Rattle.basic_tree.specs.Trees.{Tree, PrintItemTree, PrintChannelTree, Value as ValueOf, Print}
-use Rattle.basic_tree.specs.MachineStack.{Value, Values, Term, Stated, Symbol, Level, Subscripts, Go, Await, Item, Sequence, Limit, within, Form, Made, TakeKey, TakeSign, TakeClosing, IfKey, IfSign, ExprOf, ExprIf, TargetOf, NameIn, FnNameIn, LiteralIn, LiteralIf, QuotedIf, ItemIn, MoreItems, MoreOf, MorePrinted, loosest}
-use Rattle.basic_tree.specs.MachineForms.{begins_value, item_form, has_room, printed_form}
+use Rattle.basic_tree.specs.Trees.{Tree, PrintItemTree, PrintChannelTree, UsingItemTree, PrintUsing, Value as ValueOf, Print}
+use Rattle.basic_tree.specs.MachineStack.{Value, Values, Term, Stated, Symbol, Level, Subscripts, Go, Await, Item, Sequence, Limit, within, Form, Made, TakeKey, TakeSign, TakeClosing, IfKey, IfSign, ExprOf, ExprIf, TargetOf, NameIn, FnNameIn, LiteralIn, LiteralIf, QuotedIf, ItemIn, MoreItems, MoreOf, MorePrinted, MoreUsing, loosest}
+use Rattle.basic_tree.specs.MachineForms.{begins_value, item_form, has_room, printed_form, using_value_form}
 use Rattle.basic_tree.specs.MachineStarts.{Start, takes, start}
 use Rattle.basic_tree.specs.MachineMoves.{tab_form, begun, then_also}
 use Rattle.basic_tree.specs.MachineRun.{Turn, moved, turn, turned, run}
@@ -191,3 +191,12 @@ nothing_printed n c items (Number m ∷ ws) k vs e h = rw e refl
 nothing_printed n c items (Punctuation s ∷ ws) k vs e h = rw e refl
 nothing_printed n c items (ItemOf item ∷ ws) k vs e h = refl
 nothing_printed n c items (t ∷ ws) k vs e h = absurd cc
+
+pub value_used : (n : ℕ) (c : Option Tree) (format : Tree) (values : List UsingItemTree) (t : Word) (ws : List Word) (k : List Symbol) (vs : Values) → begins_value t ≡ true → run n (t ∷ ws) (Go (MoreUsing c format values) ∷ k) vs ≡ run n (t ∷ ws) (Go (ExprOf want.Either (λ x. using_value_form c format values x)) ∷ k) vs
+unfolding run
+value_used n c format values t ws k vs e = rw e refl
+
+pub nothing_used : (n : ℕ) (c : Option Tree) (format : Tree) (values : List UsingItemTree) (ws : List Word) (k : List Symbol) (vs : Values) → First begins_value ws → run n ws (Go (MoreUsing c format values) ∷ k) vs ≡ run n ws k (Stated (PrintUsing c format values None) ∷ vs)
+unfolding run
+nothing_used n c format values [] k vs e = refl
+nothing_used n c format values (t ∷ ws) k vs e = rw e refl

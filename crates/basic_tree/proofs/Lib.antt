@@ -12,6 +12,7 @@ pub mod FormBegins
 pub mod FormChain
 pub mod FormLeads
 pub mod FormLists
+pub mod FormMatrices
 pub mod FormParts
 pub mod FormReads
 pub mod FormSimple
@@ -57,6 +58,7 @@ pub mod SliceLemmas
 pub mod SoundChoices
 pub mod SoundFiles
 pub mod SoundLists
+pub mod SoundMatrices
 pub mod SoundPieces
 pub mod SoundSentences
 pub mod SoundSimple

@@ -11,14 +11,14 @@ use Rattle.basic_tree.specs.declared.parts.OpenFor.{OpenFor}
 use Rattle.basic_tree.specs.declared.parts.OpenFor.TheVariants as purpose
 use Rattle.basic_tree.specs.declared.tokens.Keyword.{Keyword}
 use Rattle.basic_tree.specs.SpellingWords.{Item, Step, Plain, Opens, Closes}
-use Rattle.basic_tree.specs.Trees.{Tree, PrintedTree, Value, Tab, ModifierTree, If, Unless, While, Until, ForModifier, PrintItemTree, PrintChannelTree, ChainLineTree, CloseChannelTree, PromptTree, ClauseTree, LineClause, StatementClause, ElseTree, NoElse, Else, StatementTree, IfThen, IfGoto, Modified, For, Next, FnEnd, Data, Dim, DimFile, Def, Let, Result, Print, Input, InputLine, Read, Restore, Goto, Gosub, Return, OnGoto, OnGosub, OnErrorGoto, Resume, Stop, End, Chain, Sleep, Open, Close, Get, Put, Unlock, Field, Lset, Rset, Kill, Rename, LineTree}
+use Rattle.basic_tree.specs.Trees.{Tree, PrintedTree, Value, Tab, ModifierTree, If, Unless, While, Until, ForModifier, PrintItemTree, PrintChannelTree, UsingItemTree, MatrixTree, Scaled, Transposed, ChainLineTree, CloseChannelTree, PromptTree, ClauseTree, LineClause, StatementClause, ElseTree, NoElse, Else, StatementTree, IfThen, IfGoto, Modified, For, Next, FnEnd, Data, Dim, DimFile, Def, Let, Result, Print, Input, InputLine, Read, Restore, Goto, Gosub, Return, OnGoto, OnGosub, OnErrorGoto, Resume, Stop, End, Chain, Sleep, Open, Close, Get, Put, Unlock, Field, Lset, Rset, Kill, Rename, PrintUsing, MatRead, MatPrint, MatLet, LineTree}
 use Rattle.basic_tree.specs.declared.tokens.Keyword.TheVariants as keyword
 use Rattle.basic_tree.specs.declared.kinds.Want.TheVariants as want
 use Rattle.basic_tree.specs.SpellingExpressions.{steps_of, want_of}
 use Rattle.basic_tree.specs.SpellingParts.{perhaps, optional, each, kind_of_first}
 use Rattle.basic_tree.specs.SpellingStatements.{line_steps}
-use Rattle.basic_tree.specs.MachinePieces.{Piece, Fixed, Expression, NameOf, LiteralOf, Holds, pieces_steps, closing, sign_piece, key, number, line, line_or_zero, target, after_commas, many}
-use Rattle.basic_tree.specs.MachineParts.{shape, element_size, file_shape, separator_piece, printed, print_item, channel, print_channel, channel_and_comma, prompt, modifier, name, parameters, value, chain_line, open_for, option_of, close_channel, field_part}
+use Rattle.basic_tree.specs.MachinePieces.{Piece, Fixed, Expression, NameOf, LiteralOf, Holds, pieces_steps, closing, sign_piece, key, number, text, line, line_or_zero, target, after_commas, many}
+use Rattle.basic_tree.specs.MachineParts.{shape, element_size, file_shape, separator_piece, printed, print_item, using_item, using_values, array, matrix, channel, print_channel, channel_and_comma, prompt, modifier, name, parameters, value, chain_line, open_for, option_of, close_channel, field_part}
 use Rattle.basic_tree.specs.MachineStatements.{closings, go, items, pieces_of, clause_pieces, else_pieces, statement_pieces, line_pieces}
 use Rattle.basic_tree.proofs.MachineLevels.{Above, tree_above}
 use Rattle.basic_tree.proofs.PiecesApart.{line_same}
@@ -106,6 +106,17 @@ print_item_level i = both (printed i.printed) (separator_piece i.separator ∷ [
 print_channel_level : (c : PrintChannelTree) → Balanced (print_channel c)
 print_channel_level c = both (channel c.number) (perhaps c.comma (sign_piece sign.Comma)) (λ d. refl) (perhaps_level c.comma (sign_piece sign.Comma) (λ d. refl))
 
+using_item_level : (i : UsingItemTree) → Balanced (using_item i)
+using_item_level i = separator_level i.separator
+
+using_values_level : (values : List UsingItemTree) (last : Option Tree) → Balanced (using_values values last)
+using_values_level values last = both (each using_item values) (optional (λ t. Expression want.Either t ∷ []) last) (each_level using_item using_item_level values) (optional_level _ (λ a e. refl) last)
+
+matrix_level : (m : MatrixTree) → Balanced (matrix m)
+matrix_level (Scaled t b) = λ d. (d, refl, refl)
+matrix_level (Transposed b) = λ d. (d, refl, refl)
+matrix_level m = λ d. refl
+
 prompt_level : (p : PromptTree) → Balanced (prompt p)
 prompt_level p = separator_level p.separator
 
@@ -177,6 +188,9 @@ mutual
       both (optional print_channel c ++ each print_item list) (optional printed last)
       (both (optional print_channel c) (each print_item list) (optional_level print_channel print_channel_level c) (each_level print_item print_item_level list))
       (optional_level printed printed_level last) d
+  statement_rises (PrintUsing c format values last) d =
+      both (optional channel_and_comma c) (key keyword.Using ∷ text format ∷ sign_piece sign.Comma ∷ using_values values last)
+      (optional_level channel_and_comma (λ a e. refl) c) (using_values_level values last) d
   statement_rises (Input c p ts) d =
       both (optional channel_and_comma c ++ optional prompt p) (many (λ t. target want.Either t) ts)
       (both (optional channel_and_comma c) (optional prompt p) (optional_level channel_and_comma (λ a e. refl) c) (optional_level prompt prompt_level p))
@@ -211,6 +225,9 @@ mutual
   statement_rises (Rset x v) d = refl
   statement_rises (Kill t) d = refl
   statement_rises (Rename old new) d = refl
+  statement_rises (MatRead arrays) d = many_level array (λ a e. refl) arrays d
+  statement_rises (MatPrint a s) d = optional_level (λ x. separator_piece x ∷ []) separator_level s d
+  statement_rises (MatLet a m) d = matrix_level m d
 
   pub clause_level : (c : ClauseTree) → Balanced (clause_pieces c)
   clause_level (LineClause n) = λ d. refl

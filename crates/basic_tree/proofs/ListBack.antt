@@ -9,13 +9,14 @@ use Rattle.basic_tree.specs.declared.parts.Separator.{Separator}
 use Rattle.basic_tree.specs.declared.parts.Separator.TheVariants as separator
 use Rattle.basic_tree.specs.SpellingWords.{Word, Key, Punctuation, Named, Number, Step, Plain, Opens, Closes}
 use Rattle.basic_tree.specs.SpellingWords.{Item as ItemOf}
-use Rattle.basic_tree.specs.Trees.{PrintedTree, Value as ValueOf, Tab, PrintItemTree, PrintChannelTree, ClauseTree, Print}
+use Rattle.basic_tree.specs.Trees.{PrintedTree, Value as ValueOf, Tab, PrintItemTree, PrintChannelTree, UsingItemTree, Tree, ClauseTree, Print, PrintUsing}
 use Rattle.basic_tree.specs.SpellingExpressions.{mark, steps_of}
-use Rattle.basic_tree.specs.MachinePieces.{Piece, pieces_steps, ArePieces}
-use Rattle.basic_tree.specs.MachineParts.{shape, element_size, printed, print_item, separator_piece}
-use Rattle.basic_tree.specs.MachineStack.{Value, Stated, Values, Item, TargetItem, ShapeItem, FileItem, NameItem, LineItem, ChannelItem, FieldItem, Sequence, Targets, Shapes, FileShapes, Parameters, Lines, Channels, FieldParts, Form, Made, TakeKey, TakeSign, TakeClosing, IfKey, IfSign, ExprOf, ExprIf, TargetOf, NameIn, FnNameIn, LiteralIn, LiteralIf, QuotedIf, ItemIn, MoreItems, MoreOf, MorePrinted, ClauseIn, Close, Go}
-use Rattle.basic_tree.specs.MachineForms.{begins_value, has_room, item_form, shape_form, size_form, printed_form}
-use Rattle.basic_tree.specs.MachineMoves.{Move, Takes, Skips, Refuses, expression, expression_if, more_of_list, tab_form, more_printed, form_move_with}
+use Rattle.basic_tree.specs.SpellingParts.{optional, each}
+use Rattle.basic_tree.specs.MachinePieces.{Piece, Fixed, Expression, pieces_steps, IsPiece, ArePieces}
+use Rattle.basic_tree.specs.MachineParts.{shape, element_size, printed, print_item, separator_piece, using_item, using_values}
+use Rattle.basic_tree.specs.MachineStack.{Value, Stated, Values, Item, TargetItem, ShapeItem, FileItem, NameItem, LineItem, ChannelItem, FieldItem, Sequence, Targets, Shapes, FileShapes, Parameters, Arrays, Lines, Channels, FieldParts, Form, Made, TakeKey, TakeSign, TakeClosing, IfKey, IfSign, ExprOf, ExprIf, TargetOf, NameIn, FnNameIn, LiteralIn, LiteralIf, QuotedIf, ItemIn, MoreItems, MoreOf, MorePrinted, MoreUsing, ClauseIn, Close, Go}
+use Rattle.basic_tree.specs.MachineForms.{begins_value, has_room, item_form, shape_form, size_form, printed_form, using_value_form}
+use Rattle.basic_tree.specs.MachineMoves.{Move, Takes, Skips, Refuses, expression, expression_if, more_of_list, tab_form, more_printed, more_using, form_move_with}
 use Rattle.basic_tree.proofs.PieceLists.{steps_append, pieces_append}
 use Rattle.basic_tree.proofs.MachineReads.{item_pieces, Belongs, items_steps, print_pieces, Reads}
 use Rattle.basic_tree.proofs.MachineBack.{TakesBack, MoveBack}
@@ -76,6 +77,7 @@ item_read FileShapes g p v h =
     let f = file_read s.0 g s.1 v s.0.name.text refl s.3 s.4 in
     (f.0, f.1, s.2 ∙ f.2, f.3, f.4, f.5)
 item_read Parameters g p v h = (NameItem h.0, h.1, h.2, tt, (tt, tt), h.4)
+item_read Arrays g p v h = (NameItem h.0, h.1, h.2, h.3, (tt, tt), h.4)
 item_read Lines g p v h = (LineItem h.0, h.1, h.2, tt, (h.3, tt), h.4)
 item_read Channels g p v h =
     elim h as (λ x. ReadsItem Channels g p v) [
@@ -164,6 +166,46 @@ print_back c items vs o =
         go true = expression_back (MorePrinted c items) want.Either (λ t. printed_form c items (ValueOf t)) vs t (λ x p v i f e r. subst (λ z. Reads (MorePrinted c items) (z ++ p) v) (append-nil (steps_of x)) (printed_read c items (ValueOf x) p v ((i, tt), tt) r))
         go false = print_end c items vs (Some t)
 
+-- ---- PRINT USING
+
+-- what stands behind a value, as more of PRINT USING
+abbrev ReadsUsed : Option Tree → Tree → List UsingItemTree → Tree → List Step → Value → Type 0
+ReadsUsed c format values t p v = Reads (MoreUsing c format values) (steps_of t ++ p) v
+
+separated_value : (c : Option Tree) (format : Tree) (values : List UsingItemTree) (t : Tree) (s : Separator) (step : Step) (q : List Step) (v : Value) → separator_piece s ≡ Fixed step → IsPiece (Expression want.Either t) → Reads (MoreUsing c format (values ++ record { value = t; separator = s } ∷ [])) q v → ReadsUsed c format values t (step ∷ q) v
+separated_value c format values t s step q v e i h =
+    let one : List Piece = using_item (record { value = t; separator = s }) in
+    let same : one ++ using_values h.0 h.1 ≡ using_values (record { value = t; separator = s } ∷ h.0) h.1 = sym (append_assoc one (each using_item h.0) (optional (λ x. Expression want.Either x ∷ []) h.1)) in
+    let steps : pieces_steps (separator_piece s ∷ []) ≡ step ∷ [] = rw e refl in
+    let there : pieces_steps one ++ q ≡ steps_of t ++ step ∷ q = append_assoc (steps_of t) (pieces_steps (separator_piece s ∷ [])) q ∙ ap (λ x. steps_of t ++ (x ++ q)) steps in (
+      record { value = t; separator = s } ∷ h.0,
+      h.1,
+      sym there ∙ ap (λ x. pieces_steps one ++ x) h.2 ∙ sym (steps_append one (using_values h.0 h.1)) ∙ ap (λ x. pieces_steps x) same,
+      subst (λ x. ArePieces x) same (pieces_append one (using_values h.0 h.1) (i, (rw e tt, tt)) h.3),
+      ap (λ x. Stated (PrintUsing c format x h.1)) (sym (append_assoc values (record { value = t; separator = s } ∷ []) h.0)) ∙ h.4,
+    )
+
+value_read : (c : Option Tree) (format : Tree) (values : List UsingItemTree) (t : Tree) (p : List Step) (v : Value) → IsPiece (Expression want.Either t) → Reads (using_value_form c format values t) p v → ReadsUsed c format values t p v
+value_read c format values t p v i h =
+    elim h as (λ x. ReadsUsed c format values t p v) [
+      | inl y ↦ subst (λ z. ReadsUsed c format values t z v) (sym y.1) (separated_value c format values t separator.Comma _ y.0 v refl i y.2)
+      | inr z ↦ elim z as (λ x. ReadsUsed c format values t p v) [
+        | inl y ↦ subst (λ z. ReadsUsed c format values t z v) (sym y.1) (separated_value c format values t separator.Semicolon _ y.0 v refl i y.2)
+        | inr y ↦ ([], Some t, ap (λ z. steps_of t ++ z) y.0, (i, tt), ap (λ z. Stated (PrintUsing c format z (Some t))) (append-nil values) ∙ y.1)
+      ]
+    ]
+
+using_end : (c : Option Tree) (format : Tree) (values : List UsingItemTree) (vs : Values) (o : Option Word) → MoveBack (Go (MoreUsing c format values)) vs o (Skips (Stated (PrintUsing c format values None) ∷ vs))
+using_end c format values vs None = λ k q u s. ([], Stated (PrintUsing c format values None), q, refl, ([], None, refl, tt, ap (λ z. Stated (PrintUsing c format z None)) (append-nil values)), s)
+using_end c format values vs (Some t) = λ k q u s. ([], Stated (PrintUsing c format values None), q, refl, ([], None, refl, tt, ap (λ z. Stated (PrintUsing c format z None)) (append-nil values)), s)
+
+using_back : (c : Option Tree) (format : Tree) (values : List UsingItemTree) (vs : Values) (o : Option Word) → MoveBack (Go (MoreUsing c format values)) vs o (more_using c format values vs o)
+using_back c format values vs None = using_end c format values vs None
+using_back c format values vs (Some t) = go (begins_value t) where
+  go : (b : Bool) → MoveBack (Go (MoreUsing c format values)) vs (Some t) (cond b (expression want.Either (λ x. using_value_form c format values x) vs (Some t)) (Skips (Stated (PrintUsing c format values None) ∷ vs)))
+  go true = expression_back (MoreUsing c format values) want.Either (λ x. using_value_form c format values x) vs t (λ x p v i f e r. value_read c format values x p v (i, f) r)
+  go false = using_end c format values vs (Some t)
+
 -- ---- every form
 
 made_back : (w : Value) (vs : Values) (o : Option Word) → MoveBack (Go (Made w)) vs o (Skips (w ∷ vs))
@@ -200,4 +242,5 @@ form_back c cb (ItemIn g) vs o = item_back (ItemIn g) g vs o Refuses (λ item p 
 form_back c cb (MoreItems items g) vs o = item_back (MoreItems items g) (λ item. MoreItems (items ++ item ∷ []) g) vs o (form_move_with c (g items) vs o) (λ item p v r. (item ∷ r.0, r.1, ap (λ x. Plain (ItemOf item) ∷ x) r.2, subst (λ x. Reads (g x) r.1 v) (append_assoc items (item ∷ []) r.0) r.3)) (through_form (MoreItems items g) (g items) vs o (λ p v r. ([], p, refl, subst (λ x. Reads (g x) p v) (sym (append-nil items)) r)) (form_move_with c (g items) vs o) (form_back c cb (g items) vs o))
 form_back c cb (MoreOf s items g) vs o = list_back s items g vs o (form_move_with c (g items) vs o) (form_back c cb (g items) vs o)
 form_back c cb (MorePrinted ch items) vs o = print_back ch items vs o
+form_back c cb (MoreUsing d format values) vs o = using_back d format values vs o
 form_back c cb (ClauseIn g) vs o = cb g vs o

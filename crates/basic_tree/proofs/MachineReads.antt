@@ -4,13 +4,13 @@ use Rattle.basic_tree.specs.declared.tokens.Sign.TheVariants as sign
 use Rattle.basic_tree.specs.declared.kinds.Want.TheVariants as want
 use Rattle.basic_tree.specs.SpellingWords.{Word, Key, Punctuation, Named, FnNamed, Number, Quotation, Step, Plain, Opens, Closes, words}
 use Rattle.basic_tree.specs.SpellingWords.{Item as ItemOf}
-use Rattle.basic_tree.specs.Trees.{Tree, Variable, PrintedTree, ModifierTree, PrintItemTree, ClauseTree, StatementTree, Modified, Print}
+use Rattle.basic_tree.specs.Trees.{Tree, Variable, PrintedTree, ModifierTree, PrintItemTree, UsingItemTree, ClauseTree, StatementTree, Modified, Print, PrintUsing}
 use Rattle.basic_tree.specs.SpellingExpressions.{mark, steps_of, Fits, IsTree}
 use Rattle.basic_tree.specs.SpellingParts.{is_target, optional, each, first_word}
 use Rattle.basic_tree.specs.MachinePieces.{Piece, Expression, Holds, pieces_steps, ArePieces, line, sign_piece}
-use Rattle.basic_tree.specs.MachineParts.{shape, file_shape, printed, print_item, name, modifier, close_channel, field_part}
+use Rattle.basic_tree.specs.MachineParts.{shape, file_shape, printed, print_item, using_values, name, modifier, close_channel, field_part}
 use Rattle.basic_tree.specs.MachineStatements.{clause_pieces, statement_pieces}
-use Rattle.basic_tree.specs.MachineStack.{Value, Stated, Item, TargetItem, ShapeItem, FileItem, NameItem, LineItem, ChannelItem, FieldItem, Sequence, Targets, Shapes, FileShapes, Parameters, Lines, Channels, FieldParts, within, Form, Made, TakeKey, TakeSign, TakeClosing, IfKey, IfSign, ExprOf, ExprIf, TargetOf, NameIn, FnNameIn, LiteralIn, LiteralIf, QuotedIf, ItemIn, MoreItems, MoreOf, MorePrinted, ClauseIn}
+use Rattle.basic_tree.specs.MachineStack.{Value, Stated, Item, TargetItem, ShapeItem, FileItem, NameItem, LineItem, ChannelItem, FieldItem, Sequence, Targets, Shapes, FileShapes, Parameters, Arrays, Lines, Channels, FieldParts, within, Form, Made, TakeKey, TakeSign, TakeClosing, IfKey, IfSign, ExprOf, ExprIf, TargetOf, NameIn, FnNameIn, LiteralIn, LiteralIf, QuotedIf, ItemIn, MoreItems, MoreOf, MorePrinted, MoreUsing, ClauseIn}
 use Rattle.basic_tree.specs.MachineForms.{has_room}
 
 -- a word that opens a level or does not
@@ -35,6 +35,7 @@ Belongs (Targets w) (TargetItem t) = Fits w t
 Belongs Shapes (ShapeItem s) = Unit {0}
 Belongs FileShapes (FileItem s) = Unit {0}
 Belongs Parameters (NameItem n) = Unit {0}
+Belongs Arrays (NameItem n) = Fits want.Number (Variable n)
 Belongs Lines (LineItem n) = Unit {0}
 Belongs Channels (ChannelItem c) = Unit {0}
 Belongs FieldParts (FieldItem part) = Unit {0}
@@ -83,6 +84,7 @@ Reads (ItemIn g) p u = (item : List ℕ) × (q : List Step) × (p ≡ Plain (Ite
 Reads (MoreItems items g) p u = (more : List (List ℕ)) × (q : List Step) × (p ≡ data_steps more ++ q) × Reads (g (items ++ more)) q u
 Reads (MoreOf s items g) p u = (more : List Item) × (q : List Step) × (p ≡ items_steps more ++ q) × AreItems s items more × Reads (g (items ++ more)) q u
 Reads (MorePrinted c items) p u = (more : List PrintItemTree) × (last : Option PrintedTree) × (p ≡ pieces_steps (print_pieces more last)) × ArePieces (print_pieces more last) × (Stated (Print c (items ++ more) last) ≡ u)
+Reads (MoreUsing c format values) p u = (more : List UsingItemTree) × (last : Option Tree) × (p ≡ pieces_steps (using_values more last)) × ArePieces (using_values more last) × (Stated (PrintUsing c format (values ++ more) last) ≡ u)
 Reads (ClauseIn g) p u = (c : ClauseTree) × (q : List Step) × (p ≡ pieces_steps (clause_pieces c) ++ Closes ∷ q) × ArePieces (clause_pieces c) × Reads (g c) q u
 
 -- ---- modifiers and lines

@@ -10,7 +10,7 @@ use Rattle.basic_tree.specs.SpellingWords.{Word, Punctuation, Named, FnNamed, Nu
 use Rattle.basic_tree.specs.Trees.{Tree, Literal, Quoted, Variable, Call, Comparison, Trees, NoTrees, AndTrees, ModifierTree, LineClause, StatementClause, StatementTree}
 use Rattle.basic_tree.specs.SpellingExpressions.{mark, steps_of, more_steps, is_text, Fits, level_of, is_exponent, IsTree, AreTrees}
 use Rattle.basic_tree.specs.GrammarTables.{relation_level}
-use Rattle.basic_tree.specs.MachineStack.{Value, Term, Several, Stated, Parsed, Values, top, several, stated, parsed, below, with_statement, made, others, Limit, LineNumber, Bound, Size, within, Form, Made, TakeKey, TakeSign, TakeClosing, IfKey, IfSign, ExprOf, ExprIf, TargetOf, NameIn, FnNameIn, LiteralIn, LiteralIf, QuotedIf, ItemIn, MoreItems, MoreOf, MorePrinted, ClauseIn, Symbol, Level, More, MoreRelations, Exponent, Expect, Opening, Close, Do, Subscripts, SecondSubscript, Arguments, MoreArguments, Go, Await, AwaitClause, Modifiers, OneStatement, MoreStatements}
+use Rattle.basic_tree.specs.MachineStack.{Value, Term, Several, Stated, Parsed, Values, top, several, stated, parsed, below, with_statement, made, others, Limit, LineNumber, Bound, Size, within, Form, Made, TakeKey, TakeSign, TakeClosing, IfKey, IfSign, ExprOf, ExprIf, TargetOf, NameIn, FnNameIn, LiteralIn, LiteralIf, QuotedIf, ItemIn, MoreItems, MoreOf, MorePrinted, MoreUsing, ClauseIn, Symbol, Level, More, MoreRelations, Exponent, Expect, Opening, Close, Do, Subscripts, SecondSubscript, Arguments, MoreArguments, Go, Await, AwaitClause, Modifiers, OneStatement, MoreStatements}
 use Rattle.basic_tree.specs.SpellingParts.{each}
 use Rattle.basic_tree.specs.MachinePieces.{pieces_steps, ArePieces}
 use Rattle.basic_tree.proofs.MachineReads.{Reads, modifiers_steps, AreModifiers, modified_by, place_pieces, separated}
@@ -142,6 +142,7 @@ fill_form (ItemIn g) = let h = fill_form (g []) in (_, h.1, ([], h.0, refl, h.2)
 fill_form (MoreItems items g) = let h = fill_form (g items) in (h.0, h.1, ([], h.0, refl, subst (λ x. Reads (g x) h.0 h.1) (sym (append-nil items)) h.2))
 fill_form (MoreOf s items g) = let h = fill_form (g items) in (h.0, h.1, ([], h.0, refl, tt, subst (λ x. Reads (g x) h.0 h.1) (sym (append-nil items)) h.2))
 fill_form (MorePrinted c items) = ([], _, ([], None, refl, tt, refl))
+fill_form (MoreUsing c format values) = ([], _, ([], None, refl, tt, refl))
 fill_form (ClauseIn g) = let h = fill_form (g (LineClause 1)) in (_, h.1, (LineClause 1, h.0, refl, (refl, tt), h.2))
 
 -- ---- whole stacks

@@ -12,12 +12,12 @@ use Rattle.basic_tree.specs.declared.parts.Separator.TheVariants as separator
 use Rattle.basic_tree.specs.declared.parts.OpenFor.{OpenFor}
 use Rattle.basic_tree.specs.declared.parts.OpenFor.TheVariants as purpose
 use Rattle.basic_tree.specs.SpellingWords.{FnNamed, Quotation, Item, Step, Plain}
-use Rattle.basic_tree.specs.Trees.{Tree, PrintedTree, Value, Tab, ModifierTree, ForModifier, PrintItemTree, PrintChannelTree, PromptTree, ChainLineTree, CloseChannelTree, ClauseTree, LineClause, StatementClause, ElseTree, NoElse, Else, StatementTree, IfThen, IfGoto, Modified, For, Data, Dim, DimFile, Def, Let, Print, Input, InputLine, Read, Goto, Gosub, OnGoto, OnGosub, OnErrorGoto, Resume, Chain, Open, Close, Get, Put, Field, LineTree}
+use Rattle.basic_tree.specs.Trees.{Tree, PrintedTree, Value, Tab, ModifierTree, ForModifier, PrintItemTree, PrintChannelTree, UsingItemTree, MatrixTree, Zero, PromptTree, ChainLineTree, CloseChannelTree, ClauseTree, LineClause, StatementClause, ElseTree, NoElse, Else, StatementTree, IfThen, IfGoto, Modified, For, Data, Dim, DimFile, Def, Let, Print, PrintUsing, MatRead, MatPrint, MatLet, Input, InputLine, Read, Goto, Gosub, OnGoto, OnGosub, OnErrorGoto, Resume, Chain, Open, Close, Get, Put, Field, LineTree}
 use Rattle.basic_tree.specs.SpellingExpressions.{steps_of, want_of}
-use Rattle.basic_tree.specs.SpellingParts.{Spelling, steps_in, keyed, signed, opens, opens_list, closes, named, literal, perhaps, optional, each, comma_each, listed, kind_of_first, shape_spelling, file_shape_spelling, separator_steps, printed_spelling, item_spelling, print_channel_spelling, channel_comma_spelling, prompt_spelling, range_spelling, modifier_spelling, parameters_spelling, value_spelling, chain_line_spelling, purpose_spelling, option_spelling, close_channel_spelling, field_part_spelling}
+use Rattle.basic_tree.specs.SpellingParts.{Spelling, steps_in, keyed, signed, opens, opens_list, closes, named, literal, perhaps, optional, each, comma_each, listed, kind_of_first, shape_spelling, file_shape_spelling, separator_steps, printed_spelling, item_spelling, using_item_spelling, matrix_spelling, print_channel_spelling, channel_comma_spelling, prompt_spelling, range_spelling, modifier_spelling, parameters_spelling, value_spelling, chain_line_spelling, purpose_spelling, option_spelling, close_channel_spelling, field_part_spelling}
 use Rattle.basic_tree.specs.SpellingStatements.{ends_of, spelling_of, clause_spelling, else_spelling, statement_spelling, line_steps}
-use Rattle.basic_tree.specs.MachinePieces.{Piece, Fixed, Expression, NameOf, LiteralOf, Holds, pieces_steps, key, sign_piece, closing, number, line, target, after_commas, many}
-use Rattle.basic_tree.specs.MachineParts.{shape, element_size, file_shape, separator_piece, printed, print_item, print_channel, channel_and_comma, prompt, range, modifier, name, parameters, value, chain_line, open_for, option_of, close_channel, field_part}
+use Rattle.basic_tree.specs.MachinePieces.{Piece, Fixed, Expression, NameOf, LiteralOf, Holds, pieces_steps, key, sign_piece, closing, number, text, line, target, after_commas, many}
+use Rattle.basic_tree.specs.MachineParts.{shape, element_size, file_shape, separator_piece, printed, print_item, using_item, using_values, array, matrix, print_channel, channel_and_comma, prompt, range, modifier, name, parameters, value, chain_line, open_for, option_of, close_channel, field_part}
 use Rattle.basic_tree.specs.MachineStatements.{closings, pieces_of, clause_pieces, else_pieces, statement_pieces, line_pieces}
 use Rattle.basic_tree.proofs.MachineReads.{separated}
 
@@ -99,6 +99,18 @@ item_apart item = two (printed item.printed) (separator_piece item.separator ∷
 print_channel_apart : (c : PrintChannelTree) → strip (print_channel c) ≡ print_channel_spelling c
 print_channel_apart c = ap (λ x. signed sign.Hash ∷ steps_of c.number ∷ x) (perhaps_apart c.comma _)
 
+using_item_apart : (item : UsingItemTree) → strip (using_item item) ≡ using_item_spelling item
+using_item_apart item = ap (λ x. steps_of item.value ∷ x) (separator_apart item.separator)
+
+using_values_apart : (values : List UsingItemTree) (last : Option Tree) → strip (using_values values last) ≡ each using_item_spelling values ++ optional (λ t. steps_of t ∷ []) last
+using_values_apart values last =
+    two (each using_item values) (optional (λ t. Expression want.Either t ∷ []) last) (each using_item_spelling values) (optional (λ t. steps_of t ∷ []) last)
+    (each_apart using_item using_item_spelling using_item_apart values) (option_apart (λ t. Expression want.Either t ∷ []) (λ t. steps_of t ∷ []) (λ t. refl) last)
+
+matrix_apart : (m : MatrixTree) → strip (matrix m) ≡ matrix_spelling m
+matrix_apart Zero = refl
+matrix_apart m = refl
+
 prompt_apart : (p : PromptTree) → strip (prompt p) ≡ prompt_spelling p
 prompt_apart p = ap (λ x. (Plain (Quotation p.text) ∷ []) ∷ x) (separator_apart p.separator)
 
@@ -169,6 +181,11 @@ mutual
       (two (optional print_channel c ++ each print_item items) (optional printed last) (optional print_channel_spelling c ++ each item_spelling items) (optional printed_spelling last)
       (two (optional print_channel c) (each print_item items) (optional print_channel_spelling c) (each item_spelling items) (option_apart print_channel print_channel_spelling print_channel_apart c) (each_apart print_item item_spelling item_apart items))
       (option_apart printed printed_spelling printed_apart last))
+  statement_apart (PrintUsing c format values last) =
+      ap (λ x. keyed keyword.Print ∷ x)
+      (two (optional channel_and_comma c) (key keyword.Using ∷ text format ∷ sign_piece sign.Comma ∷ using_values values last) (optional channel_comma_spelling c) _
+      (option_apart channel_and_comma channel_comma_spelling (λ t. refl) c)
+      (ap (λ x. keyed keyword.Using ∷ steps_of format ∷ signed sign.Comma ∷ x) (using_values_apart values last)))
   statement_apart (Input c p ts) =
       ap (λ x. keyed keyword.Input ∷ x)
       (two (optional channel_and_comma c ++ optional prompt p) (many (λ t. target want.Either t) ts) (optional channel_comma_spelling c ++ optional prompt_spelling p) (listed (λ t. steps_of t ∷ []) ts)
@@ -203,6 +220,9 @@ mutual
   statement_apart (Get c block) = ap (λ x. keyed keyword.Get ∷ signed sign.Hash ∷ steps_of c ∷ x) (option_of_apart keyword.Record block)
   statement_apart (Put c block) = ap (λ x. keyed keyword.Put ∷ signed sign.Hash ∷ steps_of c ∷ x) (option_of_apart keyword.Record block)
   statement_apart (Field c ps) = ap (λ x. keyed keyword.Field ∷ signed sign.Hash ∷ steps_of c ∷ signed sign.Comma ∷ x) (many_apart field_part field_part_spelling (λ p. refl) ps)
+  statement_apart (MatRead arrays) = ap (λ x. keyed keyword.Mat ∷ keyed keyword.Read ∷ x) (many_apart array (λ a. named a ∷ []) (λ a. refl) arrays)
+  statement_apart (MatPrint a s) = ap (λ x. keyed keyword.Mat ∷ keyed keyword.Print ∷ named a ∷ x) (option_apart (λ x. separator_piece x ∷ []) (λ x. separator_steps x ∷ []) separator_apart s)
+  statement_apart (MatLet a m) = ap (λ x. keyed keyword.Mat ∷ named a ∷ signed sign.Equal ∷ x) (matrix_apart m)
   statement_apart s = refl
 
   clause_apart : (c : ClauseTree) → strip (clause_pieces c) ≡ clause_spelling c

@@ -11,12 +11,12 @@ use Rattle.basic_tree.specs.declared.parts.Separator.TheVariants as separator
 use Rattle.basic_tree.specs.declared.parts.OpenFor.{OpenFor}
 use Rattle.basic_tree.specs.declared.parts.OpenFor.TheVariants as purpose
 use Rattle.basic_tree.specs.SpellingWords.{Item, Step, Plain}
-use Rattle.basic_tree.specs.Trees.{Tree, Variable, PrintedTree, Value, Tab, ModifierTree, If, Unless, While, Until, ForModifier, PrintItemTree, PrintChannelTree, PromptTree, ChainLineTree, CloseChannelTree, FieldPartTree, ClauseTree, LineClause, StatementClause, ElseTree, NoElse, Else, StatementTree, IfThen, IfGoto, Modified, For, Next, FnEnd, Data, Dim, DimFile, Def, Let, Result, Print, Input, InputLine, Read, Restore, Goto, Gosub, Return, OnGoto, OnGosub, OnErrorGoto, Resume, Stop, End, Chain, Sleep, Open, Close, Get, Put, Unlock, Field, Lset, Rset, Kill, Rename, LineTree}
+use Rattle.basic_tree.specs.Trees.{Tree, Variable, PrintedTree, Value, Tab, ModifierTree, If, Unless, While, Until, ForModifier, PrintItemTree, PrintChannelTree, UsingItemTree, MatrixTree, Zero, One, Identity, Copy, Sum, Difference, Product, Scaled, Transposed, PromptTree, ChainLineTree, CloseChannelTree, FieldPartTree, ClauseTree, LineClause, StatementClause, ElseTree, NoElse, Else, StatementTree, IfThen, IfGoto, Modified, For, Next, FnEnd, Data, Dim, DimFile, Def, Let, Result, Print, Input, InputLine, Read, Restore, Goto, Gosub, Return, OnGoto, OnGosub, OnErrorGoto, Resume, Stop, End, Chain, Sleep, Open, Close, Get, Put, Unlock, Field, Lset, Rset, Kill, Rename, PrintUsing, MatRead, MatPrint, MatLet, LineTree}
 use Rattle.basic_tree.specs.SpellingExpressions.{Fits, want_of}
-use Rattle.basic_tree.specs.SpellingParts.{perhaps, optional, each, IfThere, Every, OneOrMore, IsOf, is_line_number, is_bound, IsTarget, IsShape, is_size, IsFileShape, IsPrinted, kind_of_first, IsRange, IsModifier, IsChainLine, IsFieldPart}
+use Rattle.basic_tree.specs.SpellingParts.{perhaps, optional, each, IfThere, Every, OneOrMore, IsOf, is_line_number, is_bound, IsTarget, IsShape, is_size, IsFileShape, IsArray, IsMatrix, IsPrinted, kind_of_first, IsRange, IsModifier, IsChainLine, IsFieldPart}
 use Rattle.basic_tree.specs.SpellingStatements.{IsStatement, IsClause, IsElse, IsAdmissible}
 use Rattle.basic_tree.specs.MachinePieces.{Piece, Fixed, Expression, NameOf, LiteralOf, Holds, ArePieces, line, line_or_zero, target, after_commas, many}
-use Rattle.basic_tree.specs.MachineParts.{shape, element_size, file_shape, separator_piece, printed, print_item, channel_and_comma, print_channel, prompt, range, modifier, name, parameters, value, chain_line, open_for, option_of, close_channel, field_part}
+use Rattle.basic_tree.specs.MachineParts.{shape, element_size, file_shape, separator_piece, printed, print_item, using_item, using_values, array, matrix, channel_and_comma, print_channel, prompt, range, modifier, name, parameters, value, chain_line, open_for, option_of, close_channel, field_part}
 use Rattle.basic_tree.specs.MachineStatements.{closings, pieces_of, clause_pieces, else_pieces, statement_pieces, line_pieces}
 use Rattle.basic_tree.proofs.PieceLists.{pieces_append, pieces_split}
 use Rattle.basic_tree.proofs.MachineReads.{separated}
@@ -124,6 +124,23 @@ channel_same t = fixed (change (expr (fixed nothing)) (λ h. h.0) (λ a. (a, tt)
 print_channel_same : (c : PrintChannelTree) → Same (print_channel c) (IsOf want.Number c.number)
 print_channel_same c = fixed (change (expr (perhaps_same c.comma _)) (λ h. h.0) (λ a. (a, tt)))
 
+using_item_same : (item : UsingItemTree) → Same (using_item item) (IsOf want.Either item.value)
+using_item_same item = change (expr (separator_same item.separator)) (λ h. h.0) (λ a. (a, tt))
+
+using_values_same : (values : List UsingItemTree) (last : Option Tree) → Same (using_values values last) (Every (λ item. IsOf want.Either item.value) values × IfThere (λ t. IsOf want.Either t) last)
+using_values_same values last = two (every using_item (λ item. IsOf want.Either item.value) using_item_same values) (option (λ t. Expression want.Either t ∷ []) (λ t. IsOf want.Either t) (λ t. last_expr) last)
+
+matrix_same : (m : MatrixTree) → Same (matrix m) (IsMatrix m)
+matrix_same Zero = fixed nothing
+matrix_same One = fixed nothing
+matrix_same Identity = fixed nothing
+matrix_same (Copy b) = last_named
+matrix_same (Sum b c) = named (fixed last_named)
+matrix_same (Difference b c) = named (fixed last_named)
+matrix_same (Product b c) = named (fixed last_named)
+matrix_same (Scaled t b) = fixed (expr (fixed (fixed (fixed last_named))))
+matrix_same (Transposed b) = fixed (fixed (change (named (fixed (fixed nothing))) (λ h. h.0) (λ a. (a, tt))))
+
 prompt_same : (p : PromptTree) → Same (prompt p) (Unit {0})
 prompt_same p = fixed (separator_same p.separator)
 
@@ -197,6 +214,9 @@ mutual
   statement_same (Print c items last) =
       fixed (change (held (two (two (option print_channel (λ channel. IsOf want.Number channel.number) print_channel_same c) (every print_item (λ item. IsPrinted item.printed) item_same items)) (option printed IsPrinted printed_same last)))
       (λ h. (h.0, h.1.0.0, h.1.0.1, h.1.1)) (λ a. (a.0, ((a.1, a.2), a.3))))
+  statement_same (PrintUsing c format values last) =
+      fixed (change (held (two (option channel_and_comma (λ t. IsOf want.Number t) channel_same c) (fixed (expr (fixed (using_values_same values last))))))
+      (λ h. (h.0, h.1.0, h.1.1.0, h.1.1.1.0, h.1.1.1.1)) (λ a. (a.0, (a.1, (a.2, (a.3, a.4))))))
   statement_same (Input c p ts) =
       fixed (change (held (two (before (option channel_and_comma (λ t. IsOf want.Number t) channel_same c) (change (option prompt (λ q. Unit {0}) prompt_same p) (λ h. tt) (λ a. all_units p))) (several (λ t. target want.Either t) (λ t. IsTarget want.Either t) (target_same want.Either) ts)))
       (λ h. (h.0, h.1.0, h.1.1)) (λ a. (a.0, (a.1, a.2)))) where
@@ -231,6 +251,12 @@ mutual
   statement_same (Rset x v) = fixed (named (fixed last_expr))
   statement_same (Kill t) = fixed last_expr
   statement_same (Rename old new) = fixed (expr (fixed last_expr))
+  statement_same (MatRead arrays) = fixed (fixed (several array IsArray (λ a. last_named) arrays))
+  statement_same (MatPrint a s) = fixed (fixed (change (named (option (λ x. separator_piece x ∷ []) (λ x. Unit {0}) separator_same s)) (λ h. h.0) (λ h. (h, every_unit s)))) where
+    every_unit : (o : Option Separator) → IfThere (λ x. Unit {0}) o
+    every_unit None = tt
+    every_unit (Some x) = tt
+  statement_same (MatLet a m) = fixed (named (fixed (matrix_same m)))
 
   clause_same : (c : ClauseTree) → Same (clause_pieces c) (IsClause c)
   clause_same (LineClause n) = last_literal

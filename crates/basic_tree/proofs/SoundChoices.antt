@@ -1,5 +1,5 @@
 -- IF, DIM, DEF, LET, PRINT and INPUT: what each form reads is the statement.
-use Rattle.std.proofs.Common.{◌≡◌, ℕ, Bool, true, false, inl, inr, List, [], ◌∷◌, ◌++◌, Option, Some, None, refl}
+use Rattle.std.proofs.Common.{◌≡◌, ℕ, Bool, true, false, inl, inr, List, [], ◌∷◌, ◌++◌, Option, Some, None, refl, sym, ap, ◌∙◌, subst}
 use Rattle.std.specs.Prelude.{◌&&◌, not}
 use Rattle.basic_tree.specs.declared.names.Name.{Name}
 use Rattle.basic_tree.specs.declared.tokens.Keyword.TheVariants as keyword
@@ -7,18 +7,19 @@ use Rattle.basic_tree.specs.declared.tokens.Sign.TheVariants as sign
 use Rattle.basic_tree.specs.declared.kinds.Want.TheVariants as want
 use Rattle.basic_tree.specs.declared.parts.Shape.{Shape}
 use Rattle.basic_tree.specs.declared.parts.FileShape.{FileShape}
+use Rattle.basic_tree.specs.declared.parts.Separator.{Separator}
 use Rattle.basic_tree.specs.declared.parts.Separator.TheVariants as separator
 use Rattle.basic_tree.specs.SpellingWords.{Step}
-use Rattle.basic_tree.specs.Trees.{Tree, PrintedTree, PrintItemTree, PromptTree, ElseTree, NoElse, Else, StatementTree, IfThen, IfGoto, Dim, DimFile, Def, Let, Print, Input, InputLine}
-use Rattle.basic_tree.specs.SpellingExpressions.{is_text, Fits, want_of}
-use Rattle.basic_tree.specs.SpellingParts.{optional, is_parted, kind_of_first}
+use Rattle.basic_tree.specs.Trees.{Tree, PrintedTree, PrintItemTree, UsingItemTree, PromptTree, ElseTree, NoElse, Else, StatementTree, IfThen, IfGoto, Dim, DimFile, Def, Let, Print, PrintUsing, Input, InputLine}
+use Rattle.basic_tree.specs.SpellingExpressions.{steps_of, IsTree, is_text, Fits, want_of}
+use Rattle.basic_tree.specs.SpellingParts.{optional, each, has_value, is_parted, kind_of_first}
 use Rattle.basic_tree.specs.SpellingStatements.{has_else, clause_wants_else}
-use Rattle.basic_tree.specs.MachinePieces.{target, many, after_commas, sign_piece, closing}
-use Rattle.basic_tree.specs.MachineParts.{shape, file_shape, value, name, element_size}
+use Rattle.basic_tree.specs.MachinePieces.{Fixed, text, target, many, after_commas, sign_piece, closing}
+use Rattle.basic_tree.specs.MachineParts.{shape, file_shape, separator_piece, using_item, using_values, value, name, element_size}
 use Rattle.basic_tree.specs.MachineStatements.{clause_pieces, else_pieces}
 use Rattle.basic_tree.specs.MachineStack.{Value, Stated, TargetItem, ShapeItem, FileItem, NameItem, Shapes, FileShapes, Form, TakeKey, MoreOf}
 use Rattle.basic_tree.specs.MachineForms.{shape_form, size_form, targets_in, shapes_in, files_in, names_in, says, else_form, targets_form, value_form}
-use Rattle.basic_tree.specs.MachineSentences.{Choice, Head, Simple, if_form, dim_form, def_form, print_form, input_targets, input_form}
+use Rattle.basic_tree.specs.MachineSentences.{Choice, Head, Simple, if_form, dim_form, def_form, print_form, using_form, input_targets, input_form}
 use Rattle.basic_tree.proofs.MachineReads.{Reads, items_steps}
 use Rattle.basic_tree.proofs.SoundPieces.{Spells, ended, fixed, expression, name_of, literal, holds, joined, only, listed, regrouped, Starts, one_behind, said, Sound}
 use Rattle.basic_tree.proofs.SoundLists.{targets_spelled, shapes_spelled, files_spelled, names_spelled, few_names}
@@ -105,6 +106,57 @@ comma_parts c [] None = refl
 comma_parts c [] (Some t) = refl
 comma_parts c (item ∷ items) last = refl
 
+-- behind USING
+record UsingRead (c : Option Tree) (p : List Step) (v : Value) : Type 0 where
+  format : Tree
+  values : List UsingItemTree
+  last : Option Tree
+  some : has_value values last ≡ true
+  spells : Spells (text format ∷ sign_piece sign.Comma ∷ using_values values last) p
+  is : Stated (PrintUsing c format values last) ≡ v
+
+separated_read : (t : Tree) (s : Separator) (step : Step) (more : List UsingItemTree) (last : Option Tree) (p q : List Step) → separator_piece s ≡ Fixed step → IsTree t → p ≡ steps_of t ++ step ∷ q → Spells (using_values more last) q → Spells (using_values (record { value = t; separator = s } ∷ more) last) p
+separated_read t s step more last p q e i h m = regrouped (using_item (record { value = t; separator = s })) (each using_item more) _ (expression h i tt (subst (λ x. Spells (x ∷ using_values more last) (step ∷ q)) (sym e) (fixed refl m)))
+
+using_read : (c : Option Tree) (p : List Step) (v : Value) → Reads (using_form c) p v → UsingRead c p v
+using_read c p v h =
+    let comma = h.5 in
+    let t = comma.2 in
+    elim t.5 [
+      | inl x ↦
+          let m = x.2 in
+          record {
+            format = h.0;
+            values = record { value = t.0; separator = separator.Comma } ∷ m.0;
+            last = m.1;
+            some = refl;
+            spells = expression h.2 h.3 h.4 (fixed comma.1 (separated_read t.0 separator.Comma _ m.0 m.1 comma.0 x.0 refl t.3 (t.2 ∙ ap (λ y. steps_of t.0 ++ y) x.1) (record { wanted = m.3; spelled = m.2 })));
+            is = m.4;
+          }
+      | inr y ↦
+          elim y [
+            | inl x ↦
+                let m = x.2 in
+                record {
+                  format = h.0;
+                  values = record { value = t.0; separator = separator.Semicolon } ∷ m.0;
+                  last = m.1;
+                  some = refl;
+                  spells = expression h.2 h.3 h.4 (fixed comma.1 (separated_read t.0 separator.Semicolon _ m.0 m.1 comma.0 x.0 refl t.3 (t.2 ∙ ap (λ y. steps_of t.0 ++ y) x.1) (record { wanted = m.3; spelled = m.2 })));
+                  is = m.4;
+                }
+            | inr x ↦
+                record {
+                  format = h.0;
+                  values = [];
+                  last = Some t.0;
+                  some = refl;
+                  spells = expression h.2 h.3 h.4 (fixed comma.1 (expression t.2 t.3 t.4 (ended x.0)));
+                  is = x.1;
+                }
+          ]
+    ]
+
 pub print_sound : Sound Simple print_form
 print_sound p v h =
     elim h.2 [
@@ -112,14 +164,26 @@ print_sound p v h =
           let c = x.2 in
           elim c.5 [
             | inl y ↦
-                let m = y.2 in
-                said Simple (Print (Some (record { number = c.0; comma = true })) m.0 m.1) p v m.4
-                (fixed h.1 (holds (comma_parts c.0 m.0 m.1) (fixed x.1 (expression c.2 c.3 c.4 (fixed y.1 (record { wanted = m.3; spelled = m.2 })))))) refl (refl, refl)
+                elim y.2 [
+                  | inl z ↦
+                      let u = using_read (Some c.0) z.0 v z.2 in
+                      said Simple (PrintUsing (Some c.0) u.format u.values u.last) p v u.is
+                      (fixed h.1 (holds u.some (fixed x.1 (expression c.2 c.3 c.4 (fixed y.1 (fixed z.1 u.spells)))))) refl (refl, refl)
+                  | inr m ↦
+                      said Simple (Print (Some (record { number = c.0; comma = true })) m.0 m.1) p v m.4
+                      (fixed h.1 (holds (comma_parts c.0 m.0 m.1) (fixed x.1 (expression c.2 c.3 c.4 (fixed y.1 (record { wanted = m.3; spelled = m.2 })))))) refl (refl, refl)
+                ]
             | inr y ↦
                 said Simple (Print (Some (record { number = c.0; comma = false })) [] None) p v y.1
                 (fixed h.1 (holds refl (fixed x.1 (expression c.2 c.3 c.4 (ended y.0))))) refl (refl, refl)
           ]
-      | inr m ↦ said Simple (Print None m.0 m.1) p v m.4 (fixed h.1 (holds refl (record { wanted = m.3; spelled = m.2 }))) refl (refl, refl)
+      | inr y ↦
+          elim y [
+            | inl z ↦
+                let u = using_read None z.0 v z.2 in
+                said Simple (PrintUsing None u.format u.values u.last) p v u.is (fixed h.1 (holds u.some (fixed z.1 u.spells))) refl (refl, refl)
+            | inr m ↦ said Simple (Print None m.0 m.1) p v m.4 (fixed h.1 (holds refl (record { wanted = m.3; spelled = m.2 }))) refl (refl, refl)
+          ]
     ]
 
 -- ---- INPUT

@@ -5,11 +5,11 @@ use Rattle.basic_tree.specs.declared.names.Name.{Name}
 use Rattle.basic_tree.specs.declared.kinds.Want.{Want}
 use Rattle.basic_tree.specs.SpellingExpressions.{steps_of}
 use Rattle.basic_tree.specs.MachinePieces.{line, target, after_commas}
-use Rattle.basic_tree.specs.MachineParts.{shape, file_shape, name, close_channel, field_part}
-use Rattle.basic_tree.specs.MachineStack.{Item, TargetItem, ShapeItem, FileItem, NameItem, LineItem, ChannelItem, FieldItem, Targets, Shapes, FileShapes, Parameters, Lines, Channels, FieldParts}
+use Rattle.basic_tree.specs.MachineParts.{shape, file_shape, name, array, close_channel, field_part}
+use Rattle.basic_tree.specs.MachineStack.{Item, TargetItem, ShapeItem, FileItem, NameItem, LineItem, ChannelItem, FieldItem, Targets, Shapes, FileShapes, Parameters, Arrays, Lines, Channels, FieldParts}
 use Rattle.basic_tree.specs.MachineForms.{targets_in, shapes_in, files_in, names_in, lines_in, channels_in, parts_in}
 use Rattle.basic_tree.proofs.MachineReads.{AreItems, items_steps}
-use Rattle.basic_tree.proofs.SoundPieces.{Spells, ended, fixed, expression, holds, joined}
+use Rattle.basic_tree.proofs.SoundPieces.{Spells, ended, fixed, expression, name_of, holds, joined}
 
 pub targets_spelled : (w : Want) (before more : List Item) → AreItems (Targets w) before more → Spells (after_commas (λ t. target w t) (targets_in more)) (items_steps more)
 targets_spelled w before [] h = ended refl
@@ -30,6 +30,11 @@ pub names_spelled : (before more : List Item) → AreItems Parameters before mor
 names_spelled before [] h = ended refl
 names_spelled before (NameItem s ∷ more) h = fixed refl (joined (name s) refl h.2 (names_spelled (before ++ NameItem s ∷ []) more h.3))
 names_spelled before (other ∷ more) h = absurd h.1
+
+pub arrays_spelled : (before more : List Item) → AreItems Arrays before more → Spells (after_commas array (names_in more)) (items_steps more)
+arrays_spelled before [] h = ended refl
+arrays_spelled before (NameItem s ∷ more) h = fixed refl (name_of refl h.1 (arrays_spelled (before ++ NameItem s ∷ []) more h.3))
+arrays_spelled before (other ∷ more) h = absurd h.1
 
 pub lines_spelled : (before more : List Item) → AreItems Lines before more → Spells (after_commas (λ n. line n ∷ []) (lines_in more)) (items_steps more)
 lines_spelled before [] h = ended refl

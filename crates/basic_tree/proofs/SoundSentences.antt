@@ -11,6 +11,7 @@ use Rattle.basic_tree.proofs.FormLeads.{Says, Modifies}
 use Rattle.basic_tree.proofs.SoundPieces.{Sound}
 use Rattle.basic_tree.proofs.SoundSimple.{for_sound, next_sound, fn_end_sound, data_sound, read_sound, restore_sound, goto_sound, gosub_sound, go_sound, return_sound, on_sound, resume_sound, stop_sound, end_sound, sleep_sound, lset_sound, rset_sound, kill_sound, rename_sound, result_sound, if_modifier_sound, unless_modifier_sound, while_modifier_sound, until_modifier_sound, for_modifier_sound}
 use Rattle.basic_tree.proofs.SoundFiles.{chain_sound, open_sound, close_sound, get_sound, put_sound, unlock_sound, field_sound}
+use Rattle.basic_tree.proofs.SoundMatrices.{mat_sound}
 use Rattle.basic_tree.proofs.SoundChoices.{if_sound, dim_sound, def_sound, let_sound, print_sound, input_sound, assignment_sound}
 
 -- the sentence that a word gives is the one that is meant
@@ -53,6 +54,7 @@ key_sound keyword.Lset b e = found _ b e lset_sound
 key_sound keyword.Rset b e = found _ b e rset_sound
 key_sound keyword.Kill b e = found _ b e kill_sound
 key_sound keyword.Name b e = found _ b e rename_sound
+key_sound keyword.Mat b e = found _ b e mat_sound
 key_sound other b e = absurd cc
 
 -- the statement that any word begins

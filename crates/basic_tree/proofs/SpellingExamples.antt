@@ -10,7 +10,7 @@ use Rattle.basic_tree.specs.declared.parts.OpenFor.TheVariants as purpose
 use Rattle.basic_tree.specs.Words.{keywords, signs}
 use Rattle.basic_tree.specs.Tokens.{Reading, letter_front, digit_front, quote_front, sign_front, front_of, items_from, tokens_from, tokens_of}
 use Rattle.basic_tree.specs.SpellingWords.{Word, words_of, words}
-use Rattle.basic_tree.specs.Trees.{Literal, Quoted, Variable, Element, FunctionOf, Call, Parenthesized, Negative, Not, Operation, Comparison, NoTrees, AndTrees, Value, Tab, If, ForModifier, LineClause, StatementClause, NoElse, Else, StatementTree, IfThen, Modified, For, Data, DimFile, Def, Let, Result as ResultOf, Print, Input, Goto, Gosub, OnErrorGoto, Stop, Chain, Open, Field}
+use Rattle.basic_tree.specs.Trees.{Literal, Quoted, Variable, Element, FunctionOf, Call, Parenthesized, Negative, Not, Operation, Comparison, NoTrees, AndTrees, Value, Tab, If, ForModifier, LineClause, StatementClause, NoElse, Else, StatementTree, IfThen, Modified, For, Data, DimFile, Def, Let, Result as ResultOf, Print, Input, Goto, Gosub, OnErrorGoto, Stop, Chain, Open, Field, Zero, Product, Scaled, Transposed, PrintUsing, MatRead, MatPrint, MatLet}
 use Rattle.basic_tree.specs.SpellingStatements.{line_steps}
 
 -- the words of a line's bytes; none where the line is refused
@@ -117,3 +117,35 @@ nothing_between_separators = refl
 an_empty_line : words_in (tokens_of (codes "")) ≡ words (line_steps (record { first = None; others = [] }))
 unfolding keywords signs letter_front digit_front quote_front sign_front front_of items_from tokens_from
 an_empty_line = refl
+
+prints_by_a_format : words_in (tokens_of (codes "PRINT USING '##',1%;2%,A$;")) ≡ alone (PrintUsing None (Quoted (codes "##")) (record { value = Literal 1; separator = separator.Semicolon } ∷ record { value = Literal 2; separator = separator.Comma } ∷ record { value = Variable (text_name 65); separator = separator.Semicolon } ∷ []) None)
+unfolding keywords signs letter_front digit_front quote_front sign_front front_of items_from tokens_from
+prints_by_a_format = refl
+
+prints_by_a_format_on_a_channel : words_in (tokens_of (codes "PRINT #1%,USING F$,B%")) ≡ alone (PrintUsing (Some (Literal 1)) (Variable (text_name 70)) [] (Some (Variable (number_name 66))))
+unfolding keywords signs letter_front digit_front quote_front sign_front front_of items_from tokens_from
+prints_by_a_format_on_a_channel = refl
+
+reads_matrices : words_in (tokens_of (codes "MAT READ A%,B%")) ≡ alone (MatRead (number_name 65 ∷ number_name 66 ∷ []))
+unfolding keywords signs letter_front digit_front quote_front sign_front front_of items_from tokens_from
+reads_matrices = refl
+
+prints_a_matrix : words_in (tokens_of (codes "MAT PRINT A%;")) ≡ alone (MatPrint (number_name 65) (Some separator.Semicolon))
+unfolding keywords signs letter_front digit_front quote_front sign_front front_of items_from tokens_from
+prints_a_matrix = refl
+
+makes_zeros_without_blanks : words_in (tokens_of (codes "MATA%=ZER")) ≡ alone (MatLet (number_name 65) Zero)
+unfolding keywords signs letter_front digit_front quote_front sign_front front_of items_from tokens_from
+makes_zeros_without_blanks = refl
+
+multiplies_matrices : words_in (tokens_of (codes "MAT A%=B%*C%")) ≡ alone (MatLet (number_name 65) (Product (number_name 66) (number_name 67)))
+unfolding keywords signs letter_front digit_front quote_front sign_front front_of items_from tokens_from
+multiplies_matrices = refl
+
+scales_a_matrix : words_in (tokens_of (codes "MAT A%=(2%)*B%")) ≡ alone (MatLet (number_name 65) (Scaled (Literal 2) (number_name 66)))
+unfolding keywords signs letter_front digit_front quote_front sign_front front_of items_from tokens_from
+scales_a_matrix = refl
+
+transposes_in_small_letters : words_in (tokens_of (codes "mat a%=trn(b%)")) ≡ alone (MatLet (number_name 65) (Transposed (number_name 66)))
+unfolding keywords signs letter_front digit_front quote_front sign_front front_of items_from tokens_from
+transposes_in_small_letters = refl

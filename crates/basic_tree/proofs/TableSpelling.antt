@@ -31,6 +31,7 @@ keyword_spelled keyword.Chain h = record { bytes = codes "CHAIN"; sort = kind.Ke
 keyword_spelled keyword.Chr h = record { bytes = codes "CHR$"; sort = kind.Keyword; some = omega arith; front = λ rest. refl; word = refl }
 keyword_spelled keyword.Close h = record { bytes = codes "CLOSE"; sort = kind.Keyword; some = omega arith; front = λ rest. refl; word = refl }
 keyword_spelled keyword.ClusterSize h = record { bytes = codes "CLUSTERSIZE"; sort = kind.Keyword; some = omega arith; front = λ rest. refl; word = refl }
+keyword_spelled keyword.Con h = record { bytes = codes "CON"; sort = kind.Keyword; some = omega arith; front = λ rest. refl; word = refl }
 keyword_spelled keyword.CvtToNumber h = record { bytes = codes "CVT$%"; sort = kind.Keyword; some = omega arith; front = λ rest. refl; word = refl }
 keyword_spelled keyword.CvtToText h = record { bytes = codes "CVT%$"; sort = kind.Keyword; some = omega arith; front = λ rest. refl; word = refl }
 keyword_spelled keyword.Data h = absurd h
@@ -50,6 +51,7 @@ keyword_spelled keyword.Get h = record { bytes = codes "GET"; sort = kind.Keywor
 keyword_spelled keyword.Go h = record { bytes = codes "GO"; sort = kind.Keyword; some = omega arith; front = λ rest. refl; word = refl }
 keyword_spelled keyword.Gosub h = record { bytes = codes "GOSUB"; sort = kind.Keyword; some = omega arith; front = λ rest. refl; word = refl }
 keyword_spelled keyword.Goto h = record { bytes = codes "GOTO"; sort = kind.Keyword; some = omega arith; front = λ rest. refl; word = refl }
+keyword_spelled keyword.Idn h = record { bytes = codes "IDN"; sort = kind.Keyword; some = omega arith; front = λ rest. refl; word = refl }
 keyword_spelled keyword.If h = record { bytes = codes "IF"; sort = kind.Keyword; some = omega arith; front = λ rest. refl; word = refl }
 keyword_spelled keyword.Imp h = record { bytes = codes "IMP"; sort = kind.Keyword; some = omega arith; front = λ rest. refl; word = refl }
 keyword_spelled keyword.Input h = record { bytes = codes "INPUT"; sort = kind.Keyword; some = omega arith; front = λ rest. refl; word = refl }
@@ -60,6 +62,7 @@ keyword_spelled keyword.Len h = record { bytes = codes "LEN"; sort = kind.Keywor
 keyword_spelled keyword.Let h = record { bytes = codes "LET"; sort = kind.Keyword; some = omega arith; front = λ rest. refl; word = refl }
 keyword_spelled keyword.Line h = record { bytes = codes "LINE"; sort = kind.Keyword; some = omega arith; front = λ rest. refl; word = refl }
 keyword_spelled keyword.Lset h = record { bytes = codes "LSET"; sort = kind.Keyword; some = omega arith; front = λ rest. refl; word = refl }
+keyword_spelled keyword.Mat h = record { bytes = codes "MAT"; sort = kind.Keyword; some = omega arith; front = λ rest. refl; word = refl }
 keyword_spelled keyword.Mid h = record { bytes = codes "MID"; sort = kind.Keyword; some = omega arith; front = λ rest. refl; word = refl }
 keyword_spelled keyword.Mode h = record { bytes = codes "MODE"; sort = kind.Keyword; some = omega arith; front = λ rest. refl; word = refl }
 keyword_spelled keyword.Name h = record { bytes = codes "NAME"; sort = kind.Keyword; some = omega arith; front = λ rest. refl; word = refl }
@@ -96,13 +99,16 @@ keyword_spelled keyword.Sys h = record { bytes = codes "SYS"; sort = kind.Keywor
 keyword_spelled keyword.Tab h = record { bytes = codes "TAB"; sort = kind.Keyword; some = omega arith; front = λ rest. refl; word = refl }
 keyword_spelled keyword.Then h = record { bytes = codes "THEN"; sort = kind.Keyword; some = omega arith; front = λ rest. refl; word = refl }
 keyword_spelled keyword.To h = record { bytes = codes "TO"; sort = kind.Keyword; some = omega arith; front = λ rest. refl; word = refl }
+keyword_spelled keyword.Trn h = record { bytes = codes "TRN"; sort = kind.Keyword; some = omega arith; front = λ rest. refl; word = refl }
 keyword_spelled keyword.Unless h = record { bytes = codes "UNLESS"; sort = kind.Keyword; some = omega arith; front = λ rest. refl; word = refl }
 keyword_spelled keyword.Unlock h = record { bytes = codes "UNLOCK"; sort = kind.Keyword; some = omega arith; front = λ rest. refl; word = refl }
 keyword_spelled keyword.Until h = record { bytes = codes "UNTIL"; sort = kind.Keyword; some = omega arith; front = λ rest. refl; word = refl }
+keyword_spelled keyword.Using h = record { bytes = codes "USING"; sort = kind.Keyword; some = omega arith; front = λ rest. refl; word = refl }
 keyword_spelled keyword.Val h = record { bytes = codes "VAL"; sort = kind.Keyword; some = omega arith; front = λ rest. refl; word = refl }
 keyword_spelled keyword.While h = record { bytes = codes "WHILE"; sort = kind.Keyword; some = omega arith; front = λ rest. refl; word = refl }
 keyword_spelled keyword.Xlate h = record { bytes = codes "XLATE"; sort = kind.Keyword; some = omega arith; front = λ rest. refl; word = refl }
 keyword_spelled keyword.Xor h = record { bytes = codes "XOR"; sort = kind.Keyword; some = omega arith; front = λ rest. refl; word = refl }
+keyword_spelled keyword.Zer h = record { bytes = codes "ZER"; sort = kind.Keyword; some = omega arith; front = λ rest. refl; word = refl }
 
 pub sign_spelled : (s : Sign) → IsReadable (Punctuation s) → SpelledWord (Punctuation s)
 unfolding signs sign_front front_of

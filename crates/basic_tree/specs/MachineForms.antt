@@ -12,11 +12,11 @@ use Rattle.basic_tree.specs.declared.parts.FileShape.{FileShape}
 use Rattle.basic_tree.specs.declared.parts.Separator.TheVariants as separator
 use Rattle.basic_tree.specs.declared.parts.OpenFor.{OpenFor}
 use Rattle.basic_tree.specs.SpellingWords.{Word, Key, Punctuation, Named, FnNamed, Number, Quotation, words}
-use Rattle.basic_tree.specs.Trees.{Tree, PrintedTree, PrintItemTree, PrintChannelTree, CloseChannelTree, FieldPartTree, ElseTree, NoElse, Else, StatementTree, Def, Let, Print, Open}
+use Rattle.basic_tree.specs.Trees.{Tree, PrintedTree, PrintItemTree, PrintChannelTree, UsingItemTree, MatrixTree, Zero, One, Identity, Copy, Sum, Difference, Product, Scaled, Transposed, CloseChannelTree, FieldPartTree, ElseTree, NoElse, Else, StatementTree, Def, Let, Print, PrintUsing, Open}
 use Rattle.basic_tree.specs.SpellingExpressions.{steps_of, is_text, want_of}
 use Rattle.basic_tree.specs.SpellingParts.{last_word, may_follow}
 use Rattle.basic_tree.specs.GrammarWords.{function_of}
-use Rattle.basic_tree.specs.MachineStack.{Stated, Item, TargetItem, ShapeItem, FileItem, NameItem, LineItem, ChannelItem, FieldItem, Sequence, Targets, Shapes, FileShapes, Parameters, Lines, Channels, FieldParts, LineNumber, Bound, Size, Form, Made, TakeKey, TakeSign, TakeClosing, IfKey, IfSign, ExprOf, TargetOf, NameIn, LiteralIn, MoreOf, MorePrinted, ClauseIn}
+use Rattle.basic_tree.specs.MachineStack.{Stated, Item, TargetItem, ShapeItem, FileItem, NameItem, LineItem, ChannelItem, FieldItem, Sequence, Targets, Shapes, FileShapes, Parameters, Arrays, Lines, Channels, FieldParts, LineNumber, Bound, Size, Form, Made, TakeKey, TakeSign, TakeClosing, IfKey, IfSign, ExprOf, TargetOf, NameIn, LiteralIn, MoreOf, MorePrinted, MoreUsing, ClauseIn}
 
 -- ---- tests of words
 
@@ -61,6 +61,7 @@ item_form (Targets w) g = TargetOf w (λ t. g (TargetItem t))
 item_form Shapes g = shape_form (λ s. g (ShapeItem s))
 item_form FileShapes g = shape_form (λ s. size_form s.name.text (λ size. g (FileItem (record { shape = s; size = size }))))
 item_form Parameters g = NameIn want.Either (λ name. g (NameItem name))
+item_form Arrays g = NameIn want.Number (λ name. g (NameItem name))
 item_form Lines g = LiteralIn LineNumber (λ n. g (LineItem n))
 item_form Channels g =
     IfSign false sign.Hash (ExprOf want.Number (λ t. g (ChannelItem (record { hash = true; number = t }))))
@@ -144,8 +145,29 @@ printed_form c items printed =
     (IfSign false sign.Semicolon (MorePrinted c (items ++ record { printed = printed; separator = separator.Semicolon } ∷ []))
     (says (Print c items (Some printed))))
 
+-- behind a value of PRINT USING
+abbrev pub using_value_form : Option Tree → Tree → List UsingItemTree → Tree → Form
+using_value_form c format values t =
+    IfSign false sign.Comma (MoreUsing c format (values ++ record { value = t; separator = separator.Comma } ∷ []))
+    (IfSign false sign.Semicolon (MoreUsing c format (values ++ record { value = t; separator = separator.Semicolon } ∷ []))
+    (says (PrintUsing c format values (Some t))))
+
 abbrev pub number_option : Keyword → (Option Tree → Form) → Form
 number_option k g = IfSign false sign.Comma (TakeKey false k (ExprOf want.Number (λ n. g (Some n)))) (g None)
+
+-- what MAT stores: behind `=` each first word tells the form, and behind a name what follows it
+abbrev pub matrix_form : (MatrixTree → Form) → Form
+matrix_form g =
+    IfKey false keyword.Zer (g Zero)
+    (IfKey false keyword.Con (g One)
+    (IfKey false keyword.Idn (g Identity)
+    (IfKey false keyword.Trn (TakeSign true sign.Opening (NameIn want.Number (λ b. TakeClosing (g (Transposed b)))))
+    (IfSign true sign.Opening (ExprOf want.Number (λ factor. TakeClosing (TakeSign false sign.Star (NameIn want.Number (λ b. g (Scaled factor b))))))
+    (NameIn want.Number (λ b.
+    IfSign false sign.Plus (NameIn want.Number (λ c. g (Sum b c)))
+    (IfSign false sign.Minus (NameIn want.Number (λ c. g (Difference b c)))
+    (IfSign false sign.Star (NameIn want.Number (λ c. g (Product b c)))
+    (g (Copy b))))))))))
 
 -- ---- the options of OPEN, in their order
 

@@ -12,12 +12,12 @@ use Rattle.basic_tree.specs.declared.kinds.Want.{Want}
 use Rattle.basic_tree.specs.declared.kinds.Want.TheVariants as want
 use Rattle.basic_tree.specs.SpellingWords.{Word, Key, Punctuation, Named, FnNamed, Number, Quotation}
 use Rattle.basic_tree.specs.SpellingWords.{Item as ItemOf}
-use Rattle.basic_tree.specs.Trees.{Tree, Variable, Call, NoTrees, Value, Tab, PrintItemTree, PrintChannelTree, ClauseTree, LineClause, StatementClause, Print}
+use Rattle.basic_tree.specs.Trees.{Tree, Variable, Call, NoTrees, Value, Tab, PrintItemTree, PrintChannelTree, UsingItemTree, ClauseTree, LineClause, StatementClause, Print, PrintUsing}
 use Rattle.basic_tree.specs.GrammarTables.{sign_level, not_level, operator_level, joins_texts}
 use Rattle.basic_tree.specs.GrammarWords.{operator_of, relation_of, is_same_sign, is_same_keyword}
 use Rattle.basic_tree.specs.SpellingExpressions.{is_text, want_of}
-use Rattle.basic_tree.specs.MachineStack.{AddStatement, Arguments, Await, AwaitClause, ClauseIn, Close, Collect, Do, Expect, Exponent, ExprIf, ExprOf, FnNameIn, Form, Go, IfKey, IfSign, Item, ItemIn, Level, Limit, LineNumber, LiteralIf, LiteralIn, Made, MakeCall, MakeComparison, MakeElement, MakeOperation, Modifiers, Modify, More, MoreArguments, MoreItems, MoreOf, MorePrinted, MoreRelations, MoreStatements, NameIn, OneStatement, Opening, QuotedIf, SecondSubscript, Sequence, Several, Stated, Subscripts, Symbol, TakeClosing, TakeKey, TakeSign, TargetOf, Term, Values, below, kept, kept_parsed, kept_several, kept_stated, loosest, made, others, stated, top, with_statement, within}
-use Rattle.basic_tree.specs.MachineForms.{begins_value, item_form, has_room, printed_form}
+use Rattle.basic_tree.specs.MachineStack.{AddStatement, Arguments, Await, AwaitClause, ClauseIn, Close, Collect, Do, Expect, Exponent, ExprIf, ExprOf, FnNameIn, Form, Go, IfKey, IfSign, Item, ItemIn, Level, Limit, LineNumber, LiteralIf, LiteralIn, Made, MakeCall, MakeComparison, MakeElement, MakeOperation, Modifiers, Modify, More, MoreArguments, MoreItems, MoreOf, MorePrinted, MoreUsing, MoreRelations, MoreStatements, NameIn, OneStatement, Opening, QuotedIf, SecondSubscript, Sequence, Several, Stated, Subscripts, Symbol, TakeClosing, TakeKey, TakeSign, TargetOf, Term, Values, below, kept, kept_parsed, kept_several, kept_stated, loosest, made, others, stated, top, with_statement, within}
+use Rattle.basic_tree.specs.MachineForms.{begins_value, item_form, has_room, printed_form, using_value_form}
 use Rattle.basic_tree.specs.MachineSentences.{Class, Choice, Head, Simple, Sentence, sentence_of, modifier_of}
 use Rattle.basic_tree.specs.MachineStarts.{Start, takes, atom, signed, start}
 
@@ -161,6 +161,10 @@ more_printed c items vs o =
     take_key false keyword.Tab vs o (Go (tab_form c items) ∷ [])
     (expression_if begins_value want.Either (λ t. printed_form c items (Value t)) vs o (Skips (Stated (Print c items None) ∷ vs)))
 
+abbrev pub more_using : Option Tree → Tree → List UsingItemTree → Values → Option Word → Move
+more_using c format values vs o =
+    expression_if begins_value want.Either (λ t. using_value_form c format values t) vs o (Skips (Stated (PrintUsing c format values None) ∷ vs))
+
 -- what a form does, given what a clause does
 abbrev pub form_move_with : ((ClauseTree → Form) → Values → Option Word → Move) → Form → Values → Option Word → Move
 form_move_with clause (Made v) vs o = Skips (v ∷ vs)
@@ -181,6 +185,7 @@ form_move_with clause (ItemIn g) vs o = item_in g vs o Refuses
 form_move_with clause (MoreItems items g) vs o = item_in (λ item. MoreItems (items ++ item ∷ []) g) vs o (form_move_with clause (g items) vs o)
 form_move_with clause (MoreOf s items g) vs o = more_of_list s items g vs o (form_move_with clause (g items) vs o)
 form_move_with clause (MorePrinted c items) vs o = more_printed c items vs o
+form_move_with clause (MoreUsing c format values) vs o = more_using c format values vs o
 form_move_with clause (ClauseIn g) vs o = clause g vs o
 
 -- no statement begins with a clause

@@ -12,9 +12,9 @@ use Rattle.basic_tree.specs.declared.parts.Separator.TheVariants as separator
 use Rattle.basic_tree.specs.declared.parts.OpenFor.{OpenFor}
 use Rattle.basic_tree.specs.declared.parts.OpenFor.TheVariants as purpose
 use Rattle.basic_tree.specs.SpellingWords.{Quotation, Plain, words}
-use Rattle.basic_tree.specs.Trees.{Tree, PrintedTree, Value, Tab, ModifierTree, If, Unless, While, Until, ForModifier, PrintItemTree, PrintChannelTree, PromptTree, ChainLineTree, CloseChannelTree, FieldPartTree}
+use Rattle.basic_tree.specs.Trees.{Tree, PrintedTree, Value, Tab, ModifierTree, If, Unless, While, Until, ForModifier, PrintItemTree, PrintChannelTree, UsingItemTree, MatrixTree, Zero, One, Identity, Copy, Sum, Difference, Product, Scaled, Transposed, PromptTree, ChainLineTree, CloseChannelTree, FieldPartTree}
 use Rattle.basic_tree.specs.SpellingExpressions.{steps_of, want_of}
-use Rattle.basic_tree.specs.SpellingParts.{perhaps, optional, first_word, last_word, may_follow, is_size}
+use Rattle.basic_tree.specs.SpellingParts.{perhaps, optional, each, first_word, last_word, may_follow, is_size}
 use Rattle.basic_tree.specs.MachinePieces.{Piece, Fixed, Expression, NameOf, LiteralOf, Holds, key, sign_piece, opening, opening_parenthesis, closing, number, bound, many}
 
 -- ---- shapes of arrays
@@ -55,6 +55,13 @@ print_channel c = channel c.number ++ perhaps c.comma (sign_piece sign.Comma)
 abbrev pub channel_and_comma : Tree → List Piece
 channel_and_comma t = channel t ++ sign_piece sign.Comma ∷ []
 
+abbrev pub using_item : UsingItemTree → List Piece
+using_item item = Expression want.Either item.value ∷ separator_piece item.separator ∷ []
+
+-- the values of PRINT USING
+abbrev pub using_values : List UsingItemTree → Option Tree → List Piece
+using_values values last = each using_item values ++ optional (λ t. Expression want.Either t ∷ []) last
+
 abbrev pub prompt : PromptTree → List Piece
 prompt p = Fixed (Plain (Quotation p.text)) ∷ separator_piece p.separator ∷ []
 
@@ -87,6 +94,22 @@ parameters (n ∷ ns) = opening_parenthesis ∷ (many name (n ∷ ns) ++ sign_pi
 -- `=` and a value of a kind
 abbrev pub value : Bool → Tree → List Piece
 value is_textual t = sign_piece sign.Equal ∷ Expression (want_of is_textual) t ∷ []
+
+-- ---- MAT
+
+abbrev pub array : Name → List Piece
+array n = NameOf want.Number n ∷ []
+
+abbrev pub matrix : MatrixTree → List Piece
+matrix Zero = key keyword.Zer ∷ []
+matrix One = key keyword.Con ∷ []
+matrix Identity = key keyword.Idn ∷ []
+matrix (Copy b) = NameOf want.Number b ∷ []
+matrix (Sum b c) = NameOf want.Number b ∷ sign_piece sign.Plus ∷ NameOf want.Number c ∷ []
+matrix (Difference b c) = NameOf want.Number b ∷ sign_piece sign.Minus ∷ NameOf want.Number c ∷ []
+matrix (Product b c) = NameOf want.Number b ∷ sign_piece sign.Star ∷ NameOf want.Number c ∷ []
+matrix (Scaled factor b) = opening_parenthesis ∷ number factor ∷ sign_piece sign.Closing ∷ closing ∷ sign_piece sign.Star ∷ NameOf want.Number b ∷ []
+matrix (Transposed b) = key keyword.Trn ∷ opening_parenthesis ∷ NameOf want.Number b ∷ sign_piece sign.Closing ∷ closing ∷ []
 
 -- ---- CHAIN
 

@@ -7,11 +7,11 @@ use Rattle.basic_tree.specs.declared.kinds.Want.TheVariants as want
 use Rattle.basic_tree.specs.declared.parts.Separator.TheVariants as separator
 use Rattle.basic_tree.specs.declared.parts.OpenFor.TheVariants as purpose
 use Rattle.basic_tree.specs.SpellingWords.{Word, Key, Named, FnNamed}
-use Rattle.basic_tree.specs.Trees.{Tree, PromptTree, If, Unless, While, Until, ForModifier, IfThen, IfGoto, For, Next, FnEnd, Data, Dim, DimFile, Result, Print, Input, InputLine, Read, Restore, Goto, Gosub, Return, OnGoto, OnGosub, OnErrorGoto, Resume, Stop, End, Chain, Sleep, Get, Put, Unlock, Field, Close, Lset, Rset, Kill, Rename}
+use Rattle.basic_tree.specs.Trees.{Tree, PromptTree, If, Unless, While, Until, ForModifier, IfThen, IfGoto, For, Next, FnEnd, Data, Dim, DimFile, Result, Print, Input, InputLine, Read, Restore, Goto, Gosub, Return, OnGoto, OnGosub, OnErrorGoto, Resume, Stop, End, Chain, Sleep, Get, Put, Unlock, Field, Close, Lset, Rset, Kill, Rename, MatRead, MatPrint, MatLet}
 use Rattle.basic_tree.specs.SpellingExpressions.{want_of}
 use Rattle.basic_tree.specs.SpellingStatements.{clause_wants_else}
-use Rattle.basic_tree.specs.MachineStack.{Modifying, Targets, Shapes, FileShapes, Parameters, Lines, Channels, FieldParts, LineNumber, Bound, Form, Made, TakeKey, TakeSign, TakeClosing, IfKey, IfSign, ExprOf, ExprIf, NameIn, FnNameIn, LiteralIn, LiteralIf, QuotedIf, ItemIn, MoreItems, MorePrinted, ClauseIn}
-use Rattle.basic_tree.specs.MachineForms.{chains, list_form, targets_in, shapes_in, files_in, names_in, lines_in, channels_in, parts_in, says, range_form, else_form, targets_form, value_form, number_option, file_form}
+use Rattle.basic_tree.specs.MachineStack.{Modifying, Targets, Shapes, FileShapes, Parameters, Arrays, Lines, Channels, FieldParts, LineNumber, Bound, Form, Made, TakeKey, TakeSign, TakeClosing, IfKey, IfSign, ExprOf, ExprIf, NameIn, FnNameIn, LiteralIn, LiteralIf, QuotedIf, ItemIn, MoreItems, MorePrinted, ClauseIn}
+use Rattle.basic_tree.specs.MachineForms.{chains, list_form, targets_in, shapes_in, files_in, names_in, lines_in, channels_in, parts_in, says, range_form, else_form, targets_form, value_form, using_value_form, matrix_form, number_option, file_form}
 
 -- ---- statements that stand by themselves
 
@@ -46,13 +46,17 @@ def_form =
 abbrev pub result_form : Form
 result_form = FnNameIn (λ f. TakeSign false sign.Equal (ExprOf (want_of f.text) (λ value. says (Result f value))))
 
+-- behind USING: the format, and a first value
+abbrev pub using_form : Option Tree → Form
+using_form c = ExprOf want.Text (λ format. TakeSign false sign.Comma (ExprOf want.Either (λ t. using_value_form c format [] t)))
+
 abbrev pub print_form : Form
 print_form =
     TakeKey false keyword.Print
     (IfSign false sign.Hash (ExprOf want.Number (λ c.
-    IfSign false sign.Comma (MorePrinted (Some (record { number = c; comma = true })) [])
+    IfSign false sign.Comma (IfKey false keyword.Using (using_form (Some c)) (MorePrinted (Some (record { number = c; comma = true })) []))
     (says (Print (Some (record { number = c; comma = false })) [] None))))
-    (MorePrinted None []))
+    (IfKey false keyword.Using (using_form None) (MorePrinted None [])))
 
 abbrev pub input_targets : Option Tree → Option PromptTree → Form
 input_targets c prompt = list_form (Targets want.Either) (λ items. says (Input c prompt (targets_in items)))
@@ -108,6 +112,20 @@ lset_form = TakeKey false keyword.Lset (NameIn want.Text (λ x. TakeSign false s
 abbrev pub rset_form : Form
 rset_form = TakeKey false keyword.Rset (NameIn want.Text (λ x. TakeSign false sign.Equal (ExprOf want.Text (λ value. says (Rset x value)))))
 
+abbrev pub mat_print_form : Form
+mat_print_form =
+    NameIn want.Number (λ a.
+    IfSign false sign.Comma (says (MatPrint a (Some separator.Comma)))
+    (IfSign false sign.Semicolon (says (MatPrint a (Some separator.Semicolon)))
+    (says (MatPrint a None))))
+
+abbrev pub mat_form : Form
+mat_form =
+    TakeKey false keyword.Mat
+    (IfKey false keyword.Read (list_form Arrays (λ items. says (MatRead (names_in items))))
+    (IfKey false keyword.Print mat_print_form
+    (NameIn want.Number (λ a. TakeSign false sign.Equal (matrix_form (λ v. says (MatLet a v)))))))
+
 -- ---- which statement a word begins
 
 -- an IF; what stands in no clause and without modifiers; any other
@@ -162,6 +180,7 @@ key_sentence keyword.Lset = simple lset_form
 key_sentence keyword.Rset = simple rset_form
 key_sentence keyword.Kill = simple (TakeKey false keyword.Kill (ExprOf want.Text (λ t. says (Kill t))))
 key_sentence keyword.Name = simple (TakeKey false keyword.Name (ExprOf want.Text (λ old. TakeKey false keyword.As (ExprOf want.Text (λ new. says (Rename old new))))))
+key_sentence keyword.Mat = simple mat_form
 key_sentence other = None
 
 abbrev pub sentence_of : Word → Option Sentence

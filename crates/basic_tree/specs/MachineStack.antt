@@ -12,7 +12,7 @@ use Rattle.basic_tree.specs.declared.kinds.Want.{Want}
 use Rattle.basic_tree.specs.declared.parts.Shape.{Shape}
 use Rattle.basic_tree.specs.declared.parts.FileShape.{FileShape}
 use Rattle.basic_tree.specs.SpellingWords.{Word}
-use Rattle.basic_tree.specs.Trees.{Tree, Literal, Element, FunctionOf, Call, Parenthesized, Negative, Positive, Not, Operation, Comparison, Trees, NoTrees, AndTrees, ModifierTree, If, PrintItemTree, PrintChannelTree, CloseChannelTree, FieldPartTree, ClauseTree, StatementTree, Modified, End}
+use Rattle.basic_tree.specs.Trees.{Tree, Literal, Element, FunctionOf, Call, Parenthesized, Negative, Positive, Not, Operation, Comparison, Trees, NoTrees, AndTrees, ModifierTree, If, PrintItemTree, PrintChannelTree, UsingItemTree, CloseChannelTree, FieldPartTree, ClauseTree, StatementTree, Modified, End}
 
 -- the loosest level, that of a whole expression
 abbrev pub loosest : ℕ
@@ -48,6 +48,7 @@ pub data Sequence : Type 0 where
   Shapes : Sequence
   FileShapes : Sequence
   Parameters : Sequence
+  Arrays : Sequence
   Lines : Sequence
   Channels : Sequence
   FieldParts : Sequence
@@ -92,6 +93,8 @@ pub data Form : Type 0 where
   MoreOf : Sequence → List Item → (List Item → Form) → Form
   -- more items of PRINT
   MorePrinted : Option PrintChannelTree → List PrintItemTree → Form
+  -- more values of PRINT USING, behind its channel, its format and those before
+  MoreUsing : Option Tree → Tree → List UsingItemTree → Form
   -- what an IF runs, with which its level ends
   ClauseIn : (ClauseTree → Form) → Form
 

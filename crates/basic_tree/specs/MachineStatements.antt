@@ -5,12 +5,12 @@ use Rattle.basic_tree.specs.declared.tokens.Keyword.TheVariants as keyword
 use Rattle.basic_tree.specs.declared.tokens.Sign.TheVariants as sign
 use Rattle.basic_tree.specs.declared.kinds.Want.TheVariants as want
 use Rattle.basic_tree.specs.SpellingWords.{FnNamed, Item, Plain}
-use Rattle.basic_tree.specs.Trees.{ClauseTree, LineClause, StatementClause, ElseTree, NoElse, Else, StatementTree, IfThen, IfGoto, Modified, For, Next, FnEnd, Data, Dim, DimFile, Def, Let, Result, Print, Input, InputLine, Read, Restore, Goto, Gosub, Return, OnGoto, OnGosub, OnErrorGoto, Resume, Stop, End, Chain, Sleep, Open, Close, Get, Put, Unlock, Field, Lset, Rset, Kill, Rename, LineTree}
+use Rattle.basic_tree.specs.Trees.{ClauseTree, LineClause, StatementClause, ElseTree, NoElse, Else, StatementTree, IfThen, IfGoto, Modified, For, Next, FnEnd, Data, Dim, DimFile, Def, Let, Result, Print, Input, InputLine, Read, Restore, Goto, Gosub, Return, OnGoto, OnGosub, OnErrorGoto, Resume, Stop, End, Chain, Sleep, Open, Close, Get, Put, Unlock, Field, Lset, Rset, Kill, Rename, PrintUsing, MatRead, MatPrint, MatLet, LineTree}
 use Rattle.basic_tree.specs.SpellingExpressions.{want_of}
-use Rattle.basic_tree.specs.SpellingParts.{perhaps, optional, each, is_parted, is_one, kind_of_first}
+use Rattle.basic_tree.specs.SpellingParts.{perhaps, optional, each, is_parted, has_value, is_one, kind_of_first}
 use Rattle.basic_tree.specs.SpellingStatements.{is_if, is_head, clause_wants_else, has_else}
 use Rattle.basic_tree.specs.MachinePieces.{Piece, Fixed, NameOf, Holds, key, sign_piece, opening, closing, number, text, line, line_or_zero, bound, target, many}
-use Rattle.basic_tree.specs.MachineParts.{shape, file_shape, printed, print_item, channel, print_channel, channel_and_comma, prompt, range, modifier, parameters, value, chain_line, open_for, option_of, close_channel, field_part}
+use Rattle.basic_tree.specs.MachineParts.{shape, file_shape, separator_piece, printed, print_item, using_values, array, matrix, channel, print_channel, channel_and_comma, prompt, range, modifier, parameters, value, chain_line, open_for, option_of, close_channel, field_part}
 
 -- the ends of the levels that the modifiers of a statement opened
 abbrev pub closings : StatementTree → List Piece
@@ -50,6 +50,9 @@ abbrev mutual
   pieces_of (Print c list last) =
       key keyword.Print ∷ Holds (is_parted c list last)
       ∷ (optional print_channel c ++ each print_item list ++ optional printed last)
+  pieces_of (PrintUsing c format values last) =
+      key keyword.Print ∷ Holds (has_value values last)
+      ∷ (optional channel_and_comma c ++ key keyword.Using ∷ text format ∷ sign_piece sign.Comma ∷ using_values values last)
   pieces_of (Input c p ts) =
       key keyword.Input ∷ Holds (is_one c p)
       ∷ (optional channel_and_comma c ++ optional prompt p ++ many (λ t. target want.Either t) ts)
@@ -83,6 +86,9 @@ abbrev mutual
   pieces_of (Rset x v) = key keyword.Rset ∷ NameOf want.Text x ∷ value true v
   pieces_of (Kill t) = key keyword.Kill ∷ text t ∷ []
   pieces_of (Rename old new) = key keyword.Name ∷ text old ∷ key keyword.As ∷ text new ∷ []
+  pieces_of (MatRead arrays) = key keyword.Mat ∷ key keyword.Read ∷ many array arrays
+  pieces_of (MatPrint a separator) = key keyword.Mat ∷ key keyword.Print ∷ NameOf want.Number a ∷ optional (λ s. separator_piece s ∷ []) separator
+  pieces_of (MatLet a v) = key keyword.Mat ∷ NameOf want.Number a ∷ sign_piece sign.Equal ∷ matrix v
 
   pub clause_pieces : ClauseTree → List Piece
   clause_pieces (LineClause n) = line n ∷ []

@@ -16,7 +16,7 @@ use Rattle.basic_tree.specs.declared.parts.Separator.TheVariants as separator
 use Rattle.basic_tree.specs.declared.parts.OpenFor.{OpenFor}
 use Rattle.basic_tree.specs.declared.parts.OpenFor.TheVariants as purpose
 use Rattle.basic_tree.specs.SpellingWords.{Word, Key, Punctuation, Named, FnNamed, Number, Quotation, Step, Plain, Opens, Closes, words}
-use Rattle.basic_tree.specs.Trees.{Tree, Variable, Element, PrintedTree, Value, Tab, ModifierTree, If, Unless, While, Until, ForModifier, PrintItemTree, PrintChannelTree, PromptTree, ChainLineTree, CloseChannelTree, FieldPartTree}
+use Rattle.basic_tree.specs.Trees.{Tree, Variable, Element, PrintedTree, Value, Tab, ModifierTree, If, Unless, While, Until, ForModifier, PrintItemTree, PrintChannelTree, UsingItemTree, MatrixTree, Zero, One, Identity, Copy, Sum, Difference, Product, Scaled, Transposed, PromptTree, ChainLineTree, CloseChannelTree, FieldPartTree}
 use Rattle.basic_tree.specs.SpellingExpressions.{steps_of, Fits, IsTree, is_text}
 
 -- words and expressions in the order of the text
@@ -137,7 +137,7 @@ file_shape_spelling s = shape_spelling s.shape ++ optional (λ size. signed sign
 abbrev pub IsFileShape : FileShape → Type 0
 IsFileShape s = IsShape s.shape × IfThere (λ size. (s.shape.name.text ≡ true) × (is_size size ≡ true)) s.size
 
--- ---- PRINT, INPUT and their channels
+-- ---- PRINT, and the channels of PRINT and INPUT
 
 abbrev pub separator_steps : Separator → List Step
 separator_steps separator.Comma = signed sign.Comma
@@ -169,6 +169,18 @@ is_parted (Some c) items last = c.comma
 
 abbrev pub channel_comma_spelling : Tree → Spelling
 channel_comma_spelling t = channel_spelling t ++ signed sign.Comma ∷ []
+
+-- ---- PRINT USING
+
+abbrev pub using_item_spelling : UsingItemTree → Spelling
+using_item_spelling item = steps_of item.value ∷ separator_steps item.separator ∷ []
+
+-- a value stands there, the last one or another
+abbrev pub has_value : List UsingItemTree → Option Tree → Bool
+has_value [] None = false
+has_value values last = true
+
+-- ---- INPUT
 
 abbrev pub prompt_spelling : PromptTree → Spelling
 prompt_spelling p = (Plain (Quotation p.text) ∷ []) ∷ separator_steps p.separator ∷ []
@@ -219,6 +231,32 @@ value_spelling t = signed sign.Equal ∷ steps_of t ∷ []
 abbrev pub kind_of_first : List Tree → Bool
 kind_of_first [] = false
 kind_of_first (t ∷ ts) = is_text t
+
+-- ---- MAT
+
+-- the name of a numeric array
+abbrev pub IsArray : Name → Type 0
+IsArray name = name.text ≡ false
+
+abbrev pub matrix_spelling : MatrixTree → Spelling
+matrix_spelling Zero = keyed keyword.Zer ∷ []
+matrix_spelling One = keyed keyword.Con ∷ []
+matrix_spelling Identity = keyed keyword.Idn ∷ []
+matrix_spelling (Copy b) = named b ∷ []
+matrix_spelling (Sum b c) = named b ∷ signed sign.Plus ∷ named c ∷ []
+matrix_spelling (Difference b c) = named b ∷ signed sign.Minus ∷ named c ∷ []
+matrix_spelling (Product b c) = named b ∷ signed sign.Star ∷ named c ∷ []
+matrix_spelling (Scaled factor b) = opens_list ∷ steps_of factor ∷ signed sign.Closing ∷ closes ∷ signed sign.Star ∷ named b ∷ []
+matrix_spelling (Transposed b) = keyed keyword.Trn ∷ opens_list ∷ named b ∷ signed sign.Closing ∷ closes ∷ []
+
+abbrev pub IsMatrix : MatrixTree → Type 0
+IsMatrix (Copy b) = IsArray b
+IsMatrix (Sum b c) = IsArray b × IsArray c
+IsMatrix (Difference b c) = IsArray b × IsArray c
+IsMatrix (Product b c) = IsArray b × IsArray c
+IsMatrix (Scaled factor b) = IsOf want.Number factor × IsArray b
+IsMatrix (Transposed b) = IsArray b
+IsMatrix constant = Unit {0}
 
 -- ---- CHAIN: the one statement in which an expression stands right behind another
 

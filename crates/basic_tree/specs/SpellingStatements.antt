@@ -5,9 +5,9 @@ use Rattle.basic_tree.specs.declared.tokens.Keyword.TheVariants as keyword
 use Rattle.basic_tree.specs.declared.tokens.Sign.TheVariants as sign
 use Rattle.basic_tree.specs.declared.kinds.Want.TheVariants as want
 use Rattle.basic_tree.specs.SpellingWords.{Word, FnNamed, Item, Step, Plain, words}
-use Rattle.basic_tree.specs.Trees.{ClauseTree, LineClause, StatementClause, ElseTree, NoElse, Else, StatementTree, IfThen, IfGoto, Modified, For, Next, FnEnd, Data, Dim, DimFile, Def, Let, Result, Print, Input, InputLine, Read, Restore, Goto, Gosub, Return, OnGoto, OnGosub, OnErrorGoto, Resume, Stop, End, Chain, Sleep, Open, Close, Get, Put, Unlock, Field, Lset, Rset, Kill, Rename, LineTree}
+use Rattle.basic_tree.specs.Trees.{ClauseTree, LineClause, StatementClause, ElseTree, NoElse, Else, StatementTree, IfThen, IfGoto, Modified, For, Next, FnEnd, Data, Dim, DimFile, Def, Let, Result, Print, Input, InputLine, Read, Restore, Goto, Gosub, Return, OnGoto, OnGosub, OnErrorGoto, Resume, Stop, End, Chain, Sleep, Open, Close, Get, Put, Unlock, Field, Lset, Rset, Kill, Rename, PrintUsing, MatRead, MatPrint, MatLet, LineTree}
 use Rattle.basic_tree.specs.SpellingExpressions.{steps_of, want_of}
-use Rattle.basic_tree.specs.SpellingParts.{Spelling, steps_in, keyed, signed, opens, closes, named, literal, perhaps, optional, each, listed, IfThere, Every, has_some, OneOrMore, IsOf, is_line_number, is_bound, IsTarget, shape_spelling, IsShape, file_shape_spelling, IsFileShape, printed_spelling, IsPrinted, item_spelling, channel_spelling, print_channel_spelling, is_parted, channel_comma_spelling, prompt_spelling, is_one, range_spelling, IsRange, modifier_spelling, IsModifier, parameters_spelling, value_spelling, kind_of_first, chain_line_spelling, IsChainLine, purpose_spelling, option_spelling, close_channel_spelling, field_part_spelling, IsFieldPart}
+use Rattle.basic_tree.specs.SpellingParts.{Spelling, steps_in, keyed, signed, opens, closes, named, literal, perhaps, optional, each, listed, IfThere, Every, has_some, OneOrMore, IsOf, is_line_number, is_bound, IsTarget, shape_spelling, IsShape, file_shape_spelling, IsFileShape, printed_spelling, IsPrinted, item_spelling, separator_steps, channel_spelling, print_channel_spelling, using_item_spelling, has_value, IsArray, matrix_spelling, IsMatrix, is_parted, channel_comma_spelling, prompt_spelling, is_one, range_spelling, IsRange, modifier_spelling, IsModifier, parameters_spelling, value_spelling, kind_of_first, chain_line_spelling, IsChainLine, purpose_spelling, option_spelling, close_channel_spelling, field_part_spelling, IsFieldPart}
 
 -- ---- where a statement may stand
 
@@ -78,6 +78,10 @@ abbrev mutual
   spelling_of (Result f v) = (Plain (FnNamed f) ∷ []) ∷ value_spelling v
   spelling_of (Print c items last) =
       keyed keyword.Print ∷ (optional print_channel_spelling c ++ each item_spelling items ++ optional printed_spelling last)
+  spelling_of (PrintUsing c format values last) =
+      keyed keyword.Print
+      ∷ (optional channel_comma_spelling c ++ keyed keyword.Using ∷ steps_of format ∷ signed sign.Comma
+      ∷ (each using_item_spelling values ++ optional (λ t. steps_of t ∷ []) last))
   spelling_of (Input c p ts) =
       keyed keyword.Input ∷ (optional channel_comma_spelling c ++ optional prompt_spelling p ++ listed (λ t. steps_of t ∷ []) ts)
   spelling_of (InputLine c x) = keyed keyword.Input ∷ keyed keyword.Line ∷ (optional channel_comma_spelling c ++ named x ∷ [])
@@ -108,6 +112,9 @@ abbrev mutual
   spelling_of (Rset x v) = keyed keyword.Rset ∷ named x ∷ value_spelling v
   spelling_of (Kill t) = keyed keyword.Kill ∷ steps_of t ∷ []
   spelling_of (Rename old new) = keyed keyword.Name ∷ steps_of old ∷ keyed keyword.As ∷ steps_of new ∷ []
+  spelling_of (MatRead arrays) = keyed keyword.Mat ∷ keyed keyword.Read ∷ listed (λ a. named a ∷ []) arrays
+  spelling_of (MatPrint a separator) = keyed keyword.Mat ∷ keyed keyword.Print ∷ named a ∷ optional (λ s. separator_steps s ∷ []) separator
+  spelling_of (MatLet a v) = keyed keyword.Mat ∷ named a ∷ signed sign.Equal ∷ matrix_spelling v
 
   pub clause_spelling : ClauseTree → Spelling
   clause_spelling (LineClause n) = literal n ∷ []
@@ -140,6 +147,10 @@ abbrev mutual
   IsStatement (Print c items last) =
       (is_parted c items last ≡ true) × IfThere (λ channel. IsOf want.Number channel.number) c
       × Every (λ item. IsPrinted item.printed) items × IfThere IsPrinted last
+  -- at least one value
+  IsStatement (PrintUsing c format values last) =
+      (has_value values last ≡ true) × IfThere (λ t. IsOf want.Number t) c × IsOf want.Text format
+      × Every (λ item. IsOf want.Either item.value) values × IfThere (λ t. IsOf want.Either t) last
   IsStatement (Input c p ts) =
       (is_one c p ≡ true) × IfThere (λ t. IsOf want.Number t) c × OneOrMore (λ t. IsTarget want.Either t) ts
   IsStatement (InputLine c x) = IfThere (λ t. IsOf want.Number t) c × (x.text ≡ true)
@@ -168,6 +179,9 @@ abbrev mutual
   IsStatement (Rset x v) = (x.text ≡ true) × IsOf want.Text v
   IsStatement (Kill t) = IsOf want.Text t
   IsStatement (Rename old new) = IsOf want.Text old × IsOf want.Text new
+  IsStatement (MatRead arrays) = OneOrMore IsArray arrays
+  IsStatement (MatPrint a separator) = IsArray a
+  IsStatement (MatLet a v) = IsArray a × IsMatrix v
 
   pub IsClause : ClauseTree → Type 0
   IsClause (LineClause n) = is_line_number n ≡ true

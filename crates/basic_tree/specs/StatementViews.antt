@@ -5,8 +5,8 @@ use Rattle.basic_tree.specs.declared.statements.Statement.TheVariants as stateme
 use Rattle.basic_tree.specs.declared.statements.Clause.{Clause}
 use Rattle.basic_tree.specs.declared.statements.Clause.TheVariants as clause
 use Rattle.basic_tree.specs.declared.programs.Line.{Line}
-use Rattle.basic_tree.specs.Trees.{ClauseTree, LineClause, StatementClause, ElseTree, NoElse, Else, StatementTree, IfThen, IfGoto, Modified, For, Next, FnEnd, Data, Dim, DimFile, Def, Let, Result, Print, Input, InputLine, Read, Restore, Goto, Gosub, Return, OnGoto, OnGosub, OnErrorGoto, Resume, Stop, End, Chain, Sleep, Open, Close, Get, Put, Unlock, Field, Lset, Rset, Kill, Rename}
-use Rattle.basic_tree.specs.TreeViews.{tree_of, target_of, printed_of, item_of, print_channel_of, prompt_of, chain_line_of, close_channel_of, field_part_of, modifier_of}
+use Rattle.basic_tree.specs.Trees.{ClauseTree, LineClause, StatementClause, ElseTree, NoElse, Else, StatementTree, IfThen, IfGoto, Modified, For, Next, FnEnd, Data, Dim, DimFile, Def, Let, Result, Print, Input, InputLine, Read, Restore, Goto, Gosub, Return, OnGoto, OnGosub, OnErrorGoto, Resume, Stop, End, Chain, Sleep, Open, Close, Get, Put, Unlock, Field, Lset, Rset, Kill, Rename, PrintUsing, MatRead, MatPrint, MatLet}
+use Rattle.basic_tree.specs.TreeViews.{tree_of, target_of, printed_of, item_of, using_item_of, matrix_of, print_channel_of, prompt_of, chain_line_of, close_channel_of, field_part_of, modifier_of}
 
 abbrev mutual
   pub statement_of : Statement → StatementTree
@@ -23,6 +23,8 @@ abbrev mutual
   statement_of (statement.Let word targets value) = Let word (map target_of targets) (tree_of value)
   statement_of (statement.Result f value) = Result f (tree_of value)
   statement_of (statement.Print c items last) = Print (option_map print_channel_of c) (map item_of items) (option_map printed_of last)
+  statement_of (statement.PrintUsing c format values last) =
+      PrintUsing (option_map tree_of c) (tree_of format) (map using_item_of values) (option_map tree_of last)
   statement_of (statement.Input c p targets) = Input (option_map tree_of c) (option_map prompt_of p) (map target_of targets)
   statement_of (statement.InputLine c v) = InputLine (option_map tree_of c) v
   statement_of (statement.Read targets) = Read (map target_of targets)
@@ -49,6 +51,9 @@ abbrev mutual
   statement_of (statement.Rset v e) = Rset v (tree_of e)
   statement_of (statement.Kill e) = Kill (tree_of e)
   statement_of (statement.Rename old new) = Rename (tree_of old) (tree_of new)
+  statement_of (statement.MatRead names) = MatRead names
+  statement_of (statement.MatPrint a s) = MatPrint a s
+  statement_of (statement.MatLet a v) = MatLet a (matrix_of v)
 
   pub clause_of : Clause → ClauseTree
   clause_of (clause.Line n) = LineClause n

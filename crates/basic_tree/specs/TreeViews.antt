@@ -10,11 +10,14 @@ use Rattle.basic_tree.specs.declared.parts.Modifier.{Modifier}
 use Rattle.basic_tree.specs.declared.parts.Modifier.TheVariants as modifier
 use Rattle.basic_tree.specs.declared.parts.PrintItem.{PrintItem}
 use Rattle.basic_tree.specs.declared.parts.PrintChannel.{PrintChannel}
+use Rattle.basic_tree.specs.declared.parts.UsingItem.{UsingItem}
+use Rattle.basic_tree.specs.declared.parts.MatrixValue.{MatrixValue}
+use Rattle.basic_tree.specs.declared.parts.MatrixValue.TheVariants as matrix_value
 use Rattle.basic_tree.specs.declared.parts.Prompt.{Prompt}
 use Rattle.basic_tree.specs.declared.parts.ChainLine.{ChainLine}
 use Rattle.basic_tree.specs.declared.parts.CloseChannel.{CloseChannel}
 use Rattle.basic_tree.specs.declared.parts.FieldPart.{FieldPart}
-use Rattle.basic_tree.specs.Trees.{Tree, Literal, Quoted, Variable, Element, FunctionOf, Call, Parenthesized, Negative, Positive, Not, Operation, Comparison, Trees, NoTrees, AndTrees, PrintedTree, Value, Tab, ModifierTree, If, Unless, While, Until, ForModifier, PrintItemTree, PrintChannelTree, PromptTree, ChainLineTree, CloseChannelTree, FieldPartTree}
+use Rattle.basic_tree.specs.Trees.{Tree, Literal, Quoted, Variable, Element, FunctionOf, Call, Parenthesized, Negative, Positive, Not, Operation, Comparison, Trees, NoTrees, AndTrees, PrintedTree, Value, Tab, ModifierTree, If, Unless, While, Until, ForModifier, PrintItemTree, PrintChannelTree, UsingItemTree, MatrixTree, Zero, One, Identity, Copy, Sum, Difference, Product, Scaled, Transposed, PromptTree, ChainLineTree, CloseChannelTree, FieldPartTree}
 
 abbrev mutual
   pub tree_of : Expr → Tree
@@ -59,6 +62,20 @@ item_of item = record { printed = printed_of item.printed; separator = item.sepa
 
 abbrev pub print_channel_of : PrintChannel → PrintChannelTree
 print_channel_of c = record { number = tree_of c.number; comma = c.comma }
+
+abbrev pub using_item_of : UsingItem → UsingItemTree
+using_item_of item = record { value = tree_of item.value; separator = item.separator }
+
+abbrev pub matrix_of : MatrixValue → MatrixTree
+matrix_of matrix_value.Zero = Zero
+matrix_of matrix_value.One = One
+matrix_of matrix_value.Identity = Identity
+matrix_of (matrix_value.Copy b) = Copy b
+matrix_of (matrix_value.Sum b c) = Sum b c
+matrix_of (matrix_value.Difference b c) = Difference b c
+matrix_of (matrix_value.Product b c) = Product b c
+matrix_of (matrix_value.Scaled factor b) = Scaled (tree_of factor) b
+matrix_of (matrix_value.Transposed b) = Transposed b
 
 abbrev pub prompt_of : Prompt → PromptTree
 prompt_of p = record { text = p.text; separator = p.separator }

@@ -57,6 +57,24 @@ pub record PrintChannelTree : Type 0 where
   pub number : Tree
   pub comma : Bool
 
+-- a value of PRINT USING and the separator behind it
+pub record UsingItemTree : Type 0 where
+  pub value : Tree
+  pub separator : Separator
+
+-- what MAT stores in its array: made of nothing, or of arrays by their names
+pub data MatrixTree : Type 0 where
+  Zero : MatrixTree
+  One : MatrixTree
+  Identity : MatrixTree
+  Copy : Name → MatrixTree
+  Sum : Name → Name → MatrixTree
+  Difference : Name → Name → MatrixTree
+  Product : Name → Name → MatrixTree
+  -- a number times an array
+  Scaled : Tree → Name → MatrixTree
+  Transposed : Name → MatrixTree
+
 -- the prompt of INPUT and the separator behind it
 pub record PromptTree : Type 0 where
   pub text : List ℕ
@@ -107,6 +125,8 @@ mutual
     Result : Name → Tree → StatementTree
     -- channel, items with their separators, and the last item
     Print : Option PrintChannelTree → List PrintItemTree → Option PrintedTree → StatementTree
+    -- channel, format, values with their separators, and the last value
+    PrintUsing : Option Tree → Tree → List UsingItemTree → Option Tree → StatementTree
     -- channel, prompt and targets
     Input : Option Tree → Option PromptTree → List Tree → StatementTree
     InputLine : Option Tree → Name → StatementTree
@@ -137,6 +157,11 @@ mutual
     Kill : Tree → StatementTree
     -- NAME old AS new
     Rename : Tree → Tree → StatementTree
+    MatRead : List Name → StatementTree
+    -- array, and the separator behind it
+    MatPrint : Name → Option Separator → StatementTree
+    -- target and value
+    MatLet : Name → MatrixTree → StatementTree
 
 -- a line: what stands before the first separator, and behind each
 pub record LineTree : Type 0 where

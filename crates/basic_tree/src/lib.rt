@@ -27,8 +27,8 @@ pub use expressions::{Expr, Function, Operator, Relation};
 pub use kinds::Want;
 pub use names::Name;
 pub use parts::{
-    ChainLine, CloseChannel, FieldPart, FileShape, Modifier, OpenFor, PrintChannel, PrintItem,
-    Printed, Prompt, Separator, Shape, Target,
+    ChainLine, CloseChannel, FieldPart, FileShape, MatrixValue, Modifier, OpenFor, PrintChannel,
+    PrintItem, Printed, Prompt, Separator, Shape, Target, UsingItem,
 };
 pub use programs::{Line, Program};
 pub use statements::{Clause, Statement};

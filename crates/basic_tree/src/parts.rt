@@ -1,4 +1,4 @@
-//! The parts of statements: targets, shapes, items of PRINT, modifiers.
+//! The parts of statements: targets, shapes, items of PRINT, values of MAT, modifiers.
 
 use crate::expressions::Expr;
 use crate::names::Name;
@@ -56,6 +56,32 @@ pub enum Separator {
 pub struct PrintItem {
     pub printed: Printed,
     pub separator: Separator,
+}
+
+/// A value of PRINT USING and the separator behind it.
+#[derive(Drop)]
+pub struct UsingItem {
+    pub value: Expr,
+    pub separator: Separator,
+}
+
+/// What MAT stores in its array: made of nothing, or of numeric arrays by their names.
+#[derive(Drop)]
+pub enum MatrixValue {
+    /// ZER, 0 everywhere.
+    Zero,
+    /// CON, 1 everywhere.
+    One,
+    /// IDN, 1 where both subscripts are equal, else 0.
+    Identity,
+    Copy(Name),
+    Sum(Name, Name),
+    Difference(Name, Name),
+    Product(Name, Name),
+    /// A number in parentheses times an array.
+    Scaled { factor: Expr, matrix: Name },
+    /// TRN, the subscripts exchanged.
+    Transposed(Name),
 }
 
 /// The text that INPUT writes first, and the separator behind it.

@@ -4,8 +4,8 @@
 use crate::expressions::Expr;
 use crate::names::Name;
 use crate::parts::{
-    ChainLine, CloseChannel, FieldPart, FileShape, Modifier, OpenFor, PrintChannel, PrintItem,
-    Printed, Prompt, Shape, Target,
+    ChainLine, CloseChannel, FieldPart, FileShape, MatrixValue, Modifier, OpenFor, PrintChannel,
+    PrintItem, Printed, Prompt, Separator, Shape, Target, UsingItem,
 };
 use basic_values::{Series, Text};
 
@@ -75,6 +75,13 @@ pub enum Statement {
         channel: Option<PrintChannel>,
         items: Series<PrintItem>,
         last: Option<Printed>,
+    },
+    /// PRINT USING: the format, and at least one value.
+    PrintUsing {
+        channel: Option<Expr>,
+        format: Expr,
+        values: Series<UsingItem>,
+        last: Option<Expr>,
     },
     Input {
         channel: Option<Expr>,
@@ -151,5 +158,17 @@ pub enum Statement {
     Rename {
         old: Expr,
         new: Expr,
+    },
+    /// MAT READ, of numeric arrays.
+    MatRead(Series<Name>),
+    /// MAT PRINT.
+    MatPrint {
+        matrix: Name,
+        separator: Option<Separator>,
+    },
+    /// MAT .. = .., an assignment of a whole array.
+    MatLet {
+        target: Name,
+        value: MatrixValue,
     },
 }

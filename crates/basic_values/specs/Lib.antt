@@ -1,6 +1,7 @@
 pub mod Arithmetic
 pub mod Bits
 pub mod Blanks
+pub mod Cuts
 pub mod Decimals
 pub mod Laws
 pub mod Messages

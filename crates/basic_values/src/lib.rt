@@ -7,6 +7,7 @@
 
 mod arithmetic;
 mod bits;
+mod cuts;
 mod decimals;
 pub mod errors;
 mod failures;
@@ -18,6 +19,7 @@ mod lists;
 mod messages;
 mod texts;
 
+pub use cuts::{behind, cut};
 pub use decimals::number_between;
 pub use failures::{Fault, Halt, NoMemory, Stop, Trouble};
 pub use fronts::{

@@ -10,7 +10,7 @@ use Rattle.monitor_model.specs.Files.{file_at, AreApart}
 use Rattle.block_files.specs.Disks.{times, total, IsDisk, place_at, place_in, place_of, IsLaidOut}
 use Rattle.block_files.specs.Rows.{Entry, file_of, files_of, rows, body_at, without, disk_of}
 use Rattle.block_files.proofs.RowLemmas.{file_at-file_of, total-without, total-at, times-at, count_here, other_stays}
-use Rattle.block_files.proofs.DiskLemmas.{all_once, row_below}
+use Rattle.block_files.proofs.DiskLemmas.{all_once, free_below, row_below}
 
 pub place_in-file_of : (pages : List (List ℕ)) (es : List Entry) (name : FileName) (block : ℕ) (v : FileBody) → Some v ≡ body_at es name → place_in (files_of pages es) (rows es) name block ≡ place_at v.places.items block
 place_in-file_of pages [] name block v e = absurd (cc)
@@ -84,6 +84,8 @@ module _ (pages : List (List ℕ)) (free : List ℕ) (es : List Entry) (d : IsDi
       record {
         below = λ name block p e. let a = told pages es name block p e in row_below pages free es d p (omega (arith, in_row name block p a, total-at (times p) es name a.was a.there));
         apart = λ name other block at p e h. let a = told pages es name block p e in let b = told pages es other at p h in differ name other block at p a b (cases_name other name);
+        free_below = λ k p e. free_below pages free es d p (times-at free k p e);
+        free_once = λ k at p e h. one_index free k at p e h (omega (arith, all_once pages free es d p));
         all = λ p lt. let one : times p free + total (times p) (rows es) ≡ 1 = d.once p ∙ ap (λ b. cond {A = ℕ} b 1 0) (lt-ltb p (length pages) lt) in found p (cases_lt 0 (times p free)) one;
         free = λ name block k p e h. let a = told pages es name block p h in omega (arith, times-at free k p e, in_row name block p a, total-at (times p) es name a.was a.there, all_once pages free es d p);
       } where

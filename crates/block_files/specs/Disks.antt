@@ -48,12 +48,16 @@ IsFree d p = (k : ℕ) × (slice_get d.free k ≡ Some p)
 abbrev pub IsTold : Disk → ℕ → Type 0
 IsTold d p = (name : FileName) × ((block : ℕ) × (place_of d name block ≡ Some p))
 
--- places are below the disk's blocks; those of two blocks differ; each is free or told, not both
+-- places are below the disk's blocks, the free ones too; those of two blocks differ, and each free
+-- one is listed once; each is free or told, not both
 pub record IsLaidOut (d : Disk) : Type 0 where
   pub below : (name : FileName) (block p : ℕ) → place_of d name block ≡ Some p → p < d.blocks
   pub apart :
       (name other : FileName) (block at p : ℕ) →
       place_of d name block ≡ Some p → place_of d other at ≡ Some p → (name ≡ other) × (block ≡ at)
+  pub free_below : (k p : ℕ) → slice_get d.free k ≡ Some p → p < d.blocks
+  pub free_once :
+      (k at p : ℕ) → slice_get d.free k ≡ Some p → slice_get d.free at ≡ Some p → k ≡ at
   pub all : (p : ℕ) → p < d.blocks → IsFree d p ⊎ IsTold d p
   pub free :
       (name : FileName) (block k p : ℕ) →

@@ -1,10 +1,11 @@
 //! The disk.
 
 ghost use Rattle.std.specs.Prelude.{ℕ, ◌≡◌, ◌+◌, ◌-◌, ◌<◌, ◌≤◌, true, false, not, ◌&&◌, nat_le, [], length, replicate, is_some, option_map, vec_capacity, IfOk, IsOk, OnOk, OnErr};
+ghost use Rattle.basic_values.specs.declared.limits.TheConstants.{MOST_FILES};
 ghost use Rattle.monitor_calls.specs.FileNames.{same_name};
 ghost use Rattle.monitor_calls.specs.Pages.{zeros};
 ghost use Rattle.monitor_model.specs.Refusals.{RefusedBy, RefusedByOrNoMemory};
-ghost use Rattle.monitor_model.specs.Files.{size, file_at, nth_of, page_at, is_block, size_at, blocks_of, remove, make, remake, rename, empty_file, is_file, put};
+ghost use Rattle.monitor_model.specs.Files.{size, file_at, nth_of, page_at, is_block, size_at, blocks_of, blocks_owned, remove, make, remake, rename, empty_file, is_file, put};
 ghost use Rattle.block_files.specs.Calls.{create_refusals, there_refusals, rename_refusals, read_refusals, write_refusals};
 ghost use Rattle.block_files.specs.Disks.{times, IsLaidOut, place_of};
 ghost use Rattle.block_files.specs.Rows.{cleared, first_places, grow_file, set_page};
@@ -12,29 +13,13 @@ ghost use Rattle.block_files.specs.Rows.{cleared, first_places, grow_file, set_p
 use crate::bodies::{
     Directory, FileBody, add_places, body_of, make_room, place_in, put_last, take_out,
 };
+use basic_values::errors::{END_OF_FILE, ILLEGAL_BYTE_COUNT, NAME_EXISTS, NO_ROOM, NO_SUCH_FILE};
+use basic_values::limits::MOST_FILES;
 use basic_values::{Fault, NoMemory, Trouble};
 use indexmap::IndexMap;
 use monitor_calls::{Account, FileName, Page};
 use std::alloc::Global;
 use std::marker::Model;
-
-/// How many files a disk holds at the most.
-const MOST_FILES: usize = 512;
-
-/// The number of "no room for user on device".
-const NO_ROOM: u8 = 4;
-
-/// The number of "can't find file or account".
-const NOT_FOUND: u8 = 5;
-
-/// The number of "end of file on device".
-const END_OF_FILE: u8 = 11;
-
-/// The number of "name or account now exists".
-const NAME_IN_USE: u8 = 16;
-
-/// The number of "illegal byte count for I/O", which a write of block 0 is told.
-const NO_BLOCK: u8 = 31;
 
 /// A disk: a page for each of its blocks, the free places, and the files in the order of making.
 #[derive(Drop)]
@@ -113,6 +98,21 @@ impl Disk {
         None
     }
 
+    /// How many blocks the files of an owner have. It reads each file's entry once.
+    pub fn used_by(&self, owner: Account) -> u32
+        ensures { result ≡ blocks_owned self.now.files owner }
+    {
+        let mut used = 0;
+        for place in 0..self.files.len() {
+            if let Some((name, body)) = self.files.get_index(place) {
+                if name.owner == owner {
+                    used += body.places.len() as u32;
+                }
+            }
+        }
+        used
+    }
+
     /// The place of a block among the disk's pages.
     pub fn place(&self, name: &FileName, block: u16) -> Option<u16>
         ensures value { result ≡ place_of self.now name.now block }
@@ -132,7 +132,7 @@ impl Disk {
         ensures err { OnErr result (page.new ≡ page.old) }
     {
         if !self.is_file(name) {
-            return Err(Fault::new(NOT_FOUND));
+            return Err(Fault::new(NO_SUCH_FILE));
         }
         if !self.is_block(name, block) {
             return Err(Fault::new(END_OF_FILE));
@@ -149,7 +149,7 @@ impl Disk {
         ensures blocks { self.new.blocks ≡ self.old.blocks }
     {
         if self.is_file(&name) {
-            return refused(NAME_IN_USE);
+            return refused(NAME_EXISTS);
         }
         if self.is_full() {
             return refused(NO_ROOM);
@@ -166,7 +166,7 @@ impl Disk {
         ensures blocks { self.new.blocks ≡ self.old.blocks }
     {
         if !self.is_file(name) {
-            return Err(Fault::new(NOT_FOUND));
+            return Err(Fault::new(NO_SUCH_FILE));
         }
         self.take(name);
         Ok(())
@@ -180,7 +180,7 @@ impl Disk {
         ensures blocks { self.new.blocks ≡ self.old.blocks }
     {
         if !self.is_file(name) {
-            return refused(NOT_FOUND);
+            return refused(NO_SUCH_FILE);
         }
         self.make_anew(name, code)?;
         Ok(())
@@ -194,10 +194,10 @@ impl Disk {
         ensures blocks { self.new.blocks ≡ self.old.blocks }
     {
         if !self.is_file(old) {
-            return refused(NOT_FOUND);
+            return refused(NO_SUCH_FILE);
         }
         if self.is_file(&new) && !new.is_same(old) {
-            return refused(NAME_IN_USE);
+            return refused(NAME_EXISTS);
         }
         self.move_last(old, new, code)?;
         Ok(())
@@ -212,10 +212,10 @@ impl Disk {
         ensures within { is_block self.old.files name.now block ≡ true → IsOk result }
     {
         if !self.is_file(name) {
-            return refused(NOT_FOUND);
+            return refused(NO_SUCH_FILE);
         }
         if block == 0 {
-            return refused(NO_BLOCK);
+            return refused(ILLEGAL_BYTE_COUNT);
         }
         let more = self.missing(name, block);
         if self.free_blocks() < more {
@@ -233,7 +233,7 @@ impl Disk {
     }
 
     fn is_full(&self) -> bool
-        ensures { result ≡ nat_le 512 (length self.now.files) }
+        ensures { result ≡ nat_le MOST_FILES (length self.now.files) }
     {
         self.files.len() >= MOST_FILES
     }

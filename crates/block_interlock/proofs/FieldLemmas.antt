@@ -1,17 +1,22 @@
 -- What the fields and the index hold after each change.
 use Rattle.std.proofs.Common.{◌≡◌, ◌≢◌, ℕ, ◌+◌, ◌*◌, ◌<◌, ◌≤◌, zero, suc, Bool, true, false, cond, List, [], ◌∷◌, length, length-set, get_or, set, replicate, Some, None, refl, sym, ap, ◌∙◌, subst, arith, inl, inr, ◌⊎◌}
-use Rattle.std.specs.Prelude.{Option, not, is_some, ◌&&◌, ◌==◌, ◌↔◌, nat_lt}
-use Rattle.std.proofs.lemmas.Bool.{true≢false, cases_eq, and_parts, eqb-true, eq-eqb}
+use Rattle.std.specs.Prelude.{Option, IfSome, not, is_some, ◌&&◌, ◌==◌, ◌↔◌, nat_le, nat_lt}
+use Rattle.std.proofs.lemmas.Bool.{true≢false, cases_eq, and_parts, and_from, eqb-true, eq-eqb, leb-true, ltb-true, le-leb, lt-ltb}
 use Rattle.std.proofs.lemmas.Bool.Decides.{nat_tests}
 use Rattle.std.proofs.lemmas.List.{get_or-set_same, get_or-set_other, length-replicate}
 use Rattle.monitor_calls.specs.declared.files.FileName.{FileName}
-use Rattle.monitor_model.specs.Holds.{is_channel, is_job, is_held, release, release_job, hold}
-use Rattle.monitor_model.proofs.HoldLemmas.{same_holds, holder-release, holder-release_job, holder-hold}
-use Rattle.block_interlock.specs.declared.index.Held.{Held}
+use Rattle.monitor_calls.specs.FileNames.{same_name}
+use Rattle.monitor_calls.proofs.FileNameLemmas.{Decides-same_name}
+use Rattle.monitor_model.specs.Holds.{holder, is_channel, is_job, is_held, any_held, release, release_job, add, hold}
+use Rattle.monitor_model.proofs.HoldLemmas.{same_holds, holder-release, holder-release_job, holder-add_in, holder-add_out}
+use Rattle.monitor_model.proofs.RecordLemmas.{none_held}
 use Rattle.block_interlock.specs.declared.index.Hold.{Hold}
-use Rattle.block_interlock.specs.Index.{look, map_of, is_block, Drops, Adds}
-use Rattle.block_interlock.specs.Fields.{slot, field_at, held_count, said, HasField, IsKept, LetsGo, LetGoBelow, is_below, TakesUp, AreHolds}
-use Rattle.block_interlock.proofs.IndexLemmas.{holder-map_of, is_same, is_self}
+use Rattle.block_interlock.specs.declared.runs.Run.{Run}
+use Rattle.block_interlock.specs.Index.{look, map_of, AreFree, DropsAll, HeldByOne, AddsAll}
+use Rattle.block_interlock.specs.Fields.{slot, field_at, AreShort, held_count, HasField, IsKept, LetsGo, LetGoBelow, is_below, AreHolds}
+use Rattle.block_interlock.specs.Interlock.{IsHeldBy}
+use Rattle.block_interlock.specs.Runs.{IsShort, has_block, tells_block}
+use Rattle.block_interlock.proofs.IndexLemmas.{holder-map_of}
 
 -- SMALL FACTS
 
@@ -37,80 +42,109 @@ kept_out : {X : Type 0} (v : Bool) (o : Option X) (x : X) → cond v None o ≡ 
 kept_out true o x e = absurd (cc)
 kept_out false o x e = (refl, e)
 
-held_parts : (name : FileName) (block : ℕ) (held : Held) → Some held ≡ Some (record { name = name; block = block }) → is_block name block held ≡ true
-held_parts name block held e =
-    let one : held ≡ record { name = name; block = block } = cc in
-    subst (λ (h : Held). is_block name block h ≡ true) (sym one) (is_self (record { name = name; block = block }))
+-- a block of a run
+block_parts : (run : Run) (name : FileName) (block : ℕ) → has_block run name block ≡ true → (name ≡ run.name) × ((run.block ≤ block) × (block < run.block + run.count))
+block_parts run name block e =
+    let parts = and_parts (same_name name run.name) _ e in
+    let range = and_parts (nat_le run.block block) (nat_lt block (run.block + run.count)) parts.1 in
+    ((Decides-same_name name run.name).0 parts.0, (leb-true run.block block range.0, ltb-true block (run.block + run.count) range.1))
 
-block_held : (name : FileName) (block : ℕ) (held : Held) → is_block name block held ≡ true → Some held ≡ Some (record { name = name; block = block })
-block_held name block held is =
-    let same = is_same name block held is in λ i. Some (record { name = sym same.0 i; block = sym same.1 i })
-
-looked : (index : List Hold) (name : FileName) (block : ℕ) (held : Held) (o : Option (ℕ × ℕ)) → is_block name block held ≡ true → look index held.name held.block ≡ o → look index name block ≡ o
-looked index name block held o is e =
-    let same = is_same name block held is in (λ i. look index (same.0 i) (same.1 i)) ∙ e
+block_from : (run : Run) (name : FileName) (block : ℕ) → name ≡ run.name → run.block ≤ block → block < run.block + run.count → has_block run name block ≡ true
+block_from run name block same lo hi =
+    and_from (same_name name run.name) _ ((Decides-same_name name run.name).1 same) (and_from (nat_le run.block block) _ (le-leb run.block block lo) (lt-ltb block (run.block + run.count) hi))
 
 -- COUNTS
 
-count_less : (fields : List (Option Held)) (i : ℕ) (held : Held) → get_or fields i None ≡ Some held → held_count fields ≡ held_count (set fields i None) + 1
-count_less [] i held e = absurd (cc)
-count_less (None ∷ fields) zero held e = absurd (cc)
-count_less (Some h ∷ fields) zero held e = refl
-count_less (None ∷ fields) (suc i) held e = count_less fields i held e
-count_less (Some h ∷ fields) (suc i) held e = let r = count_less fields i held e in omega (arith, r)
+count_less : (fields : List (Option Run)) (i : ℕ) (run : Run) → get_or fields i None ≡ Some run → held_count fields ≡ held_count (set fields i None) + run.count
+count_less [] i run e = absurd (cc)
+count_less (None ∷ fields) zero run e = absurd (cc)
+count_less (Some h ∷ fields) zero run e = let one : h ≡ run = cc in ap (λ (r : Run). held_count fields + r.count) one
+count_less (None ∷ fields) (suc i) run e = count_less fields i run e
+count_less (Some h ∷ fields) (suc i) run e = let r = count_less fields i run e in omega (arith, r)
 
-count_more : (fields : List (Option Held)) (i : ℕ) (held : Held) → i < length fields → get_or fields i None ≡ None → held_count (set fields i (Some held)) ≡ held_count fields + 1
-count_more [] i held lt e = absurd (omega (arith, lt))
-count_more (None ∷ fields) zero held lt e = refl
-count_more (Some h ∷ fields) zero held lt e = absurd (cc)
-count_more (None ∷ fields) (suc i) held lt e = count_more fields i held (omega (arith, lt)) e
-count_more (Some h ∷ fields) (suc i) held lt e = let r = count_more fields i held (omega (arith, lt)) e in omega (arith, r)
+count_more : (fields : List (Option Run)) (i : ℕ) (run : Run) → i < length fields → get_or fields i None ≡ None → held_count (set fields i (Some run)) ≡ held_count fields + run.count
+count_more [] i run lt e = absurd (omega (arith, lt))
+count_more (None ∷ fields) zero run lt e = refl
+count_more (Some h ∷ fields) zero run lt e = absurd (cc)
+count_more (None ∷ fields) (suc i) run lt e = count_more fields i run (omega (arith, lt)) e
+count_more (Some h ∷ fields) (suc i) run lt e = let r = count_more fields i run (omega (arith, lt)) e in omega (arith, r)
 
-count_most : (fields : List (Option Held)) → held_count fields ≤ length fields
-count_most [] = omega arith
-count_most (None ∷ fields) = let r = count_most fields in omega (arith, r)
-count_most (Some h ∷ fields) = let r = count_most fields in omega (arith, r)
+count_most : (fields : List (Option Run)) → AreShort fields → held_count fields ≤ length fields * 3
+count_most [] s = omega arith
+count_most (None ∷ fields) s = let r = count_most fields s in omega (arith, r)
+count_most (Some h ∷ fields) s = let r = count_most fields s.1 in omega (arith, r, s.0.1.0)
 
-count_below : (fields : List (Option Held)) (i : ℕ) → i < length fields → get_or fields i None ≡ None → held_count fields < length fields
-count_below [] i lt e = absurd (omega (arith, lt))
-count_below (None ∷ fields) zero lt e = let r = count_most fields in omega (arith, r)
-count_below (Some h ∷ fields) zero lt e = absurd (cc)
-count_below (None ∷ fields) (suc i) lt e = let r = count_below fields i (omega (arith, lt)) e in omega (arith, r)
-count_below (Some h ∷ fields) (suc i) lt e = let r = count_below fields i (omega (arith, lt)) e in omega (arith, r)
+count_below : (fields : List (Option Run)) (i : ℕ) → AreShort fields → i < length fields → get_or fields i None ≡ None → held_count fields + 3 ≤ length fields * 3
+count_below [] i s lt e = absurd (omega (arith, lt))
+count_below (None ∷ fields) zero s lt e = let r = count_most fields s in omega (arith, r)
+count_below (Some h ∷ fields) zero s lt e = absurd (cc)
+count_below (None ∷ fields) (suc i) s lt e = let r = count_below fields i s (omega (arith, lt)) e in omega (arith, r)
+count_below (Some h ∷ fields) (suc i) s lt e = let r = count_below fields i s.1 (omega (arith, lt)) e in omega (arith, r, s.0.1.0)
 
-count_none : (n : ℕ) → held_count (replicate {A = Option Held} n None) ≡ 0
+count_none : (n : ℕ) → held_count (replicate {A = Option Run} n None) ≡ 0
 count_none zero = refl
 count_none (suc n) = count_none n
 
-none_at : (n i : ℕ) → get_or (replicate {A = Option Held} n None) i None ≡ None
+none_at : (n i : ℕ) → get_or (replicate {A = Option Run} n None) i None ≡ None
 none_at zero i = refl
 none_at (suc n) zero = refl
 none_at (suc n) (suc i) = none_at n i
 
+-- SHORT RUNS
+
+none_short : (n : ℕ) → AreShort (replicate {A = Option Run} n None)
+none_short zero = tt
+none_short (suc n) = none_short n
+
+pub short_at : (fields : List (Option Run)) (i : ℕ) (run : Run) → AreShort fields → get_or fields i None ≡ Some run → IsShort run.block run.count
+short_at [] i run s e = absurd (cc)
+short_at (None ∷ fields) zero run s e = absurd (cc)
+short_at (Some h ∷ fields) zero run s e = let one : h ≡ run = cc in subst (λ (r : Run). IsShort r.block r.count) one s.0
+short_at (None ∷ fields) (suc i) run s e = short_at fields i run s e
+short_at (Some h ∷ fields) (suc i) run s e = short_at fields i run s.1 e
+
+short_less : (fields : List (Option Run)) (i : ℕ) → AreShort fields → AreShort (set fields i None)
+short_less [] i s = s
+short_less (None ∷ fields) zero s = s
+short_less (Some h ∷ fields) zero s = s.1
+short_less (None ∷ fields) (suc i) s = short_less fields i s
+short_less (Some h ∷ fields) (suc i) s = (s.0, short_less fields i s.1)
+
+short_more : (fields : List (Option Run)) (i : ℕ) (run : Run) → IsShort run.block run.count → AreShort fields → AreShort (set fields i (Some run))
+short_more [] i run r s = s
+short_more (None ∷ fields) zero run r s = (r, s)
+short_more (Some h ∷ fields) zero run r s = (r, s.1)
+short_more (None ∷ fields) (suc i) run r s = short_more fields i run r s
+short_more (Some h ∷ fields) (suc i) run r s = (s.0, short_more fields i run r s.1)
+
 -- CHANGES
 
-module _ (fields : List (Option Held)) (index : List Hold) (room : ℕ) (k : IsKept fields index room) (job channel : ℕ) (f : HasField fields job channel) where
+module _ (fields : List (Option Run)) (index : List Hold) (room : ℕ) (k : IsKept fields index room) (job channel : ℕ) (f : HasField fields job channel) where
   -- a field that is there has its place in a changed list, and the other way round
-  wider : (x : Option Held) (j c : ℕ) → HasField (set fields (slot job channel) x) j c → HasField fields j c
+  wider : (x : Option Run) (j c : ℕ) → HasField (set fields (slot job channel) x) j c → HasField fields j c
   wider x j c g = (omega (arith, g.0, length-set fields (slot job channel) x), g.1)
 
-  narrower : (x : Option Held) (j c : ℕ) → HasField fields j c → HasField (set fields (slot job channel) x) j c
+  narrower : (x : Option Run) (j c : ℕ) → HasField fields j c → HasField (set fields (slot job channel) x) j c
   narrower x j c g = (omega (arith, g.0, length-set fields (slot job channel) x), g.1)
 
   own_slot : (j c : ℕ) → HasField fields j c → slot j c ≡ slot job channel → (j ≡ job) × (c ≡ channel)
   own_slot j c g e = (omega (arith, e, g.1, f.1), omega (arith, e, g.1, f.1))
 
-  own_field : (x : Option Held) → field_at (set fields (slot job channel) x) job channel ≡ x
+  own_field : (x : Option Run) → field_at (set fields (slot job channel) x) job channel ≡ x
   own_field x = get_or-set_same fields (slot job channel) x None f.0
 
-  other_field : (x : Option Held) (j c : ℕ) → slot j c ≢ slot job channel → field_at (set fields (slot job channel) x) j c ≡ field_at fields j c
+  other_field : (x : Option Run) (j c : ℕ) → slot j c ≢ slot job channel → field_at (set fields (slot job channel) x) j c ≡ field_at fields j c
   other_field x j c ne = get_or-set_other fields (slot job channel) (slot j c) x None ne
 
-  -- what the field says, the index says
-  held_here : (held : Held) → field_at fields job channel ≡ Some held → look index held.name held.block ≡ Some (job, channel)
-  held_here held e = (k.told job channel held.name held.block f).0 e
+  -- what the changed field says
+  own_says : (x : Option Run) (j c : ℕ) (name : FileName) (block : ℕ) → slot j c ≡ slot job channel → tells_block (field_at (set fields (slot job channel) x) j c) name block ≡ tells_block x name block
+  own_says x j c name block same =
+      ap (λ s. tells_block (get_or (set fields (slot job channel) x) s None) name block) same ∙ ap (λ o. tells_block o name block) (own_field x)
 
-  here_held : (name : FileName) (block : ℕ) → is_channel job channel (look index name block) ≡ true → field_at fields job channel ≡ Some (record { name = name; block = block })
+  other_says : (x : Option Run) (j c : ℕ) (name : FileName) (block : ℕ) → slot j c ≢ slot job channel → tells_block (field_at (set fields (slot job channel) x) j c) name block ≡ tells_block (field_at fields j c) name block
+  other_says x j c name block ne = ap (λ o. tells_block o name block) (other_field x j c ne)
+
+  here_held : (name : FileName) (block : ℕ) → is_channel job channel (look index name block) ≡ true → tells_block (field_at fields job channel) name block ≡ true
   here_held name block is = (k.told job channel name block f).1 (channel_is job channel (look index name block) is)
 
   pub let_go_nothing : field_at fields job channel ≡ None → LetsGo job channel index fields index
@@ -118,40 +152,47 @@ module _ (fields : List (Option Held)) (index : List Hold) (room : ℕ) (k : IsK
     empty = none;
     looks = λ name block.
         elim (is_channel job channel (look index name block)) as (λ v. is_channel job channel (look index name block) ≡ v → look index name block ≡ cond v None (look index name block)) [
-          | true ↦ λ is. absurd (let clash = sym none ∙ here_held name block is in cc)
+          | true ↦ λ is. absurd (true≢false (sym (here_held name block is) ∙ ap (λ o. tells_block o name block) none))
           | false ↦ λ is. refl
         ] refl;
   }
 
-  module _ (held : Held) (there : field_at fields job channel ≡ Some held) (left : List Hold) (d : Drops held index left) where
-    -- a block that is left is another
-    left_is : (j c : ℕ) (name : FileName) (block : ℕ) → look left name block ≡ Some (j, c) → (is_block name block held ≡ false) × (look index name block ≡ Some (j, c))
-    left_is j c name block e = kept_out (is_block name block held) (look index name block) (j, c) (sym (d.looks name block) ∙ e)
+  module _ (run : Run) (there : field_at fields job channel ≡ Some run) (left : List Hold) (d : DropsAll run index left) where
+    -- what the field says, the index says
+    held_here : (name : FileName) (block : ℕ) → has_block run name block ≡ true → look index name block ≡ Some (job, channel)
+    held_here name block is = (k.told job channel name block f).0 (ap (λ o. tells_block o name block) there ∙ is)
 
-    forth : (j c : ℕ) (name : FileName) (block : ℕ) → HasField fields j c → (slot j c ≡ slot job channel) ⊎ (slot j c ≢ slot job channel) → field_at (set fields (slot job channel) None) j c ≡ Some (record { name = name; block = block }) → look left name block ≡ Some (j, c)
-    forth j c name block g (inl same) e =
-        absurd (let clash : None ≡ Some (record { name = name; block = block }) = sym (own_field None) ∙ ap (λ s. get_or (set fields (slot job channel) None) s None) (sym same) ∙ e in cc)
+    -- a block that is left is another
+    left_is : (j c : ℕ) (name : FileName) (block : ℕ) → look left name block ≡ Some (j, c) → (has_block run name block ≡ false) × (look index name block ≡ Some (j, c))
+    left_is j c name block e = kept_out (has_block run name block) (look index name block) (j, c) (sym (d.looks name block) ∙ e)
+
+    forth : (j c : ℕ) (name : FileName) (block : ℕ) → HasField fields j c → (slot j c ≡ slot job channel) ⊎ (slot j c ≢ slot job channel) → tells_block (field_at (set fields (slot job channel) None) j c) name block ≡ true → look left name block ≡ Some (j, c)
+    forth j c name block g (inl same) e = absurd (true≢false (sym e ∙ own_says None j c name block same))
     forth j c name block g (inr ne) e =
-        let was = (k.told j c name block g).0 (sym (other_field None j c ne) ∙ e) in
+        let was = (k.told j c name block g).0 (sym (other_says None j c name block ne) ∙ e) in
         d.looks name block
-        ∙ (elim (is_block name block held) as (λ v. is_block name block held ≡ v → cond v None (look index name block) ≡ Some (j, c)) [
-          | true ↦ λ is. absurd (let pair = first_of_pair j c job channel (sym was ∙ looked index name block held (Some (job, channel)) is (held_here held there)) in ne (λ i. slot (pair.0 i) (pair.1 i)))
+        ∙ (elim (has_block run name block) as (λ v. has_block run name block ≡ v → cond v None (look index name block) ≡ Some (j, c)) [
+          | true ↦ λ is. absurd (let pair = first_of_pair j c job channel (sym was ∙ held_here name block is) in ne (λ i. slot (pair.0 i) (pair.1 i)))
           | false ↦ λ is. was
         ] refl)
 
-    back : (j c : ℕ) (name : FileName) (block : ℕ) → HasField fields j c → (slot j c ≡ slot job channel) ⊎ (slot j c ≢ slot job channel) → look left name block ≡ Some (j, c) → field_at (set fields (slot job channel) None) j c ≡ Some (record { name = name; block = block })
+    back : (j c : ℕ) (name : FileName) (block : ℕ) → HasField fields j c → (slot j c ≡ slot job channel) ⊎ (slot j c ≢ slot job channel) → look left name block ≡ Some (j, c) → tells_block (field_at (set fields (slot job channel) None) j c) name block ≡ true
     back j c name block g (inl same) e =
         let l = left_is j c name block e in
-        let here : Some held ≡ Some (record { name = name; block = block }) = sym there ∙ ap (λ s. get_or fields s None) (sym same) ∙ (k.told j c name block g).1 l.1 in
-        absurd (true≢false (sym (held_parts name block held here) ∙ l.0))
-    back j c name block g (inr ne) e = other_field None j c ne ∙ (k.told j c name block g).1 (left_is j c name block e).1
+        let here : has_block run name block ≡ true = sym (ap (λ s. tells_block (get_or fields s None) name block) same ∙ ap (λ o. tells_block o name block) there) ∙ (k.told j c name block g).1 l.1 in
+        absurd (true≢false (sym here ∙ l.0))
+    back j c name block g (inr ne) e = other_says None j c name block ne ∙ (k.told j c name block g).1 (left_is j c name block e).1
+
+    all_there : (name : FileName) (block : ℕ) → has_block run name block ≡ true → look index name block ≢ None
+    all_there name block is none = let clash : ◌≡◌ {A = Option (ℕ × ℕ)} (Some (job, channel)) None = sym (held_here name block is) ∙ none in absurd (cc)
 
     pub let_go_kept : (after : ℕ) → room ≤ after → IsKept (set fields (slot job channel) None) left after
     let_go_kept after more = record {
       rises = d.rises;
       told = λ j c name block g. (forth j c name block (wider None j c g) (cases_eq (slot j c) (slot job channel)), back j c name block (wider None j c g) (cases_eq (slot j c) (slot job channel)));
       within = λ j c name block e. narrower None j c (k.within j c name block (left_is j c name block e).1);
-      all = omega (arith, k.all, d.less job channel (held_here held there), count_less fields (slot job channel) held there);
+      all = omega (arith, k.all, d.less all_there, count_less fields (slot job channel) run there);
+      short = short_less fields (slot job channel) k.short;
       fits = omega (arith, k.fits, more, length-set fields (slot job channel) None);
     }
 
@@ -159,85 +200,94 @@ module _ (fields : List (Option Held)) (index : List Hold) (room : ℕ) (k : IsK
     let_go_gone = record {
       empty = own_field None;
       looks = λ name block. d.looks name block
-          ∙ (elim (is_block name block held) as (λ v. is_block name block held ≡ v → cond v None (look index name block) ≡ cond (is_channel job channel (look index name block)) None (look index name block)) [
-            | true ↦ λ is. sym (ap (λ v. cond v None (look index name block)) (is_own job channel (look index name block) (looked index name block held (Some (job, channel)) is (held_here held there))))
+          ∙ (elim (has_block run name block) as (λ v. has_block run name block ≡ v → cond v None (look index name block) ≡ cond (is_channel job channel (look index name block)) None (look index name block)) [
+            | true ↦ λ is. sym (ap (λ v. cond v None (look index name block)) (is_own job channel (look index name block) (held_here name block is)))
             | false ↦ λ is. elim (is_channel job channel (look index name block)) as (λ v. is_channel job channel (look index name block) ≡ v → look index name block ≡ cond v None (look index name block)) [
-              | true ↦ λ own. absurd (true≢false (sym (held_parts name block held (sym there ∙ here_held name block own)) ∙ is))
+              | true ↦ λ own. absurd (true≢false (sym (here_held name block own) ∙ ap (λ o. tells_block o name block) there ∙ is))
               | false ↦ λ own. refl
             ] refl
           ] refl);
     }
 
-  module _ (held : Held) (none : field_at fields job channel ≡ None) (free : look index held.name held.block ≡ None) where
-    pub has_room : length index < room
-    has_room = omega (arith, k.all, k.fits, count_below fields (slot job channel) f.0 none)
+  module _ (run : Run) (none : field_at fields job channel ≡ None) (short : IsShort run.block run.count) (free : AreFree run index) where
+    pub has_room : length index + run.count ≤ room
+    has_room = omega (arith, k.all, k.fits, short.1.0, count_below fields (slot job channel) k.short f.0 none)
 
-    module _ (grown : List Hold) (a : Adds (record { held = held; job = job; channel = channel }) index grown) where
-      new_block : (j c : ℕ) (name : FileName) (block : ℕ) → look index name block ≡ Some (j, c) → is_block name block held ≡ false
+    module _ (grown : List Hold) (a : AddsAll run job channel index grown) where
+      new_block : (j c : ℕ) (name : FileName) (block : ℕ) → look index name block ≡ Some (j, c) → has_block run name block ≡ false
       new_block j c name block e =
-          elim (is_block name block held) as (λ v. is_block name block held ≡ v → v ≡ false) [
-            | true ↦ λ is. absurd (let clash : ◌≡◌ {A = Option (ℕ × ℕ)} (Some (j, c)) None = sym e ∙ looked index name block held None is free in cc)
+          elim (has_block run name block) as (λ v. has_block run name block ≡ v → v ≡ false) [
+            | true ↦ λ is. absurd (let clash : ◌≡◌ {A = Option (ℕ × ℕ)} (Some (j, c)) None = sym e ∙ free name block is in cc)
             | false ↦ λ is. refl
           ] refl
 
-      gain : (j c : ℕ) (name : FileName) (block : ℕ) → HasField fields j c → (slot j c ≡ slot job channel) ⊎ (slot j c ≢ slot job channel) → field_at (set fields (slot job channel) (Some held)) j c ≡ Some (record { name = name; block = block }) → look grown name block ≡ Some (j, c)
+      gain : (j c : ℕ) (name : FileName) (block : ℕ) → HasField fields j c → (slot j c ≡ slot job channel) ⊎ (slot j c ≢ slot job channel) → tells_block (field_at (set fields (slot job channel) (Some run)) j c) name block ≡ true → look grown name block ≡ Some (j, c)
       gain j c name block g (inl same) e =
           let pair = own_slot j c g same in
-          let here : Some held ≡ Some (record { name = name; block = block }) = sym (own_field (Some held)) ∙ ap (λ s. get_or (set fields (slot job channel) (Some held)) s None) (sym same) ∙ e in
-          a.looks name block ∙ ap (λ v. cond v (Some (job, channel)) (look index name block)) (held_parts name block held here) ∙ (λ i. Some (sym pair.0 i, sym pair.1 i))
+          let here : has_block run name block ≡ true = sym (own_says (Some run) j c name block same) ∙ e in
+          a.looks name block ∙ ap (λ v. cond v (Some (job, channel)) (look index name block)) here ∙ (λ i. Some (sym pair.0 i, sym pair.1 i))
       gain j c name block g (inr ne) e =
-          let was = (k.told j c name block g).0 (sym (other_field (Some held) j c ne) ∙ e) in
+          let was = (k.told j c name block g).0 (sym (other_says (Some run) j c name block ne) ∙ e) in
           a.looks name block ∙ ap (λ v. cond v (Some (job, channel)) (look index name block)) (new_block j c name block was) ∙ was
 
-      -- a block that is held now was held, or is the new one
+      -- a block that is held now was held, or is a new one
       data IsGrown (j c : ℕ) (name : FileName) (block : ℕ) : Type 0 where
-        is_new : is_block name block held ≡ true → job ≡ j → channel ≡ c → IsGrown j c name block
+        is_new : has_block run name block ≡ true → job ≡ j → channel ≡ c → IsGrown j c name block
         is_old : look index name block ≡ Some (j, c) → IsGrown j c name block
 
       grown_is : (j c : ℕ) (name : FileName) (block : ℕ) → look grown name block ≡ Some (j, c) → IsGrown j c name block
       grown_is j c name block e =
-          elim (is_block name block held) as (λ v. is_block name block held ≡ v → cond v (Some (job, channel)) (look index name block) ≡ Some (j, c) → IsGrown j c name block) [
+          elim (has_block run name block) as (λ v. has_block run name block ≡ v → cond v (Some (job, channel)) (look index name block) ≡ Some (j, c) → IsGrown j c name block) [
             | true ↦ λ is h. let pair = first_of_pair job channel j c h in is_new is pair.0 pair.1
             | false ↦ λ is h. is_old h
           ] refl (sym (a.looks name block) ∙ e)
 
-      lose : (j c : ℕ) (name : FileName) (block : ℕ) → HasField fields j c → (slot j c ≡ slot job channel) ⊎ (slot j c ≢ slot job channel) → IsGrown j c name block → field_at (set fields (slot job channel) (Some held)) j c ≡ Some (record { name = name; block = block })
+      lose : (j c : ℕ) (name : FileName) (block : ℕ) → HasField fields j c → (slot j c ≡ slot job channel) ⊎ (slot j c ≢ slot job channel) → IsGrown j c name block → tells_block (field_at (set fields (slot job channel) (Some run)) j c) name block ≡ true
       lose j c name block g s (is_new is p q) =
-          (λ i. get_or (set fields (slot job channel) (Some held)) (slot (sym p i) (sym q i)) None) ∙ own_field (Some held) ∙ block_held name block held is
+          own_says (Some run) j c name block (λ i. slot (sym p i) (sym q i)) ∙ is
       lose j c name block g (inl same) (is_old h) =
-          absurd (let clash : None ≡ Some (record { name = name; block = block }) = sym none ∙ ap (λ s. get_or fields s None) (sym same) ∙ (k.told j c name block g).1 h in cc)
-      lose j c name block g (inr ne) (is_old h) = other_field (Some held) j c ne ∙ (k.told j c name block g).1 h
+          absurd (true≢false (sym ((k.told j c name block g).1 h) ∙ ap (λ s. tells_block (get_or fields s None) name block) same ∙ ap (λ o. tells_block o name block) none))
+      lose j c name block g (inr ne) (is_old h) = other_says (Some run) j c name block ne ∙ (k.told j c name block g).1 h
 
       inside : (j c : ℕ) (name : FileName) (block : ℕ) → IsGrown j c name block → HasField fields j c
       inside j c name block (is_new is p q) = subst (λ x. HasField fields x c) p (subst (λ y. HasField fields job y) q f)
       inside j c name block (is_old h) = k.within j c name block h
 
-      pub take_up_kept : (after : ℕ) → room ≤ after → IsKept (set fields (slot job channel) (Some held)) grown after
+      pub take_up_kept : (after : ℕ) → room ≤ after → IsKept (set fields (slot job channel) (Some run)) grown after
       take_up_kept after wide = record {
         rises = a.rises;
-        told = λ j c name block g. (gain j c name block (wider (Some held) j c g) (cases_eq (slot j c) (slot job channel)), λ e. lose j c name block (wider (Some held) j c g) (cases_eq (slot j c) (slot job channel)) (grown_is j c name block e));
-        within = λ j c name block e. narrower (Some held) j c (inside j c name block (grown_is j c name block e));
-        all = omega (arith, k.all, a.more, count_more fields (slot job channel) held f.0 none);
-        fits = omega (arith, k.fits, wide, length-set fields (slot job channel) (Some held));
+        told = λ j c name block g. (gain j c name block (wider (Some run) j c g) (cases_eq (slot j c) (slot job channel)), λ e. lose j c name block (wider (Some run) j c g) (cases_eq (slot j c) (slot job channel)) (grown_is j c name block e));
+        within = λ j c name block e. narrower (Some run) j c (inside j c name block (grown_is j c name block e));
+        all = omega (arith, k.all, a.more, count_more fields (slot job channel) run f.0 none);
+        short = short_more fields (slot job channel) run short k.short;
+        fits = omega (arith, k.fits, wide, length-set fields (slot job channel) (Some run));
       }
 
 -- AS MAPS
 
-pub map_released : (job channel : ℕ) (fields : List (Option Held)) (index left : List Hold) → LetsGo job channel index fields left → map_of left ≡ release (map_of index) job channel
+pub map_released : (job channel : ℕ) (fields : List (Option Run)) (index left : List Hold) → LetsGo job channel index fields left → map_of left ≡ release (map_of index) job channel
 map_released job channel fields index left g =
     same_holds (map_of left) (release (map_of index) job channel) (λ name block.
     holder-map_of left name block ∙ g.looks name block
     ∙ sym (holder-release (map_of index) job channel name block ∙ ap (λ o. cond (is_channel job channel o) None o) (holder-map_of index name block)))
 
-pub map_held : (job channel : ℕ) (held : Held) (fields : List (Option Held)) (index left grown : List Hold) → LetsGo job channel index fields left → TakesUp (record { held = held; job = job; channel = channel }) left grown → map_of grown ≡ hold (map_of index) job channel held.name held.block
-map_held job channel held fields index left grown g looks =
-    same_holds (map_of grown) (hold (map_of index) job channel held.name held.block) (λ name block.
+pub map_held : (job channel : ℕ) (run : Run) (fields : List (Option Run)) (index left grown : List Hold) → LetsGo job channel index fields left → HeldByOne run job channel left grown → map_of grown ≡ hold (map_of index) job channel run.name run.block run.count
+map_held job channel run fields index left grown g looks =
+    let old = map_of index in
+    let freed = release old job channel in
+    same_holds (map_of grown) (add freed job channel run.name run.block run.count) (λ name block.
     holder-map_of grown name block ∙ looks name block
-    ∙ ap (λ o. cond (is_block name block held) (Some (job, channel)) o) (g.looks name block)
-    ∙ sym (holder-hold (map_of index) job channel held.name held.block name block ∙ ap (λ o. cond (is_block name block held) (Some (job, channel)) (cond (is_channel job channel o) None o)) (holder-map_of index name block)))
+    ∙ (elim (has_block run name block) as (λ v. has_block run name block ≡ v → cond v (Some (job, channel)) (look left name block) ≡ holder (add freed job channel run.name run.block run.count) name block) [
+      | true ↦ λ is.
+          let parts = block_parts run name block is in
+          sym (ap (λ n. holder (add freed job channel run.name run.block run.count) n block) parts.0 ∙ holder-add_in run.count freed job channel run.name run.block block parts.1.0 parts.1.1)
+      | false ↦ λ is.
+          sym (holder-add_out run.count freed job channel run.name run.block name block (λ same lo hi. true≢false (sym (block_from run name block same lo hi) ∙ is))
+          ∙ ap (λ h. holder h name block) (sym (map_released job channel fields index left g)) ∙ holder-map_of left name block)
+    ] refl))
 
 -- what no other channel holds is free once the channel has let go
-pub let_go_free : (job channel : ℕ) (fields : List (Option Held)) (index left : List Hold) (name : FileName) (block : ℕ) → LetsGo job channel index fields left → is_held (map_of index) job channel name block ≡ false → look left name block ≡ None
+pub let_go_free : (job channel : ℕ) (fields : List (Option Run)) (index left : List Hold) (name : FileName) (block : ℕ) → LetsGo job channel index fields left → is_held (map_of index) job channel name block ≡ false → look left name block ≡ None
 let_go_free job channel fields index left name block g free =
     g.looks name block ∙ freed (look index name block) (ap (λ o. is_some o && not (is_channel job channel o)) (sym (holder-map_of index name block)) ∙ free) where
       cleared : {X : Type 0} (v : Bool) (x : X) → (true && not v) ≡ false → cond v None (Some x) ≡ None
@@ -248,37 +298,37 @@ let_go_free job channel fields index left name block g free =
       freed None e = refl
       freed (Some p) e = cleared (is_channel job channel (Some p)) p e
 
+-- and so are all blocks of a run
+pub let_go_all_free : (job channel : ℕ) (fields : List (Option Run)) (index left : List Hold) (run : Run) → LetsGo job channel index fields left → any_held (map_of index) job channel run.name run.block run.count ≡ false → AreFree run left
+let_go_all_free job channel fields index left run g free name block is =
+    let parts = block_parts run name block is in
+    let_go_free job channel fields index left name block g
+    (ap (λ n. is_held (map_of index) job channel n block) parts.0 ∙ none_held (map_of index) job channel run.name run.count run.block block free parts.1.0 parts.1.1)
+
 -- WHOLE
 
-pub new_holds : (jobs room : ℕ) (fields : List (Option Held)) (index : List Hold) → jobs ≤ 63 → jobs * 13 ≤ room → fields ≡ replicate {A = Option Held} (jobs * 13) None → index ≡ [] → AreHolds jobs fields index room
+pub new_holds : (jobs room : ℕ) (fields : List (Option Run)) (index : List Hold) → jobs ≤ 63 → jobs * 13 * 3 ≤ room → fields ≡ replicate {A = Option Run} (jobs * 13) None → index ≡ [] → AreHolds jobs fields index room
 new_holds jobs room fields index few fits is none =
-    subst (λ fs. AreHolds jobs fs index room) (sym is) (subst (λ hs. AreHolds jobs (replicate {A = Option Held} (jobs * 13) None) hs room) (sym none) (record {
+    subst (λ fs. AreHolds jobs fs index room) (sym is) (subst (λ hs. AreHolds jobs (replicate {A = Option Run} (jobs * 13) None) hs room) (sym none) (record {
       kept = record {
         rises = tt;
-        told = λ j c name block g. (λ e. absurd (let clash : None ≡ Some (record { name = name; block = block }) = sym (none_at (jobs * 13) (slot j c)) ∙ e in cc), λ e. absurd (cc));
+        told = λ j c name block g. (λ e. absurd (true≢false (sym e ∙ ap (λ o. tells_block o name block) (none_at (jobs * 13) (slot j c)))), λ e. absurd (cc));
         within = λ j c name block e. absurd (cc);
         all = sym (count_none (jobs * 13));
-        fits = omega (arith, fits, length-replicate {A = Option Held} (jobs * 13) None);
+        short = none_short (jobs * 13);
+        fits = omega (arith, fits, length-replicate {A = Option Run} (jobs * 13) None);
       };
-      width = length-replicate {A = Option Held} (jobs * 13) None;
+      width = length-replicate {A = Option Run} (jobs * 13) None;
       few = few;
     }))
 
-pub has_field : (jobs : ℕ) (fields : List (Option Held)) (index : List Hold) (room : ℕ) → AreHolds jobs fields index room → (job channel : ℕ) → job < jobs → channel < 13 → HasField fields job channel
+pub has_field : (jobs : ℕ) (fields : List (Option Run)) (index : List Hold) (room : ℕ) → AreHolds jobs fields index room → (job channel : ℕ) → job < jobs → channel < 13 → HasField fields job channel
 has_field jobs fields index room h job channel lt small = (omega (arith, lt, small, h.width), small)
-
--- what a field says, it holds
-pub said_is : (o : Option Held) (name : FileName) (block : ℕ) → (said o ≡ Some (name, block)) ↔ (o ≡ Some (record { name = name; block = block }))
-said_is None name block = (λ e. absurd (cc), λ e. absurd (cc))
-said_is (Some held) name block =
-    let name_in : Option (FileName × ℕ) → FileName = λ o. elim o [ Some p ↦ p.0 | None ↦ name ] in
-    let block_in : Option (FileName × ℕ) → ℕ = λ o. elim o [ Some p ↦ p.1 | None ↦ block ] in
-    (λ e. (λ i. Some (record { name = ap name_in e i; block = ap block_in e i })), λ e. let one : held ≡ record { name = name; block = block } = cc in λ i. Some ((one i).name, (one i).block))
 
 -- ALL CHANNELS OF A JOB
 
 -- a job's channels are those below 13
-pub all_released : (job : ℕ) (fields : List (Option Held)) (index left : List Hold) (room : ℕ) → IsKept fields index room → LetGoBelow job 13 index left → map_of left ≡ release_job (map_of index) job
+pub all_released : (job : ℕ) (fields : List (Option Run)) (index left : List Hold) (room : ℕ) → IsKept fields index room → LetGoBelow job 13 index left → map_of left ≡ release_job (map_of index) job
 all_released job fields index left room k gone =
     same_holds (map_of left) (release_job (map_of index) job) (λ name block.
     holder-map_of left name block ∙ gone name block ∙ by name block (look index name block) refl
@@ -289,3 +339,25 @@ all_released job fields index left room k gone =
       by : (name : FileName) (block : ℕ) (o : Option (ℕ × ℕ)) → look index name block ≡ o → cond (is_below job 13 o) None o ≡ cond (is_job job o) None o
       by name block None is = refl
       by name block (Some p) is = ap (λ b. cond b None (Some p)) (small p (k.within p.0 p.1 name block is).1)
+
+-- WHAT A CHANNEL HOLDS
+
+module _ (fields : List (Option Run)) (index : List Hold) (room : ℕ) (k : IsKept fields index room) (job channel : ℕ) where
+  -- what its field says
+  pub held_by_field : HasField fields job channel → IsHeldBy (map_of index) job channel (field_at fields job channel)
+  held_by_field f = record {
+    short = few (field_at fields job channel) refl;
+    blocks = λ name block.
+        let told = k.told job channel name block f in
+        (λ e. holder-map_of index name block ∙ told.0 e, λ e. told.1 (sym (holder-map_of index name block) ∙ e));
+  } where
+    few : (o : Option Run) → field_at fields job channel ≡ o → IfSome o (λ run. IsShort run.block run.count)
+    few None e = tt
+    few (Some run) e = short_at fields (slot job channel) run k.short e
+
+  -- and nothing, where it has none
+  pub held_by_nobody : (HasField fields job channel → ⊥) → IsHeldBy (map_of index) job channel None
+  held_by_nobody none = record {
+    short = tt;
+    blocks = λ name block. (λ e. absurd (cc), λ e. absurd (none (k.within job channel name block (sym (holder-map_of index name block) ∙ e))));
+  }

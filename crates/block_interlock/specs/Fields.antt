@@ -1,48 +1,57 @@
--- A field for each channel of each job, with the block that it holds, and an index by blocks.
-use Rattle.std.specs.Prelude.{◌≡◌, ◌↔◌, ℕ, ◌+◌, ◌*◌, ◌<◌, ◌≤◌, Bool, false, ◌&&◌, ◌==◌, nat_lt, if◌then◌else◌, List, [], ◌∷◌, length, Option, Some, None}
+-- A field for each channel of each job, with the blocks that it holds, and an index by blocks.
+use Rattle.std.specs.Prelude.{◌≡◌, ◌↔◌, ℕ, ◌+◌, ◌*◌, ◌<◌, ◌≤◌, Bool, true, false, ◌&&◌, ◌==◌, nat_lt, if◌then◌else◌, List, [], ◌∷◌, length, Option, Some, None}
 use Rattle.std.proofs.Common.{get_or}
+use Rattle.basic_values.specs.declared.limits.TheConstants.{JOB_CHANNELS, MOST_JOBS, MOST_RECORD_BLOCKS}
 use Rattle.monitor_calls.specs.declared.files.FileName.{FileName}
 use Rattle.monitor_model.specs.Holds.{is_channel}
-use Rattle.block_interlock.specs.declared.index.Held.{Held}
 use Rattle.block_interlock.specs.declared.index.Hold.{Hold}
-use Rattle.block_interlock.specs.Index.{look, Rises}
+use Rattle.block_interlock.specs.declared.runs.Run.{Run}
+use Rattle.block_interlock.specs.Index.{look, Rises, HeldByOne}
+use Rattle.block_interlock.specs.Runs.{IsShort, tells_block}
 
 -- the place of a channel's field
 abbrev pub slot : ℕ → ℕ → ℕ
-slot job channel = job * 13 + channel
+slot job channel = job * JOB_CHANNELS + channel
 
-abbrev pub field_at : List (Option Held) → ℕ → ℕ → Option Held
+abbrev pub field_at : List (Option Run) → ℕ → ℕ → Option Run
 field_at fields job channel = get_or fields (slot job channel) None
 
--- how many fields hold a block
-abbrev pub held_count : List (Option Held) → ℕ
+-- what each field says is short
+abbrev pub AreShort : List (Option Run) → Type 0
+AreShort [] = Unit {0}
+AreShort (None ∷ fields) = AreShort fields
+AreShort (Some run ∷ fields) = IsShort run.block run.count × AreShort fields
+
+-- how many blocks the fields say
+abbrev pub held_count : List (Option Run) → ℕ
 held_count [] = 0
 held_count (None ∷ fields) = held_count fields
-held_count (Some held ∷ fields) = held_count fields + 1
+held_count (Some run ∷ fields) = held_count fields + run.count
 
 -- there is a field for the channel
-abbrev pub HasField : List (Option Held) → ℕ → ℕ → Type 0
-HasField fields job channel = (slot job channel < length fields) × (channel < 13)
+abbrev pub HasField : List (Option Run) → ℕ → ℕ → Type 0
+HasField fields job channel = (slot job channel < length fields) × (channel < JOB_CHANNELS)
 
 -- there is a field for each channel of the job
-abbrev pub HasFields : List (Option Held) → ℕ → Type 0
-HasFields fields job = slot job 13 ≤ length fields
+abbrev pub HasFields : List (Option Run) → ℕ → Type 0
+HasFields fields job = slot job JOB_CHANNELS ≤ length fields
 
--- the index tells of each block what the fields tell, and has room for all of them
-pub record IsKept (fields : List (Option Held)) (index : List Hold) (room : ℕ) : Type 0 where
+-- the index tells of each block what the fields tell, and has room for all that they may say
+pub record IsKept (fields : List (Option Run)) (index : List Hold) (room : ℕ) : Type 0 where
   pub rises : Rises index
   pub told :
       (job channel : ℕ) (name : FileName) (block : ℕ) → HasField fields job channel →
-      (field_at fields job channel ≡ Some (record { name = name; block = block }))
+      (tells_block (field_at fields job channel) name block ≡ true)
       ↔ (look index name block ≡ Some (job, channel))
   pub within :
       (job channel : ℕ) (name : FileName) (block : ℕ) →
       look index name block ≡ Some (job, channel) → HasField fields job channel
   pub all : length index ≡ held_count fields
-  pub fits : length fields ≤ room
+  pub short : AreShort fields
+  pub fits : length fields * MOST_RECORD_BLOCKS ≤ room
 
 -- the channel holds nothing any more, and the others hold what they held
-pub record LetsGo (job channel : ℕ) (old : List Hold) (fields : List (Option Held)) (new : List Hold)
+pub record LetsGo (job channel : ℕ) (old : List Hold) (fields : List (Option Run)) (new : List Hold)
     : Type 0 where
   pub empty : field_at fields job channel ≡ None
   pub looks :
@@ -62,19 +71,9 @@ LetGoBelow job channel old new =
     look new name block
     ≡ (if is_below job channel (look old name block) then None else look old name block)
 
--- the block is held, and the others are as they were
-abbrev pub TakesUp : Hold → List Hold → List Hold → Type 0
-TakesUp hold old new =
-    (name : FileName) (block : ℕ) → look new name block ≡ look (hold ∷ old) name block
-
 -- as many fields as the jobs have channels
-pub record AreHolds (jobs : ℕ) (fields : List (Option Held)) (index : List Hold) (room : ℕ)
+pub record AreHolds (jobs : ℕ) (fields : List (Option Run)) (index : List Hold) (room : ℕ)
     : Type 0 where
   pub kept : IsKept fields index room
-  pub width : length fields ≡ jobs * 13
-  pub few : jobs ≤ 63
-
--- what a field says
-abbrev pub said : Option Held → Option (FileName × ℕ)
-said None = None
-said (Some held) = Some (held.name, held.block)
+  pub width : length fields ≡ jobs * JOB_CHANNELS
+  pub few : jobs ≤ MOST_JOBS

@@ -1,12 +1,14 @@
 -- The holds in the order of their blocks.
-use Rattle.std.specs.Prelude.{◌≡◌, ℕ, ◌+◌, zero, suc, Bool, ◌&&◌, ◌==◌, if◌then◌else◌, List, [], ◌∷◌, length, Option, Some, None, Result, Ok, Err}
+use Rattle.std.specs.Prelude.{◌≡◌, ◌≢◌, ℕ, ◌+◌, zero, suc, Bool, true, ◌&&◌, ◌==◌, if◌then◌else◌, List, [], ◌∷◌, length, Option, Some, None, Result, Ok, Err}
 use Rattle.std.specs.FinMap.{empty, insert}
 use Rattle.std.specs.declared.cmp.Ordering.TheVariants.{Less}
 use Rattle.monitor_calls.specs.declared.files.FileName.{FileName}
 use Rattle.monitor_calls.specs.FileNames.{same_name}
 use Rattle.monitor_model.specs.Holds.{Block, HoldMap, block_order}
-use Rattle.block_interlock.specs.declared.index.Held.{Held}
 use Rattle.block_interlock.specs.declared.index.Hold.{Hold}
+use Rattle.block_interlock.specs.declared.runs.Held.{Held}
+use Rattle.block_interlock.specs.declared.runs.Run.{Run}
+use Rattle.block_interlock.specs.Runs.{has_block}
 
 abbrev pub block_of : Hold → Block
 block_of hold = (hold.held.name, hold.held.block)
@@ -67,3 +69,40 @@ pub record Adds (hold : Hold) (old new : List Hold) : Type 0 where
   pub rises : Rises new
   pub looks : (name : FileName) (block : ℕ) → look new name block ≡ look (hold ∷ old) name block
   pub more : length new ≡ length old + 1
+
+-- THE BLOCKS OF A RUN
+
+-- the block at a place, counted from 0
+abbrev pub nth_block : Run → ℕ → Held
+nth_block run place = record { name = run.name; block = run.block + place }
+
+-- nobody holds one of them
+abbrev pub AreFree : Run → List Hold → Type 0
+AreFree run holds =
+    (name : FileName) (block : ℕ) → has_block run name block ≡ true → look holds name block ≡ None
+
+-- somebody holds each of them
+abbrev pub AreHeld : Run → List Hold → Type 0
+AreHeld run holds =
+    (name : FileName) (block : ℕ) → has_block run name block ≡ true → look holds name block ≢ None
+
+-- the holds of all of them are taken out
+pub record DropsAll (run : Run) (old new : List Hold) : Type 0 where
+  pub rises : Rises new
+  pub looks :
+      (name : FileName) (block : ℕ) →
+      look new name block ≡ (if has_block run name block then None else look old name block)
+  pub less : AreHeld run old → length old ≡ length new + run.count
+
+-- the channel holds each of them, and the others are as they were
+abbrev pub HeldByOne : Run → ℕ → ℕ → List Hold → List Hold → Type 0
+HeldByOne run job channel old new =
+    (name : FileName) (block : ℕ) →
+    look new name block
+    ≡ (if has_block run name block then Some (job, channel) else look old name block)
+
+-- a hold of each of them is put in
+pub record AddsAll (run : Run) (job channel : ℕ) (old new : List Hold) : Type 0 where
+  pub rises : Rises new
+  pub looks : HeldByOne run job channel old new
+  pub more : length new ≡ length old + run.count

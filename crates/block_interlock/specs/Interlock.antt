@@ -1,10 +1,12 @@
 -- The interlock: how many jobs there are, and what their channels hold.
-use Rattle.std.specs.Prelude.{◌≡◌, ◌↔◌, ℕ, List, Option, Some, refl}
+use Rattle.std.specs.Prelude.{◌≡◌, ◌↔◌, ℕ, true, List, Option, Some, IfSome, refl}
 use Rattle.std.specs.FinMap.{code}
 use Rattle.std.specs.Coded.{Coded, code_by, coded×, coded_ℕ, coded_list}
 use Rattle.monitor_calls.specs.declared.names.Account.{Account}
 use Rattle.monitor_calls.specs.declared.files.FileName.{FileName}
 use Rattle.monitor_model.specs.Holds.{HoldMap, holder}
+use Rattle.block_interlock.specs.declared.runs.Run.{Run}
+use Rattle.block_interlock.specs.Runs.{IsShort, tells_block}
 
 pub record Interlock : Type 0 where
   pub jobs : ℕ
@@ -28,8 +30,9 @@ coded_interlock =
     (coded× coded_ℕ (code (coded× coded_name coded_ℕ) (coded× coded_ℕ coded_ℕ)))
     (λ i. (i.jobs, i.held)) (λ p. record { jobs = p.0; held = p.1 }) (λ _. refl)
 
--- the block that a channel holds, or none
-abbrev pub IsHeldBy : HoldMap → ℕ → ℕ → Option (FileName × ℕ) → Type 0
-IsHeldBy held job channel told =
-    (name : FileName) (block : ℕ) →
-    (told ≡ Some (name, block)) ↔ (holder held name block ≡ Some (job, channel))
+-- the blocks that a channel holds, and no other: one to three of one file, or none
+pub record IsHeldBy (held : HoldMap) (job channel : ℕ) (told : Option Run) : Type 0 where
+  pub short : IfSome told (λ run. IsShort run.block run.count)
+  pub blocks :
+      (name : FileName) (block : ℕ) →
+      (tells_block told name block ≡ true) ↔ (holder held name block ≡ Some (job, channel))

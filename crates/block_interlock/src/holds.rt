@@ -2,25 +2,26 @@
 
 ghost use Rattle.std.specs.Prelude.{◌≡◌, ◌<◌, ◌≤◌, false, None, length, vec_capacity, IfOk};
 ghost use Rattle.std.specs.FinMap.{empty};
-ghost use Rattle.monitor_model.specs.Holds.{holder, hold, release, release_job, is_held};
-ghost use Rattle.block_interlock.specs.Index.{look};
-ghost use Rattle.block_interlock.specs.Fields.{field_at, said, HasField, HasFields, IsKept, LetsGo, LetGoBelow, TakesUp};
+ghost use Rattle.basic_values.specs.declared.limits.TheConstants.{JOB_CHANNELS, MOST_JOBS};
+ghost use Rattle.monitor_model.specs.Holds.{holder, hold, release, release_job, any_held};
+ghost use Rattle.block_interlock.specs.Fields.{field_at, HasField, HasFields, IsKept, LetsGo, LetGoBelow};
+ghost use Rattle.block_interlock.specs.Index.{AreFree, HeldByOne};
 ghost use Rattle.block_interlock.specs.Interlock.{IsHeldBy};
+ghost use Rattle.block_interlock.specs.Runs.{IsShort};
 
-use crate::index::{Held, Hold, add_hold, drop_hold, seek};
+use crate::index::{Hold, add_all, drop_all, seek};
+use crate::runs::Run;
 use basic_values::NoMemory;
+use basic_values::limits::{JOB_CHANNELS, MOST_RECORD_BLOCKS};
 use monitor_calls::FileName;
 use std::alloc::Global;
 use std::marker::Model;
-
-/// How many channels a job has.
-const CHANNELS: usize = 13;
 
 /// What the channels of so many jobs hold: a field for each, and an index by name and block.
 #[derive(Drop)]
 pub struct Holds {
     jobs: u32,
-    fields: Vec<Option<Held>>,
+    fields: Vec<Option<Run>>,
     index: Vec<Hold>,
 }
 
@@ -43,14 +44,14 @@ impl Model for Holds {
 impl Holds {
     /// No block is held. It takes all room for the channels of so many jobs.
     pub fn new(alloc: Global, jobs: u32) -> Result<Holds, NoMemory>
-        requires { jobs ≤ 63 }
+        requires { jobs ≤ MOST_JOBS }
         ensures jobs { IfOk result (λ h. h.jobs ≡ jobs) }
         ensures held { IfOk result (λ h. h.held ≡ empty) }
     {
-        let channels = jobs as usize * CHANNELS;
+        let channels = jobs as usize * JOB_CHANNELS;
         let mut fields = Vec::new(alloc);
         fields.resize(channels, None)?;
-        let index = Vec::with_capacity(alloc, channels)?;
+        let index = Vec::with_capacity(alloc, channels * MOST_RECORD_BLOCKS as usize)?;
         Ok(Holds {
             jobs,
             fields,
@@ -78,19 +79,20 @@ impl Holds {
         }
     }
 
-    /// The file and the block that a channel holds.
-    pub fn held_by(&self, job: u32, channel: u8) -> Option<(FileName, u16)>
-        requires job { job < self.now.jobs }
-        requires channel { channel < 13 }
+    /// The blocks that a channel holds. None where it holds none, or is not there.
+    pub fn held_by(&self, job: u32, channel: u8) -> Option<Run>
         ensures { IsHeldBy self.now.held job channel result }
     {
-        said(&self.fields[job as usize * CHANNELS + channel as usize])
+        if job >= self.jobs || channel as usize >= JOB_CHANNELS {
+            return None;
+        }
+        self.fields[job as usize * JOB_CHANNELS + channel as usize]
     }
 
     /// What a channel holds is free. It takes no memory.
     pub fn release(&mut self, job: u32, channel: u8)
         requires job { job < self.old.jobs }
-        requires channel { channel < 13 }
+        requires channel { channel < JOB_CHANNELS }
         ensures jobs { self.new.jobs ≡ self.old.jobs }
         ensures held { self.new.held ≡ release self.old.held job channel }
     {
@@ -106,72 +108,61 @@ impl Holds {
         let_all_go(&mut self.fields, &mut self.index, job);
     }
 
-    /// A channel holds this block alone. No other may hold it. It takes no memory.
-    pub fn hold(&mut self, job: u32, channel: u8, name: FileName, block: u16)
+    /// A channel holds so many blocks of a file from this one on, and no other. None of them may be
+    /// another channel's. It takes no memory.
+    pub fn hold(&mut self, job: u32, channel: u8, name: FileName, block: u16, count: u8)
         requires job { job < self.old.jobs }
-        requires channel { channel < 13 }
-        requires free { is_held self.old.held job channel name block ≡ false }
+        requires channel { channel < JOB_CHANNELS }
+        requires short { IsShort block count }
+        requires free { any_held self.old.held job channel name block count ≡ false }
         ensures jobs { self.new.jobs ≡ self.old.jobs }
-        ensures held { self.new.held ≡ hold self.old.held job channel name block }
+        ensures held { self.new.held ≡ hold self.old.held job channel name block count }
     {
         let_go(&mut self.fields, &mut self.index, job, channel);
-        let held = Held { name, block };
-        take_up(
-            &mut self.fields,
-            &mut self.index,
-            Hold { held, job, channel },
-        );
-    }
-}
-
-/// The file and the block that a field says.
-fn said(field: &Option<Held>) -> Option<(FileName, u16)>
-    ensures { result ≡ said field.now }
-{
-    match field {
-        Some(held) => Some((held.name, held.block)),
-        None => None,
+        let run = Run { name, block, count };
+        take_up(&mut self.fields, &mut self.index, job, channel, &run);
     }
 }
 
 /// A channel lets go of what it holds.
-fn let_go(fields: &mut Vec<Option<Held>>, index: &mut Vec<Hold>, job: u32, channel: u8)
+fn let_go(fields: &mut Vec<Option<Run>>, index: &mut Vec<Hold>, job: u32, channel: u8)
     requires kept { IsKept fields.old.items index.old.items (vec_capacity index.old) }
     requires field { HasField fields.old.items job channel }
     ensures kept { IsKept fields.new.items index.new.items (vec_capacity index.new) }
     ensures width { length fields.new.items ≡ length fields.old.items }
     ensures gone { LetsGo job channel index.old.items fields.new.items index.new.items }
 {
-    let slot = job as usize * CHANNELS + channel as usize;
+    let slot = job as usize * JOB_CHANNELS + channel as usize;
     if let Some(held) = fields[slot] {
         fields[slot] = None;
-        drop_hold(index, &held);
+        drop_all(index, &held);
     }
 }
 
 /// All channels of a job let go of what they hold.
-fn let_all_go(fields: &mut Vec<Option<Held>>, index: &mut Vec<Hold>, job: u32)
+fn let_all_go(fields: &mut Vec<Option<Run>>, index: &mut Vec<Hold>, job: u32)
     requires kept { IsKept fields.old.items index.old.items (vec_capacity index.old) }
     requires fields { HasFields fields.old.items job }
     ensures kept { IsKept fields.new.items index.new.items (vec_capacity index.new) }
     ensures width { length fields.new.items ≡ length fields.old.items }
-    ensures gone { LetGoBelow job 13 index.old.items index.new.items }
+    ensures gone { LetGoBelow job JOB_CHANNELS index.old.items index.new.items }
 {
-    for channel in 0..CHANNELS as u8 {
+    for channel in 0..JOB_CHANNELS as u8 {
         let_go(fields, index, job, channel);
     }
 }
 
-/// A channel that holds nothing takes a block up that nobody holds.
-fn take_up(fields: &mut Vec<Option<Held>>, index: &mut Vec<Hold>, hold: Hold)
+/// A channel that holds nothing takes blocks up that nobody holds.
+fn take_up(fields: &mut Vec<Option<Run>>, index: &mut Vec<Hold>, job: u32, channel: u8, run: &Run)
     requires kept { IsKept fields.old.items index.old.items (vec_capacity index.old) }
-    requires field { HasField fields.old.items hold.job hold.channel }
-    requires empty { field_at fields.old.items hold.job hold.channel ≡ None }
-    requires free { look index.old.items hold.held.name hold.held.block ≡ None }
+    requires field { HasField fields.old.items job channel }
+    requires empty { field_at fields.old.items job channel ≡ None }
+    requires short { IsShort run.now.block run.now.count }
+    requires free { AreFree run.now index.old.items }
     ensures kept { IsKept fields.new.items index.new.items (vec_capacity index.new) }
     ensures width { length fields.new.items ≡ length fields.old.items }
-    ensures taken { TakesUp hold index.old.items index.new.items }
+    ensures taken { HeldByOne run.now job channel index.old.items index.new.items }
 {
-    fields[hold.job as usize * CHANNELS + hold.channel as usize] = Some(hold.held);
-    add_hold(index, hold);
+    fields[job as usize * JOB_CHANNELS + channel as usize] = Some(*run);
+    add_all(index, run, job, channel);
 }

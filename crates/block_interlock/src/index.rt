@@ -1,18 +1,12 @@
 //! The holds in the order of their blocks.
 
-ghost use Rattle.std.specs.Prelude.{◌≡◌, ◌<◌, ◌≤◌, None, vec_len, vec_capacity};
+ghost use Rattle.std.specs.Prelude.{◌≡◌, ◌+◌, ◌<◌, ◌≤◌, ◌^◌, None, vec_len, vec_capacity};
 ghost use Rattle.monitor_model.specs.Holds.{account_order, name_order, block_order};
-ghost use Rattle.block_interlock.specs.Index.{Rises, IsSought, look, Drops, Adds};
+ghost use Rattle.block_interlock.specs.Index.{Rises, IsSought, look, Drops, Adds, AreFree, DropsAll, AddsAll};
 
+use crate::runs::{Held, Run};
 use monitor_calls::{Account, FileName};
 use std::cmp::Ordering;
-
-/// A block of a file.
-#[derive(Clone, Copy)]
-pub(crate) struct Held {
-    pub(crate) name: FileName,
-    pub(crate) block: u16,
-}
 
 /// A block, and the job and the channel that hold it.
 #[derive(Clone, Copy)]
@@ -43,6 +37,33 @@ pub(crate) fn add_hold(index: &mut Vec<Hold>, hold: Hold)
 {
     if let Err(place) = seek(index.as_slice(), &hold.held.name, hold.held.block) {
         let _ = index.insert(place, hold);
+    }
+}
+
+/// Takes the holds of all blocks of a run out, which are there.
+pub(crate) fn drop_all(index: &mut Vec<Hold>, run: &Run)
+    requires rises { Rises index.old.items }
+    requires numbered { run.now.block + run.now.count ≤ 2 ^ 16 }
+    ensures drops { DropsAll run.now index.old.items index.new.items }
+    ensures room { vec_capacity index.old ≤ vec_capacity index.new }
+{
+    for place in 0..run.count {
+        drop_hold(index, &run.nth(place));
+    }
+}
+
+/// Puts a hold of each block of a run at its place, in room that is there.
+pub(crate) fn add_all(index: &mut Vec<Hold>, run: &Run, job: u32, channel: u8)
+    requires rises { Rises index.old.items }
+    requires numbered { run.now.block + run.now.count ≤ 2 ^ 16 }
+    requires free { AreFree run.now index.old.items }
+    requires room { vec_len index.old + run.now.count ≤ vec_capacity index.old }
+    ensures adds { AddsAll run.now job channel index.old.items index.new.items }
+    ensures room { vec_capacity index.old ≤ vec_capacity index.new }
+{
+    for place in 0..run.count {
+        let held = run.nth(place);
+        add_hold(index, Hold { held, job, channel });
     }
 }
 

@@ -6,5 +6,7 @@
 
 mod holds;
 mod index;
+mod runs;
 
 pub use holds::Holds;
+pub use runs::Run;

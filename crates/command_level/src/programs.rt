@@ -21,12 +21,12 @@ ghost use Rattle.command_level.specs.Standing.{run_ends};
 use crate::filing::{is_blank_text, program_on, spec_read};
 use crate::judging::{cause_text, refusal_text, tree_of};
 use crate::session::{ILLEGAL_COMMAND, NOT_IN_STAGE, Onward, Session};
+use basic_values::errors::DATA_FORMAT_ERROR;
 use basic_tree::Line;
 use basic_values::{Fault, LINE_LENGTH, NoMemory, Trouble};
 use entrances::{Clock, Exit, Stop, clear, continue_program, run_line, run_program, write_ending};
 use file_names::Spec;
 use itoa::Buffer;
-use line_editor::DATA_FORMAT;
 use lowering::{loops_in_line, loops_in_program, lower, lower_now};
 use monitor_calls::{Account, Page, Port, Short};
 use program_code::Code;
@@ -134,7 +134,7 @@ impl Session {
                 self.load(alloc, name, text)?;
                 self.run_program(alloc, false, clock, port)
             }
-            None => self.refuse_by(Fault::new(DATA_FORMAT)),
+            None => self.refuse_by(Fault::new(DATA_FORMAT_ERROR)),
         }
     }
 

@@ -22,13 +22,13 @@ ghost use Rattle.command_level.specs.Seen.{seen, login_seen, command_seen, IsSho
 ghost use Rattle.command_level.specs.Standing.{Serves, Stands};
 ghost use Rattle.command_level.specs.Onwards.{goes};
 ghost use Rattle.std.specs.Option.{option_map};
-ghost use Rattle.monitor_calls.specs.Volumes.{is_between};
 
 use crate::commands::{Command, command_of};
 use crate::logins::LoginForm;
-use basic_values::{Fault, KeyLine, LINE_LENGTH, NoMemory, Trouble};
+use basic_values::{KeyLine, LINE_LENGTH, NoMemory, Trouble};
 use entrances::{Clock, Exit, Running, Stack, Stop, Storage};
 use error_trap::Trap;
+use job_model::is_error;
 use line_editor::ProgramText;
 use monitor_calls::{Account, Port, Reply, Request, Short};
 use program_model::Home;
@@ -352,11 +352,4 @@ impl Session {
             Some(_) => self.log_out(alloc, port),
         }
     }
-}
-
-/// Errors are numbered from 1 to 70.
-fn is_error(fault: Fault) -> bool
-    ensures { result ≡ is_between 1 70 fault }
-{
-    (1..=70).contains(&fault.number())
 }

@@ -12,12 +12,14 @@ use Rattle.std.proofs.lemmas.Fmt.{decimal_is_IsNumeral, first_decimal, decimal_d
 use Rattle.std.proofs.lemmas.List.{append-nil}
 use Rattle.std.proofs.lemmas.Str.Parse.{digit_from_value}
 use Rattle.monitor_calls.specs.Names.{is_capital_or_digit}
-use Rattle.deck_model.specs.Forms.{Form, Version, Disk, Account, File, Terminal, Keys, End, AccountTexts, FileTexts, account_text, extension_text, file_text, line_of, is_numeral, is_name, is_formed}
-use Rattle.deck_model.specs.Fronts.{Front, Nothing, Versioned, InAccounts, InFile, InTerminal, Whole, May}
+use Rattle.deck_model.specs.declared.versions.Version.{Version}
+use Rattle.deck_model.specs.declared.versions.Version.TheVariants.{One, Two}
+use Rattle.deck_model.specs.Forms.{Form, Heading, Disk, Account, File, Terminal, Keys, End, AccountTexts, FileTexts, heading, quota_text, account_text, extension_text, file_text, line_of, is_numeral, is_numeral_or_none, is_name, is_formed}
+use Rattle.deck_model.specs.Fronts.{Front, Nothing, Versioned, InAccounts, InFile, InTerminal, Whole, MayTell, May}
 use Rattle.deck_model.specs.Refusals.{HasForm}
-use Rattle.text_cuts.specs.Cuts.{◌>>=◌, behind, cut}
-use Rattle.deck_model.specs.Reading.{or_else, version_in, disk_in, texts_in, account_in, stem_before, extension_behind, file_texts_in, are_file_texts, file_in, terminal_in, keys_in, end_in, groups_in, contents_in, session_in, form_at}
-use Rattle.text_cuts.proofs.CutLaws.{bind_some, guard_some, and_left, and_right, and_both, behind_takes, Lacks, lacks_both, cut_takes, cut_again, cut_nowhere}
+use Rattle.basic_values.specs.Cuts.{◌>>=◌, behind, cut}
+use Rattle.deck_model.specs.Reading.{or_else, version_in, disk_in, limits_in, texts_in, account_in, stem_before, extension_behind, file_texts_in, are_file_texts, file_in, terminal_in, keys_in, end_in, groups_in, contents_in, session_in, form_at}
+use Rattle.basic_values.proofs.CutLaws.{bind_some, guard_some, and_left, and_right, and_both, behind_takes, Lacks, lacks_both, cut_takes, cut_again, cut_nowhere}
 
 -- ---- numerals and names
 
@@ -75,8 +77,12 @@ numeral_lacks byte fails text e = lacks_unlike is_ascii_digit byte fails text (n
 
 -- ---- the fields of an account
 
+-- the limit, and a quota behind it
+abbrev limits_text : AccountTexts → List ℕ
+limits_text t = t.limit ++ quota_text t.quota
+
 abbrev plain_text : AccountTexts → List ℕ
-plain_text t = codes "ACCOUNT " ++ (t.project ++ 44 ∷ (t.programmer ++ 32 ∷ (t.password ++ 32 ∷ t.limit)))
+plain_text t = codes "ACCOUNT " ++ (t.project ++ 44 ∷ (t.programmer ++ 32 ∷ (t.password ++ 32 ∷ limits_text t)))
 
 text_is : (t : AccountTexts) → account_text t ≡ plain_text t
 text_is t = simp append_assoc
@@ -84,24 +90,51 @@ text_is t = simp append_assoc
 some_is : {A : Type 0} (x y : A) → Some x ≡ Some y → x ≡ y
 some_is x y e = cc
 
-texts_take : (line : List ℕ) (t : AccountTexts) → texts_in line ≡ Some t → line ≡ account_text t
-unfolding texts_in
-texts_take line t e =
-    let a = bind_some (behind (codes "ACCOUNT ") line) (λ fields. cut 44 fields >>= λ project. cut 32 project.1 >>= λ programmer. cut 32 programmer.1 >>= λ password. Some (record { project = project.0; programmer = programmer.0; password = password.0; limit = password.1 })) t e in
-    let b = bind_some (cut 44 a.0) (λ project. cut 32 project.1 >>= λ programmer. cut 32 programmer.1 >>= λ password. Some (record { project = project.0; programmer = programmer.0; password = password.0; limit = password.1 })) t a.2 in
-    let c = bind_some (cut 32 b.0.1) (λ programmer. cut 32 programmer.1 >>= λ password. Some (record { project = b.0.0; programmer = programmer.0; password = password.0; limit = password.1 })) t b.2 in
-    let d = bind_some (cut 32 c.0.1) (λ password. Some (record { project = b.0.0; programmer = c.0.0; password = password.0; limit = password.1 })) t c.2 in
-    let made : AccountTexts = record { project = b.0.0; programmer = c.0.0; password = d.0.0; limit = d.0.1 } in
-    let rest : c.0.1 ≡ d.0.0 ++ 32 ∷ d.0.1 = cut_takes 32 c.0.1 d.0 d.1 in
-    let second : b.0.1 ≡ c.0.0 ++ 32 ∷ (d.0.0 ++ 32 ∷ d.0.1) = cut_takes 32 b.0.1 c.0 c.1 ∙ ap (λ t. c.0.0 ++ 32 ∷ t) rest in
-    let first : a.0 ≡ b.0.0 ++ 44 ∷ (c.0.0 ++ 32 ∷ (d.0.0 ++ 32 ∷ d.0.1)) = cut_takes 44 a.0 b.0 b.1 ∙ ap (λ t. b.0.0 ++ 44 ∷ t) second in
-    subst (λ (x : AccountTexts). line ≡ plain_text x) (some_is made t d.2) (behind_takes (codes "ACCOUNT ") line a.0 a.1 ∙ ap (λ t. codes "ACCOUNT " ++ t) first)
-    ∙ sym (text_is t)
+-- what stands behind the password is a limit, and a quota where the version tells one
+limits_take : (version : Version) (text : List ℕ) (parts : List ℕ × Option (List ℕ)) → limits_in version text ≡ Some parts → MayTell version parts.1 × (text ≡ parts.0 ++ quota_text parts.1)
+limits_take One text parts e = subst (λ (p : List ℕ × Option (List ℕ)). MayTell One p.1 × (text ≡ p.0 ++ quota_text p.1)) (some_is (text, None) parts e) (tt, sym (append-nil text))
+limits_take Two text parts e =
+    let a = bind_some (cut 32 text) (λ p. Some (p.0, Some p.1)) parts e in
+    subst (λ (p : List ℕ × Option (List ℕ)). MayTell Two p.1 × (text ≡ p.0 ++ quota_text p.1)) (some_is (a.0.0, Some a.0.1) parts a.2) (tt, cut_takes 32 text a.0 a.1)
 
-texts_again : (t : AccountTexts) → Lacks 44 t.project → Lacks 32 t.programmer → Lacks 32 t.password → texts_in (account_text t) ≡ Some t
+limits_again : (version : Version) (limit : List ℕ) (quota : Option (List ℕ)) → MayTell version quota → Lacks 32 limit → limits_in version (limit ++ quota_text quota) ≡ Some (limit, quota)
+limits_again One limit None may lacks = ap (limits_in One) (append-nil limit)
+limits_again Two limit (Some quota) may lacks = rw (cut_again 32 limit quota lacks) refl
+limits_again One limit (Some quota) may lacks = absurd may
+limits_again Two limit None may lacks = absurd may
+
+abbrev account_fields : List ℕ → List ℕ → List ℕ → List ℕ × Option (List ℕ) → AccountTexts
+account_fields project programmer password limits =
+    record { project = project; programmer = programmer; password = password; limit = limits.0; quota = limits.1 }
+
+texts_take : (version : Version) (line : List ℕ) (t : AccountTexts) → texts_in version line ≡ Some t → MayTell version t.quota × (line ≡ account_text t)
 unfolding texts_in
-texts_again t p n w =
-    ap texts_in (text_is t) ∙ rw (cut_again 44 t.project (t.programmer ++ 32 ∷ (t.password ++ 32 ∷ t.limit)) p, cut_again 32 t.programmer (t.password ++ 32 ∷ t.limit) n, cut_again 32 t.password t.limit w) refl
+texts_take version line t e =
+    let a = bind_some (behind (codes "ACCOUNT ") line) (λ fields. cut 44 fields >>= λ project. cut 32 project.1 >>= λ programmer. cut 32 programmer.1 >>= λ password. limits_in version password.1 >>= λ limits. Some (account_fields project.0 programmer.0 password.0 limits)) t e in
+    let b = bind_some (cut 44 a.0) (λ project. cut 32 project.1 >>= λ programmer. cut 32 programmer.1 >>= λ password. limits_in version password.1 >>= λ limits. Some (account_fields project.0 programmer.0 password.0 limits)) t a.2 in
+    let c = bind_some (cut 32 b.0.1) (λ programmer. cut 32 programmer.1 >>= λ password. limits_in version password.1 >>= λ limits. Some (account_fields b.0.0 programmer.0 password.0 limits)) t b.2 in
+    let d = bind_some (cut 32 c.0.1) (λ password. limits_in version password.1 >>= λ limits. Some (account_fields b.0.0 c.0.0 password.0 limits)) t c.2 in
+    let f = bind_some (limits_in version d.0.1) (λ limits. Some (account_fields b.0.0 c.0.0 d.0.0 limits)) t d.2 in
+    let made : AccountTexts = account_fields b.0.0 c.0.0 d.0.0 f.0 in
+    let limits = limits_take version d.0.1 f.0 f.1 in
+    let rest : c.0.1 ≡ d.0.0 ++ 32 ∷ limits_text made = cut_takes 32 c.0.1 d.0 d.1 ∙ ap (λ t. d.0.0 ++ 32 ∷ t) limits.1 in
+    let second : b.0.1 ≡ c.0.0 ++ 32 ∷ (d.0.0 ++ 32 ∷ limits_text made) = cut_takes 32 b.0.1 c.0 c.1 ∙ ap (λ t. c.0.0 ++ 32 ∷ t) rest in
+    let first : a.0 ≡ b.0.0 ++ 44 ∷ (c.0.0 ++ 32 ∷ (d.0.0 ++ 32 ∷ limits_text made)) = cut_takes 44 a.0 b.0 b.1 ∙ ap (λ t. b.0.0 ++ 44 ∷ t) second in
+    let line_is : line ≡ plain_text made = behind_takes (codes "ACCOUNT ") line a.0 a.1 ∙ ap (λ t. codes "ACCOUNT " ++ t) first in
+    subst (λ (x : AccountTexts). MayTell version x.quota × (line ≡ account_text x)) (some_is made t f.2) (limits.0, line_is ∙ sym (text_is made))
+
+-- no field has a byte at which the line is cut behind it
+record IsPlain (version : Version) (t : AccountTexts) : Type 0 where
+  may : MayTell version t.quota
+  project : Lacks 44 t.project
+  programmer : Lacks 32 t.programmer
+  password : Lacks 32 t.password
+  limit : Lacks 32 t.limit
+
+texts_again : (version : Version) (t : AccountTexts) → IsPlain version t → texts_in version (account_text t) ≡ Some t
+unfolding texts_in
+texts_again version t plain =
+    ap (texts_in version) (text_is t) ∙ rw (cut_again 44 t.project (t.programmer ++ 32 ∷ (t.password ++ 32 ∷ limits_text t)) plain.project, cut_again 32 t.programmer (t.password ++ 32 ∷ limits_text t) plain.programmer, cut_again 32 t.password (limits_text t) plain.password, limits_again version t.limit t.quota plain.may plain.limit) refl
 
 -- ---- the fields of a file
 
@@ -213,11 +246,25 @@ took_has : (front : Front) (line : List ℕ) (made form : Form) → May front ma
 took_has front line made form may took same =
     subst (λ (f : Form). HasForm front line f) same (record { may = may; is_formed = took.formed; line_is = took.line_is })
 
-version_take : (line : List ℕ) (form : Form) → version_in line ≡ Some form → Took line Version × (Version ≡ form)
+-- a line is that of a version, or something is found behind that test
+heading_take : (version : Version) (line : List ℕ) (rest : Option Form) (form : Form) → cond (bytes_eq line (heading version)) (Some (Heading version)) rest ≡ Some form → (Took line (Heading version) × (Heading version ≡ form)) ⊎ (rest ≡ Some form)
+heading_take version line rest form e = go (bytes_eq line (heading version)) refl e
+  where
+    go : (b : Bool) → bytes_eq line (heading version) ≡ b → cond b (Some (Heading version)) rest ≡ Some form → (Took line (Heading version) × (Heading version ≡ form)) ⊎ (rest ≡ Some form)
+    go true same found = inl (record { formed = refl; line_is = (bytes_decides line (heading version)).0 same }, some_is (Heading version) form found)
+    go false other found = inr found
+
+version_take : (line : List ℕ) (form : Form) → version_in line ≡ Some form → (version : Version) × Took line (Heading version) × (Heading version ≡ form)
 unfolding version_in
 version_take line form e =
-    let g = guard_some (bytes_eq line (codes "RSTS-DECK 1")) Version form e in
-    (record { formed = refl; line_is = (bytes_decides line (codes "RSTS-DECK 1")).0 g.0 }, g.1)
+    ⊎_elim
+    (λ one. (One, one.0, one.1))
+    (λ rest.
+    ⊎_elim
+    (λ two. (Two, two.0, two.1))
+    (λ (none : None ≡ Some form). absurd (cc))
+    (heading_take Two line None form rest))
+    (heading_take One line (cond (bytes_eq line (heading Two)) (Some (Heading Two)) None) form e)
 
 end_take : (line : List ℕ) (form : Form) → end_in line ≡ Some form → Took line End × (End ≡ form)
 unfolding end_in
@@ -233,14 +280,15 @@ disk_take line form e =
     (a.0, record { formed = g.0; line_is = behind_takes (codes "DISK ") line a.0 a.1 }, g.1)
 
 abbrev are_texts : AccountTexts → Bool
-are_texts t = is_numeral t.project && is_numeral t.programmer && is_name t.password && is_numeral t.limit
+are_texts t = is_numeral t.project && is_numeral t.programmer && is_name t.password && is_numeral t.limit && is_numeral_or_none t.quota
 
-account_take : (line : List ℕ) (form : Form) → account_in line ≡ Some form → (t : AccountTexts) × Took line (Account t) × (Account t ≡ form)
+account_take : (version : Version) (line : List ℕ) (form : Form) → account_in version line ≡ Some form → (t : AccountTexts) × MayTell version t.quota × Took line (Account t) × (Account t ≡ form)
 unfolding account_in
-account_take line form e =
-    let a = bind_some (texts_in line) (λ t. cond (are_texts t) (Some (Account t)) None) form e in
+account_take version line form e =
+    let a = bind_some (texts_in version line) (λ t. cond (are_texts t) (Some (Account t)) None) form e in
     let g = guard_some (are_texts a.0) (Account a.0) form a.2 in
-    (a.0, record { formed = g.0; line_is = texts_take line a.0 a.1 }, g.1)
+    let t = texts_take version line a.0 a.1 in
+    (a.0, t.0, record { formed = g.0; line_is = t.1 }, g.1)
 
 file_take : (line : List ℕ) (form : Form) → file_in line ≡ Some form → (t : FileTexts) × Took line (File t) × (File t ≡ form)
 unfolding file_in
@@ -271,80 +319,96 @@ pub form_takes : (front : Front) (line : List ℕ) (form : Form) → form_at fro
 unfolding form_at groups_in contents_in session_in
 form_takes Nothing line form e =
     let v = version_take line form e in
-    took_has Nothing line Version form tt v.0 v.1
-form_takes Versioned line form e =
+    took_has Nothing line (Heading v.0) form tt v.1 v.2
+form_takes (Versioned version) line form e =
     let d = disk_take line form e in
-    took_has Versioned line (Disk d.0) form tt d.1 d.2
-form_takes (InAccounts deck) line form e =
+    took_has (Versioned version) line (Disk d.0) form tt d.1 d.2
+form_takes (InAccounts version deck) line form e =
     ⊎_elim
     (λ h.
-    let a = account_take line form h in
-    took_has (InAccounts deck) line (Account a.0) form tt a.1 a.2)
+    let a = account_take version line form h in
+    took_has (InAccounts version deck) line (Account a.0) form a.1 a.2 a.3)
     (λ h.
     ⊎_elim
     (λ i.
     let f = file_take line form i in
-    took_has (InAccounts deck) line (File f.0) form tt f.1 f.2)
+    took_has (InAccounts version deck) line (File f.0) form tt f.1 f.2)
     (λ i.
     ⊎_elim
     (λ j.
     let t = terminal_take line form j in
-    took_has (InAccounts deck) line (Terminal t.0) form tt t.1 t.2)
+    took_has (InAccounts version deck) line (Terminal t.0) form tt t.1 t.2)
     (λ j.
     let v = end_take line form j in
-    took_has (InAccounts deck) line End form tt v.0 v.1)
+    took_has (InAccounts version deck) line End form tt v.0 v.1)
     (else_some (terminal_in line) (end_in line) form i))
     (else_some (file_in line) (or_else (terminal_in line) (end_in line)) form h))
-    (else_some (account_in line) (or_else (file_in line) (or_else (terminal_in line) (end_in line))) form e)
-form_takes (InFile deck file) line form e =
+    (else_some (account_in version line) (or_else (file_in line) (or_else (terminal_in line) (end_in line))) form e)
+form_takes (InFile version deck file) line form e =
     ⊎_elim
     (λ h.
     let k = keys_take line form h in
-    took_has (InFile deck file) line (Keys k.0) form tt k.1 k.2)
+    took_has (InFile version deck file) line (Keys k.0) form tt k.1 k.2)
     (λ h.
     ⊎_elim
     (λ i.
     let f = file_take line form i in
-    took_has (InFile deck file) line (File f.0) form tt f.1 f.2)
+    took_has (InFile version deck file) line (File f.0) form tt f.1 f.2)
     (λ i.
     ⊎_elim
     (λ j.
     let t = terminal_take line form j in
-    took_has (InFile deck file) line (Terminal t.0) form tt t.1 t.2)
+    took_has (InFile version deck file) line (Terminal t.0) form tt t.1 t.2)
     (λ j.
     let v = end_take line form j in
-    took_has (InFile deck file) line End form tt v.0 v.1)
+    took_has (InFile version deck file) line End form tt v.0 v.1)
     (else_some (terminal_in line) (end_in line) form i))
     (else_some (file_in line) (or_else (terminal_in line) (end_in line)) form h))
     (else_some (keys_in line) (or_else (file_in line) (or_else (terminal_in line) (end_in line))) form e)
-form_takes (InTerminal deck terminal) line form e =
+form_takes (InTerminal version deck terminal) line form e =
     ⊎_elim
     (λ h.
     let k = keys_take line form h in
-    took_has (InTerminal deck terminal) line (Keys k.0) form tt k.1 k.2)
+    took_has (InTerminal version deck terminal) line (Keys k.0) form tt k.1 k.2)
     (λ h.
     ⊎_elim
     (λ j.
     let t = terminal_take line form j in
-    took_has (InTerminal deck terminal) line (Terminal t.0) form tt t.1 t.2)
+    took_has (InTerminal version deck terminal) line (Terminal t.0) form tt t.1 t.2)
     (λ j.
     let v = end_take line form j in
-    took_has (InTerminal deck terminal) line End form tt v.0 v.1)
+    took_has (InTerminal version deck terminal) line End form tt v.0 v.1)
     (else_some (terminal_in line) (end_in line) form h))
     (else_some (keys_in line) (or_else (terminal_in line) (end_in line)) form e)
-form_takes (Whole deck) line form e = absurd (cc)
+form_takes (Whole version deck) line form e = absurd (cc)
 
 -- ---- what is there is found
 
-account_found : (t : AccountTexts) → are_texts t ≡ true → account_in (account_text t) ≡ Some (Account t)
+plain_account : (version : Version) (t : AccountTexts) → MayTell version t.quota → are_texts t ≡ true → IsPlain version t
+plain_account version t may formed =
+    let p = is_numeral t.project in
+    let n = is_numeral t.programmer in
+    let w = is_name t.password in
+    let l = is_numeral t.limit in
+    let c = and_left (p && n && w && l) (is_numeral_or_none t.quota) formed in
+    let b = and_left (p && n && w) l c in
+    let a = and_left (p && n) w b in
+    record {
+      may = may;
+      project = numeral_lacks 44 refl t.project (and_left p n a);
+      programmer = numeral_lacks 32 refl t.programmer (and_right p n a);
+      password = lacks_unlike is_capital_or_digit 32 refl t.password (and_right (p && n) w b);
+      limit = numeral_lacks 32 refl t.limit (and_right (p && n && w) l c);
+    }
+
+account_found : (version : Version) (t : AccountTexts) → MayTell version t.quota → are_texts t ≡ true → account_in version (account_text t) ≡ Some (Account t)
 unfolding account_in
-account_found t formed =
-    let b = and_left (is_numeral t.project && is_numeral t.programmer && is_name t.password) (is_numeral t.limit) formed in
-    let a = and_left (is_numeral t.project && is_numeral t.programmer) (is_name t.password) b in
-    let p = numeral_lacks 44 refl t.project (and_left (is_numeral t.project) (is_numeral t.programmer) a) in
-    let n = numeral_lacks 32 refl t.programmer (and_right (is_numeral t.project) (is_numeral t.programmer) a) in
-    let w = lacks_unlike is_capital_or_digit 32 refl t.password (and_right (is_numeral t.project && is_numeral t.programmer) (is_name t.password) b) in
-    rw (texts_again t p n w, formed) refl
+account_found version t may formed = rw (texts_again version t (plain_account version t may formed), formed) refl
+
+heading_found : (version : Version) → version_in (heading version) ≡ Some (Heading version)
+unfolding version_in
+heading_found One = refl
+heading_found Two = refl
 
 file_found : (t : FileTexts) → are_file_texts t ≡ true → file_in (file_text t) ≡ Some (File t)
 unfolding file_in
@@ -352,17 +416,17 @@ file_found t formed = rw (file_texts_again t (plain_texts t formed), formed) ref
 
 pub form_again : (front : Front) (form : Form) → May front form → is_formed form ≡ true → form_at front (line_of form) ≡ Some form
 unfolding form_at groups_in contents_in session_in version_in disk_in account_in texts_in file_in file_texts_in terminal_in keys_in end_in
-form_again Nothing Version may formed = refl
-form_again Versioned (Disk blocks) may formed = rw formed refl
-form_again (InAccounts deck) (Account texts) may formed = rw (account_found texts formed) refl
-form_again (InAccounts deck) (File texts) may formed = rw (file_found texts formed) refl
-form_again (InAccounts deck) (Terminal name) may formed = rw formed refl
-form_again (InAccounts deck) End may formed = refl
-form_again (InFile deck file) (Keys text) may formed = refl
-form_again (InFile deck file) (File texts) may formed = rw (file_found texts formed) refl
-form_again (InFile deck file) (Terminal name) may formed = rw formed refl
-form_again (InFile deck file) End may formed = refl
-form_again (InTerminal deck terminal) (Keys keys) may formed = refl
-form_again (InTerminal deck terminal) (Terminal name) may formed = rw formed refl
-form_again (InTerminal deck terminal) End may formed = refl
+form_again Nothing (Heading version) may formed = heading_found version
+form_again (Versioned version) (Disk blocks) may formed = rw formed refl
+form_again (InAccounts version deck) (Account texts) may formed = rw (account_found version texts may formed) refl
+form_again (InAccounts version deck) (File texts) may formed = rw (file_found texts formed) refl
+form_again (InAccounts version deck) (Terminal name) may formed = rw formed refl
+form_again (InAccounts version deck) End may formed = refl
+form_again (InFile version deck file) (Keys text) may formed = refl
+form_again (InFile version deck file) (File texts) may formed = rw (file_found texts formed) refl
+form_again (InFile version deck file) (Terminal name) may formed = rw formed refl
+form_again (InFile version deck file) End may formed = refl
+form_again (InTerminal version deck terminal) (Keys keys) may formed = refl
+form_again (InTerminal version deck terminal) (Terminal name) may formed = rw formed refl
+form_again (InTerminal version deck terminal) End may formed = refl
 form_again front form may formed = absurd may

@@ -15,15 +15,17 @@ use Rattle.monitor_calls.specs.declared.files.FileName.{FileName}
 use Rattle.monitor_calls.specs.Names.{is_capital_or_digit, is_text_of, is_password, is_terminal_name}
 use Rattle.monitor_calls.specs.Volumes.{has_account, is_between, is_good_entry, is_good_name, is_good_file, are_good_files}
 use Rattle.deck_model.specs.declared.faults.DeckCause.{DeckCause}
+use Rattle.deck_model.specs.declared.versions.Version.{Version}
+use Rattle.deck_model.specs.declared.versions.Version.TheVariants.{One, Two}
 use Rattle.deck_model.specs.Files.{text_of, FitsText, file_entry, has_file, blocks_in}
 use Rattle.deck_model.specs.Deck as model
 use Rattle.deck_model.specs.Deck.{Deck, IsDeck, IsTerminal, IsKeyLine, has_terminal}
-use Rattle.deck_model.specs.Forms.{Form, Version, Disk, Account, File, Terminal, Keys, End, AccountTexts, FileTexts, line_of, is_name, is_formed}
-use Rattle.deck_model.specs.Spelling.{texts_of, account_line, extension_of, file_texts, file_lines, key_line, terminal_lines, group_lines}
-use Rattle.deck_model.specs.Fronts.{Front, Nothing, Versioned, InAccounts, InFile, InTerminal, with_account, with_file, with_text, with_terminal, with_keys, bare_deck, front_lines, IsFront, May, entry_of, new_file, new_terminal, adds}
-use Rattle.deck_model.specs.Refusals.{is_in_range, is_extension, is_file_in_range, first_cause, account_causes, file_causes, text_causes, terminal_causes, causes, shape_cause, HasForm, IsRefused}
+use Rattle.deck_model.specs.Forms.{Form, Heading, Disk, Account, File, Terminal, Keys, End, AccountTexts, FileTexts, line_of, is_numeral_or_none, is_name, is_formed}
+use Rattle.deck_model.specs.Spelling.{quota_told, texts_of, account_line, extension_of, file_texts, file_lines, key_line, terminal_lines, group_lines, IsQuota, IsDeckIn}
+use Rattle.deck_model.specs.Fronts.{Front, Nothing, Versioned, InAccounts, InFile, InTerminal, with_account, with_file, with_text, with_terminal, with_keys, bare_deck, front_lines, IsFront, MayTell, May, quota_from, entry_of, new_file, new_terminal, adds}
+use Rattle.deck_model.specs.Refusals.{is_quota, is_in_range, is_extension, is_file_in_range, passes_quota, first_cause, account_causes, file_causes, text_causes, terminal_causes, causes, shape_cause, HasForm, IsRefused}
 use Rattle.deck_model.specs.Reading.{form_at, unless_refused, behind_form, behind_line}
-use Rattle.text_cuts.proofs.CutLaws.{and_left, and_right, and_both, same_bytes}
+use Rattle.basic_values.proofs.CutLaws.{and_left, and_right, and_both, same_bytes}
 use Rattle.deck_model.proofs.FormLaws.{form_takes, form_again, decimal_numeral}
 use Rattle.deck_model.proofs.VolumeLaws.{GoodVolume, volume_parts, no_files, volume_whole, volume_push, owner_ranges, FitsIn, FitsAmong, terminals_push, terminals_last, terminals_front, all_append, all_front, all_back}
 use Rattle.deck_model.proofs.FileLaws.{files_parts, files_whole, files_front, files_push, files_last, FitsFile}
@@ -61,25 +63,61 @@ number_is low high n small least most =
     let v : digits_value 10 (decimal n) ≡ n = value_is n small in
     rw (v, same_bytes (decimal n), least, most) refl
 
-record IsSound (texts : AccountTexts) : Type 0 where
-  good : is_good_entry (entry_of texts) ≡ true
-  texts_are : texts_of (entry_of texts) ≡ texts
+-- a quota as a version tells it, or the disk's blocks where it tells none
+record IsSoundQuota (version : Version) (blocks : ℕ) (quota : Option (List ℕ)) : Type 0 where
+  most : nat_le (quota_from blocks quota) 16384 ≡ true
+  told : quota_told version (quota_from blocks quota) ≡ quota
+  is : IsQuota version blocks (quota_from blocks quota)
 
-sound_texts : (texts : AccountTexts) → is_in_range texts ≡ true → IsSound texts
-sound_texts t e =
+sound_quota : (version : Version) (blocks : ℕ) (quota : Option (List ℕ)) → MayTell version quota → is_quota quota ≡ true → nat_le blocks 16384 ≡ true → IsSoundQuota version blocks quota
+sound_quota One blocks None may e size = record { most = size; told = refl; is = refl }
+sound_quota Two blocks (Some text) may e size =
+    let n = number_parts 0 16384 text e in
+    record { most = n.most; told = ap (λ (t : List ℕ). Some t) (sym n.text_is); is = tt }
+sound_quota One blocks (Some text) may e size = absurd may
+sound_quota Two blocks None may e size = absurd may
+
+record IsWrittenQuota (version : Version) (blocks quota : ℕ) : Type 0 where
+  in_range : is_quota (quota_told version quota) ≡ true
+  quota_is : quota_from blocks (quota_told version quota) ≡ quota
+  formed : is_numeral_or_none (quota_told version quota) ≡ true
+  may : MayTell version (quota_told version quota)
+
+written_quota : (version : Version) (blocks quota : ℕ) → IsQuota version blocks quota → nat_le quota 16384 ≡ true → IsWrittenQuota version blocks quota
+written_quota One blocks quota is most = record { in_range = refl; quota_is = sym is; formed = refl; may = tt }
+written_quota Two blocks quota is most =
+    let small : quota < 2 ^ 32 = omega (arith, leb-true _ _ most) in
+    record {
+      in_range = number_is 0 16384 quota small (le-leb 0 quota (omega arith)) most;
+      quota_is = value_is quota small;
+      formed = decimal_numeral quota small;
+      may = tt;
+    }
+
+-- on a disk of so many blocks
+record IsSound (version : Version) (blocks : ℕ) (texts : AccountTexts) : Type 0 where
+  good : is_good_entry (entry_of blocks texts) ≡ true
+  texts_are : texts_of version (entry_of blocks texts) ≡ texts
+  quota : IsQuota version blocks (entry_of blocks texts).quota
+
+sound_texts : (version : Version) (blocks : ℕ) (texts : AccountTexts) → MayTell version texts.quota → is_in_range texts ≡ true → nat_le blocks 16384 ≡ true → IsSound version blocks texts
+sound_texts version blocks t may e size =
     let p : Bool = is_number_between 1 254 t.project in
     let n : Bool = is_number_between 0 254 t.programmer in
     let w : Bool = is_password t.password in
     let l : Bool = is_number_between 1 16384 t.limit in
-    let a = and_left (p && n && w) l e in
+    let c = and_left (p && n && w && l) (is_quota t.quota) e in
+    let a = and_left (p && n && w) l c in
     let b = and_left (p && n) w a in
     let project = number_parts 1 254 t.project (and_left p n b) in
     let programmer = number_parts 0 254 t.programmer (and_right p n b) in
     let password : w ≡ true = and_right (p && n) w a in
-    let limit = number_parts 1 16384 t.limit (and_right (p && n && w) l e) in
+    let limit = number_parts 1 16384 t.limit (and_right (p && n && w) l c) in
+    let quota = sound_quota version blocks t.quota may (and_right (p && n && w && l) (is_quota t.quota) e) size in
     record {
-      good = rw (project.least, project.most, programmer.most, password, limit.least, limit.most) refl;
-      texts_are = λ i. record { project = sym project.text_is i; programmer = sym programmer.text_is i; password = t.password; limit = sym limit.text_is i };
+      good = rw (project.least, project.most, programmer.most, password, limit.least, limit.most, quota.most) refl;
+      texts_are = λ i. record { project = sym project.text_is i; programmer = sym programmer.text_is i; password = t.password; limit = sym limit.text_is i; quota = quota.told i };
+      quota = quota.is;
     }
 
 -- the ranges of a good account
@@ -90,6 +128,7 @@ record Ranges (e : AccountEntry) : Type 0 where
   password : is_password e.password ≡ true
   calls : nat_le 1 e.limit ≡ true
   limit : nat_le e.limit 16384 ≡ true
+  quota : nat_le e.quota 16384 ≡ true
 
 ranges_of : (e : AccountEntry) → is_good_entry e ≡ true → Ranges e
 ranges_of e good =
@@ -97,9 +136,10 @@ ranges_of e good =
     let n : Bool = nat_le e.account.programmer 254 in
     let w : Bool = is_password e.password in
     let l : Bool = is_between 1 16384 e.limit in
-    let a = and_left (p && n && w) l good in
+    let c = and_left (p && n && w && l) (nat_le e.quota 16384) good in
+    let a = and_left (p && n && w) l c in
     let b = and_left (p && n) w a in
-    let limit = and_right (p && n && w) l good in
+    let limit = and_right (p && n && w) l c in
     record {
       least = and_left (nat_le 1 e.account.project) (nat_le e.account.project 254) (and_left p n b);
       project = and_right (nat_le 1 e.account.project) (nat_le e.account.project 254) (and_left p n b);
@@ -107,41 +147,54 @@ ranges_of e good =
       password = and_right (p && n) w a;
       calls = and_left (nat_le 1 e.limit) (nat_le e.limit 16384) limit;
       limit = and_right (nat_le 1 e.limit) (nat_le e.limit 16384) limit;
+      quota = and_right (p && n && w && l) (nat_le e.quota 16384) good;
     }
 
-pub record Written (e : AccountEntry) : Type 0 where
-  pub in_range : is_in_range (texts_of e) ≡ true
-  pub entry_is : entry_of (texts_of e) ≡ e
-  pub formed : is_formed (Account (texts_of e)) ≡ true
+pub record Written (version : Version) (blocks : ℕ) (e : AccountEntry) : Type 0 where
+  pub in_range : is_in_range (texts_of version e) ≡ true
+  pub entry_is : entry_of blocks (texts_of version e) ≡ e
+  pub formed : is_formed (Account (texts_of version e)) ≡ true
+  pub may : MayTell version (texts_of version e).quota
 
 capitals : (text : List ℕ) → is_password text ≡ true → is_name text ≡ true
 capitals text e = and_right (nat_le 1 (length text) && nat_le (length text) 6) (is_name text) e
 
-pub written : (e : AccountEntry) → is_good_entry e ≡ true → Written e
-written e good =
+pub written : (version : Version) (blocks : ℕ) (e : AccountEntry) → is_good_entry e ≡ true → IsQuota version blocks e.quota → Written version blocks e
+written version blocks e good is =
     let r = ranges_of e good in
     let small_p : e.account.project < 2 ^ 32 = omega (arith, leb-true _ _ r.project) in
     let small_n : e.account.programmer < 2 ^ 32 = omega (arith, leb-true _ _ r.programmer) in
     let small_l : e.limit < 2 ^ 32 = omega (arith, leb-true _ _ r.limit) in
     let none : nat_le 0 e.account.programmer ≡ true = le-leb 0 e.account.programmer (omega arith) in
+    let q = written_quota version blocks e.quota is r.quota in
     record {
-      in_range = rw (number_is 1 254 e.account.project small_p r.least r.project, number_is 0 254 e.account.programmer small_n none r.programmer, r.password, number_is 1 16384 e.limit small_l r.calls r.limit) refl;
-      entry_is = λ i. record { account = record { project = value_is e.account.project small_p i; programmer = value_is e.account.programmer small_n i }; password = e.password; limit = value_is e.limit small_l i };
-      formed = rw (decimal_numeral e.account.project small_p, decimal_numeral e.account.programmer small_n, capitals e.password r.password, decimal_numeral e.limit small_l) refl;
+      in_range = rw (number_is 1 254 e.account.project small_p r.least r.project, number_is 0 254 e.account.programmer small_n none r.programmer, r.password, number_is 1 16384 e.limit small_l r.calls r.limit, q.in_range) refl;
+      entry_is = λ i. record { account = record { project = value_is e.account.project small_p i; programmer = value_is e.account.programmer small_n i }; password = e.password; limit = value_is e.limit small_l i; quota = q.quota_is i };
+      formed = rw (decimal_numeral e.account.project small_p, decimal_numeral e.account.programmer small_n, capitals e.password r.password, decimal_numeral e.limit small_l, q.formed) refl;
+      may = q.may;
     }
 
-account_fits : (deck : Deck) (texts : AccountTexts) → first_cause (account_causes deck texts) ≡ None → FitsIn deck.accounts (entry_of texts) × (texts_of (entry_of texts) ≡ texts)
-account_fits deck texts e =
-    let a = no_cause (not (is_in_range texts)) _ _ e in
-    let b = no_cause (has_account deck.accounts (entry_of texts).account) _ _ a.1 in
-    let c = no_cause (nat_le 512 (length deck.accounts)) _ _ b.1 in
-    let s = sound_texts texts (not_false (is_in_range texts) a.0) in
-    (record { good = s.good; new = b.0; room = leb-false 512 (length deck.accounts) c.0 }, s.texts_are)
+-- what is known of fields for which no cause applies
+record TakenAccount (version : Version) (deck : Deck) (texts : AccountTexts) : Type 0 where
+  fits : FitsIn deck.accounts (entry_of deck.blocks texts)
+  texts_are : texts_of version (entry_of deck.blocks texts) ≡ texts
+  quota : IsQuota version deck.blocks (entry_of deck.blocks texts).quota
 
-pub account_none : (deck : Deck) (e : AccountEntry) → FitsIn deck.accounts e → first_cause (account_causes deck (texts_of e)) ≡ None
-account_none deck e fits =
-    let w = written e fits.good in
-    let new : has_account deck.accounts (entry_of (texts_of e)).account ≡ false = ap (λ (x : AccountEntry). has_account deck.accounts x.account) w.entry_is ∙ fits.new in
+account_fits : (version : Version) (deck : Deck) (texts : AccountTexts) → MayTell version texts.quota → nat_le deck.blocks 16384 ≡ true → first_cause (account_causes deck texts) ≡ None → TakenAccount version deck texts
+account_fits version deck texts may size e =
+    let a = no_cause (not (is_in_range texts)) _ _ e in
+    let b = no_cause (has_account deck.accounts (entry_of deck.blocks texts).account) _ _ a.1 in
+    let c = no_cause (nat_le 512 (length deck.accounts)) _ _ b.1 in
+    let s = sound_texts version deck.blocks texts may (not_false (is_in_range texts) a.0) size in
+    record {
+      fits = record { good = s.good; new = b.0; room = leb-false 512 (length deck.accounts) c.0 };
+      texts_are = s.texts_are;
+      quota = s.quota;
+    }
+
+pub account_none : (version : Version) (deck : Deck) (e : AccountEntry) → FitsIn deck.accounts e → Written version deck.blocks e → first_cause (account_causes deck (texts_of version e)) ≡ None
+account_none version deck e fits w =
+    let new : has_account deck.accounts (entry_of deck.blocks (texts_of version e)).account ≡ false = ap (λ (x : AccountEntry). has_account deck.accounts x.account) w.entry_is ∙ fits.new in
     let room : nat_le 512 (length deck.accounts) ≡ false = lt-leb 512 (length deck.accounts) fits.room in
     rw (w.in_range, new, room) refl
 
@@ -262,6 +315,7 @@ file_fits deck texts e =
     let c = no_cause (not (has_account deck.accounts file.name.owner)) _ _ b.1 in
     let d = no_cause (nat_le 512 (length deck.files)) _ _ c.1 in
     let f = no_cause (nat_lt deck.blocks (blocks_in deck.files + file.blocks)) _ _ d.1 in
+    let q = no_cause (passes_quota deck.accounts deck.files file) _ _ f.1 in
     let s = sound_file texts (not_false (is_file_in_range texts) a.0) in
     let named = and_both (is_good_name file.name) (nat_le file.code 63) s.named s.code in (
       record {
@@ -269,6 +323,7 @@ file_fits deck texts e =
         new = b.0;
         room = leb-false 512 (length deck.files) d.0;
         fit = ltb-false deck.blocks (blocks_in deck.files + file.blocks) f.0;
+        within = q.0;
       },
       s.texts_are,
     )
@@ -292,7 +347,8 @@ file_taken deck f good fits =
     let room : nat_le 512 (length deck.files) ≡ false = lt-leb 512 (length deck.files) fits.room in
     let fit : nat_lt deck.blocks (blocks_in deck.files + g.blocks) ≡ false =
     ap (λ (x : model.File). nat_lt deck.blocks (blocks_in deck.files + x.blocks)) w.file_is ∙ le-ltb deck.blocks (blocks_in deck.files + f.blocks) fits.fit in
-    record { formed = w.formed; none = rw (w.in_range, new, owner, room, fit) refl; file_is = w.file_is }
+    let within : passes_quota deck.accounts deck.files g ≡ false = ap (passes_quota deck.accounts deck.files) w.file_is ∙ fits.within in
+    record { formed = w.formed; none = rw (w.in_range, new, owner, room, fit, within) refl; file_is = w.file_is }
 
 -- ---- terminals
 
@@ -347,46 +403,46 @@ deck_terminal deck t is fits = record { volume = is.volume; texts = is.texts; te
 
 -- ---- the front behind a line
 
-abbrev head_of : Deck → List (List ℕ) → List (List ℕ)
-head_of deck lines = line_of Version ∷ line_of (Disk (decimal deck.blocks)) ∷ lines
+abbrev head_of : Version → Deck → List (List ℕ) → List (List ℕ)
+head_of version deck lines = line_of (Heading version) ∷ line_of (Disk (decimal deck.blocks)) ∷ lines
 
 -- the lines of a deck without terminals
-group_files : (deck : Deck) → deck.terminals ≡ [] → group_lines deck ≡ head_of deck (map account_line deck.accounts ++ flat_map file_lines deck.files)
-group_files deck none =
-    ap (λ (ts : List model.Terminal). head_of deck (map account_line deck.accounts ++ (flat_map file_lines deck.files ++ flat_map terminal_lines ts))) none
-    ∙ ap (λ (ls : List (List ℕ)). head_of deck (map account_line deck.accounts ++ ls)) (append-nil (flat_map file_lines deck.files))
+group_files : (version : Version) (deck : Deck) → deck.terminals ≡ [] → group_lines version deck ≡ head_of version deck (map (account_line version) deck.accounts ++ flat_map file_lines deck.files)
+group_files version deck none =
+    ap (λ (ts : List model.Terminal). head_of version deck (map (account_line version) deck.accounts ++ (flat_map file_lines deck.files ++ flat_map terminal_lines ts))) none
+    ∙ ap (λ (ls : List (List ℕ)). head_of version deck (map (account_line version) deck.accounts ++ ls)) (append-nil (flat_map file_lines deck.files))
 
 -- and of one without files
-group_bare : (deck : Deck) → deck.files ≡ [] → deck.terminals ≡ [] → group_lines deck ≡ head_of deck (map account_line deck.accounts)
-group_bare deck no_file none =
-    group_files deck none
-    ∙ ap (λ (fs : List model.File). head_of deck (map account_line deck.accounts ++ flat_map file_lines fs)) no_file
-    ∙ ap (head_of deck) (append-nil (map account_line deck.accounts))
+group_bare : (version : Version) (deck : Deck) → deck.files ≡ [] → deck.terminals ≡ [] → group_lines version deck ≡ head_of version deck (map (account_line version) deck.accounts)
+group_bare version deck no_file none =
+    group_files version deck none
+    ∙ ap (λ (fs : List model.File). head_of version deck (map (account_line version) deck.accounts ++ flat_map file_lines fs)) no_file
+    ∙ ap (head_of version deck) (append-nil (map (account_line version) deck.accounts))
 
-pub group_file : (deck : Deck) (f : model.File) → deck.terminals ≡ [] → group_lines (with_file deck f) ≡ group_lines deck ++ file_lines f
-group_file deck f none =
-    group_files (with_file deck f) none
-    ∙ ap (λ (ls : List (List ℕ)). head_of deck (map account_line deck.accounts ++ ls)) (flat_map-append file_lines deck.files (f ∷ []) ∙ ap (λ (ls : List (List ℕ)). flat_map file_lines deck.files ++ ls) (append-nil (file_lines f)))
-    ∙ ap (head_of deck) (sym (append_assoc (map account_line deck.accounts) (flat_map file_lines deck.files) (file_lines f)))
-    ∙ ap (λ (ls : List (List ℕ)). ls ++ file_lines f) (sym (group_files deck none))
+pub group_file : (version : Version) (deck : Deck) (f : model.File) → deck.terminals ≡ [] → group_lines version (with_file deck f) ≡ group_lines version deck ++ file_lines f
+group_file version deck f none =
+    group_files version (with_file deck f) none
+    ∙ ap (λ (ls : List (List ℕ)). head_of version deck (map (account_line version) deck.accounts ++ ls)) (flat_map-append file_lines deck.files (f ∷ []) ∙ ap (λ (ls : List (List ℕ)). flat_map file_lines deck.files ++ ls) (append-nil (file_lines f)))
+    ∙ ap (head_of version deck) (sym (append_assoc (map (account_line version) deck.accounts) (flat_map file_lines deck.files) (file_lines f)))
+    ∙ ap (λ (ls : List (List ℕ)). ls ++ file_lines f) (sym (group_files version deck none))
 
-pub group_more : (deck : Deck) (t : model.Terminal) → group_lines (with_terminal deck t) ≡ group_lines deck ++ terminal_lines t
-group_more deck t =
-    let accounts : List (List ℕ) = map account_line deck.accounts in
+pub group_more : (version : Version) (deck : Deck) (t : model.Terminal) → group_lines version (with_terminal deck t) ≡ group_lines version deck ++ terminal_lines t
+group_more version deck t =
+    let accounts : List (List ℕ) = map (account_line version) deck.accounts in
     let files : List (List ℕ) = flat_map file_lines deck.files in
     let terminals : List (List ℕ) = flat_map terminal_lines deck.terminals in
     let more : flat_map terminal_lines (deck.terminals ++ t ∷ []) ≡ terminals ++ terminal_lines t =
     flat_map-append terminal_lines deck.terminals (t ∷ []) ∙ ap (λ (ls : List (List ℕ)). terminals ++ ls) (append-nil (terminal_lines t)) in
-    ap (λ (ls : List (List ℕ)). head_of deck (accounts ++ (files ++ ls))) more
-    ∙ ap (λ (ls : List (List ℕ)). head_of deck (accounts ++ ls)) (sym (append_assoc files terminals (terminal_lines t)))
-    ∙ ap (head_of deck) (sym (append_assoc accounts (files ++ terminals) (terminal_lines t)))
+    ap (λ (ls : List (List ℕ)). head_of version deck (accounts ++ (files ++ ls))) more
+    ∙ ap (λ (ls : List (List ℕ)). head_of version deck (accounts ++ ls)) (sym (append_assoc files terminals (terminal_lines t)))
+    ∙ ap (head_of version deck) (sym (append_assoc accounts (files ++ terminals) (terminal_lines t)))
 
-account_more : (deck : Deck) (texts : AccountTexts) → deck.files ≡ [] → deck.terminals ≡ [] → texts_of (entry_of texts) ≡ texts → group_lines (with_account deck (entry_of texts)) ≡ group_lines deck ++ line_of (Account texts) ∷ []
-account_more deck texts no_file none same =
-    group_bare (with_account deck (entry_of texts)) no_file none
-    ∙ ap (head_of deck) (map-append account_line deck.accounts (entry_of texts ∷ []))
-    ∙ ap (λ (t : AccountTexts). head_of deck (map account_line deck.accounts ++ line_of (Account t) ∷ [])) same
-    ∙ ap (λ (ls : List (List ℕ)). ls ++ line_of (Account texts) ∷ []) (sym (group_bare deck no_file none))
+account_more : (version : Version) (deck : Deck) (texts : AccountTexts) → deck.files ≡ [] → deck.terminals ≡ [] → texts_of version (entry_of deck.blocks texts) ≡ texts → group_lines version (with_account deck (entry_of deck.blocks texts)) ≡ group_lines version deck ++ line_of (Account texts) ∷ []
+account_more version deck texts no_file none same =
+    group_bare version (with_account deck (entry_of deck.blocks texts)) no_file none
+    ∙ ap (head_of version deck) (map-append (account_line version) deck.accounts (entry_of deck.blocks texts ∷ []))
+    ∙ ap (λ (t : AccountTexts). head_of version deck (map (account_line version) deck.accounts ++ line_of (Account t) ∷ [])) same
+    ∙ ap (λ (ls : List (List ℕ)). ls ++ line_of (Account texts) ∷ []) (sym (group_bare version deck no_file none))
 
 new_lines : (lines : List (List ℕ)) (texts : FileTexts) → file_texts (new_file texts) ≡ texts → lines ++ file_lines (new_file texts) ≡ lines ++ line_of (File texts) ∷ []
 new_lines lines texts same = ap (λ (t : FileTexts). lines ++ line_of (File t) ∷ []) same
@@ -428,11 +484,11 @@ text_more : (deck : Deck) (file : model.File) (text : List ℕ) → IsDeck (with
 text_more deck file text is e =
     let last = deck_last deck file is in
     let a = no_cause (nat_lt (512 * file.blocks) (length (text_of (with_text file text).texts))) _ _ e in
-    let fits : FitsFile deck.blocks deck.accounts deck.files (with_text file text) = record { good = last.fits.good; new = last.fits.new; room = last.fits.room; fit = last.fits.fit } in
+    let fits : FitsFile deck.blocks deck.accounts deck.files (with_text file text) = record { good = last.fits.good; new = last.fits.new; room = last.fits.room; fit = last.fits.fit; within = last.fits.within } in
     deck_file deck (with_text file text) last.before fits (ltb-false (512 * file.blocks) (length (text_of (with_text file text).texts)) a.0)
 
-keys_more : (deck : Deck) (terminal : model.Terminal) (keys : List ℕ) → IsDeck (with_terminal deck terminal) → first_cause (causes (InTerminal deck terminal) (Keys keys)) ≡ None → IsDeck (with_terminal deck (with_keys terminal keys))
-keys_more deck terminal keys is e =
+keys_more : (version : Version) (deck : Deck) (terminal : model.Terminal) (keys : List ℕ) → IsDeck (with_terminal deck terminal) → first_cause (causes (InTerminal version deck terminal) (Keys keys)) ≡ None → IsDeck (with_terminal deck (with_keys terminal keys))
+keys_more version deck terminal keys is e =
     let a = no_cause (nat_lt 255 (length keys)) _ _ e in
     let short : IsKeyLine keys = ltb-false 255 (length keys) a.0 in
     let last = terminals_last deck.terminals terminal is.terminals in
@@ -448,45 +504,66 @@ empty_fits : (texts : FileTexts) → FitsText (new_file texts)
 empty_fits texts = omega arith
 
 pub adds_front : (front : Front) (form : Form) → IsFront front → May front form → first_cause (causes front form) ≡ None → Follows (adds front form) front (line_of form)
-adds_front Nothing Version is may e = record { is_front = tt; lines_are = refl }
-adds_front Versioned (Disk blocks) is may e =
+adds_front Nothing (Heading version) is may e = record { is_front = tt; lines_are = refl }
+adds_front (Versioned version) (Disk blocks) is may e =
     let a = no_cause (not (is_number_between 1 16384 blocks)) _ _ e in
     let range = not_false (is_number_between 1 16384 blocks) a.0 in
     record {
-      is_front = (bare_is blocks range, refl, refl);
-      lines_are = ap (λ (text : List ℕ). line_of Version ∷ line_of (Disk text) ∷ []) (sym (number_parts 1 16384 blocks range).text_is);
+      is_front = (record { is_deck = bare_is blocks range; quotas = tt }, refl, refl);
+      lines_are = ap (λ (text : List ℕ). line_of (Heading version) ∷ line_of (Disk text) ∷ []) (sym (number_parts 1 16384 blocks range).text_is);
     }
-adds_front (InAccounts deck) (Account texts) is may e =
-    let fits = account_fits deck texts e in
-    record { is_front = (deck_account deck (entry_of texts) is.0 is.1 fits.0, is.1, is.2); lines_are = account_more deck texts is.1 is.2 fits.1 }
-adds_front (InAccounts deck) (File texts) is may e =
+adds_front (InAccounts version deck) (Account texts) is may e =
+    let good = volume_parts deck.blocks deck.accounts (model.volume_files deck) is.0.is_deck.volume in
+    let size = and_right (nat_le 1 deck.blocks) (nat_le deck.blocks 16384) good.0.size in
+    let taken = account_fits version deck texts may size e in
+    let entry : AccountEntry = entry_of deck.blocks texts in
+    let quotas = all_append (λ (x : AccountEntry). IsQuota version deck.blocks x.quota) deck.accounts (entry ∷ []) is.0.quotas (taken.quota, tt) in
+    record {
+      is_front = (record { is_deck = deck_account deck entry is.0.is_deck is.1 taken.fits; quotas = quotas }, is.1, is.2);
+      lines_are = account_more version deck texts is.1 is.2 taken.texts_are;
+    }
+adds_front (InAccounts version deck) (File texts) is may e =
     let fits = file_fits deck texts e in
-    record { is_front = (deck_file deck (new_file texts) is.0 fits.0 (empty_fits texts), is.2); lines_are = new_lines (group_lines deck) texts fits.1 }
-adds_front (InAccounts deck) (Terminal name) is may e =
-    record { is_front = deck_terminal deck (new_terminal name) is.0 (terminal_fits deck.terminals name e); lines_are = refl }
-adds_front (InAccounts deck) End is may e = record { is_front = is.0; lines_are = refl }
-adds_front (InFile deck file) (Keys text) is may e =
-    record { is_front = (text_more deck file text is.0 e, is.1); lines_are = keyed_more (group_lines deck) (line_of (File (file_texts file))) file.texts text }
-adds_front (InFile deck file) (File texts) is may e =
+    record {
+      is_front = (record { is_deck = deck_file deck (new_file texts) is.0.is_deck fits.0 (empty_fits texts); quotas = is.0.quotas }, is.2);
+      lines_are = new_lines (group_lines version deck) texts fits.1;
+    }
+adds_front (InAccounts version deck) (Terminal name) is may e =
+    record {
+      is_front = record { is_deck = deck_terminal deck (new_terminal name) is.0.is_deck (terminal_fits deck.terminals name e); quotas = is.0.quotas };
+      lines_are = refl;
+    }
+adds_front (InAccounts version deck) End is may e = record { is_front = is.0; lines_are = refl }
+adds_front (InFile version deck file) (Keys text) is may e =
+    record {
+      is_front = (record { is_deck = text_more deck file text is.0.is_deck e; quotas = is.0.quotas }, is.1);
+      lines_are = keyed_more (group_lines version deck) (line_of (File (file_texts file))) file.texts text;
+    }
+adds_front (InFile version deck file) (File texts) is may e =
     let fits = file_fits (with_file deck file) texts e in
     record {
-      is_front = (deck_file (with_file deck file) (new_file texts) is.0 fits.0 (empty_fits texts), is.1);
-      lines_are = new_lines (group_lines (with_file deck file)) texts fits.1 ∙ ap (λ (ls : List (List ℕ)). ls ++ line_of (File texts) ∷ []) (group_file deck file is.1);
+      is_front = (record { is_deck = deck_file (with_file deck file) (new_file texts) is.0.is_deck fits.0 (empty_fits texts); quotas = is.0.quotas }, is.1);
+      lines_are = new_lines (group_lines version (with_file deck file)) texts fits.1 ∙ ap (λ (ls : List (List ℕ)). ls ++ line_of (File texts) ∷ []) (group_file version deck file is.1);
     }
-adds_front (InFile deck file) (Terminal name) is may e =
+adds_front (InFile version deck file) (Terminal name) is may e =
     record {
-      is_front = deck_terminal (with_file deck file) (new_terminal name) is.0 (terminal_fits deck.terminals name e);
-      lines_are = ap (λ (ls : List (List ℕ)). ls ++ line_of (Terminal name) ∷ []) (group_file deck file is.1);
+      is_front = record { is_deck = deck_terminal (with_file deck file) (new_terminal name) is.0.is_deck (terminal_fits deck.terminals name e); quotas = is.0.quotas };
+      lines_are = ap (λ (ls : List (List ℕ)). ls ++ line_of (Terminal name) ∷ []) (group_file version deck file is.1);
     }
-adds_front (InFile deck file) End is may e = record { is_front = is.0; lines_are = ap (λ (ls : List (List ℕ)). ls ++ line_of End ∷ []) (group_file deck file is.1) }
-adds_front (InTerminal deck terminal) (Keys keys) is may e =
-    record { is_front = keys_more deck terminal keys is e; lines_are = keyed_more (group_lines deck) (line_of (Terminal terminal.name)) terminal.keys keys }
-adds_front (InTerminal deck terminal) (Terminal name) is may e =
+adds_front (InFile version deck file) End is may e =
+    record { is_front = is.0; lines_are = ap (λ (ls : List (List ℕ)). ls ++ line_of End ∷ []) (group_file version deck file is.1) }
+adds_front (InTerminal version deck terminal) (Keys keys) is may e =
     record {
-      is_front = deck_terminal (with_terminal deck terminal) (new_terminal name) is (terminal_fits (deck.terminals ++ terminal ∷ []) name e);
-      lines_are = ap (λ (ls : List (List ℕ)). ls ++ line_of (Terminal name) ∷ []) (group_more deck terminal);
+      is_front = record { is_deck = keys_more version deck terminal keys is.is_deck e; quotas = is.quotas };
+      lines_are = keyed_more (group_lines version deck) (line_of (Terminal terminal.name)) terminal.keys keys;
     }
-adds_front (InTerminal deck terminal) End is may e = record { is_front = is; lines_are = ap (λ (ls : List (List ℕ)). ls ++ line_of End ∷ []) (group_more deck terminal) }
+adds_front (InTerminal version deck terminal) (Terminal name) is may e =
+    record {
+      is_front = record { is_deck = deck_terminal (with_terminal deck terminal) (new_terminal name) is.is_deck (terminal_fits (deck.terminals ++ terminal ∷ []) name e); quotas = is.quotas };
+      lines_are = ap (λ (ls : List (List ℕ)). ls ++ line_of (Terminal name) ∷ []) (group_more version deck terminal);
+    }
+adds_front (InTerminal version deck terminal) End is may e =
+    record { is_front = is; lines_are = ap (λ (ls : List (List ℕ)). ls ++ line_of End ∷ []) (group_more version deck terminal) }
 adds_front front form is may e = absurd may
 
 -- ---- what one line comes to
@@ -495,14 +572,17 @@ pub line_behind : (front : Front) (form : Form) → May front form → is_formed
 unfolding behind_line behind_form
 line_behind front form may formed none = rw (form_again front form may formed, none) refl
 
-pub disk_behind : (blocks : ℕ) → is_between 1 16384 blocks ≡ true → behind_line Versioned (line_of (Disk (decimal blocks))) ≡ Ok (InAccounts (bare_deck blocks))
-disk_behind blocks size =
+pub heading_behind : (version : Version) → behind_line Nothing (line_of (Heading version)) ≡ Ok (Versioned version)
+heading_behind version = line_behind Nothing (Heading version) tt refl refl
+
+pub disk_behind : (version : Version) (blocks : ℕ) → is_between 1 16384 blocks ≡ true → behind_line (Versioned version) (line_of (Disk (decimal blocks))) ≡ Ok (InAccounts version (bare_deck blocks))
+disk_behind version blocks size =
     let least = and_left (nat_le 1 blocks) (nat_le blocks 16384) size in
     let most = and_right (nat_le 1 blocks) (nat_le blocks 16384) size in
     let small : blocks < 2 ^ 32 = omega (arith, leb-true _ _ most) in
     let in_range : is_number_between 1 16384 (decimal blocks) ≡ true = number_is 1 16384 blocks small least most in
-    line_behind Versioned (Disk (decimal blocks)) tt (decimal_numeral blocks small) (rw in_range refl)
-    ∙ ap (λ (n : ℕ). Ok (InAccounts (bare_deck n))) (value_is blocks small)
+    line_behind (Versioned version) (Disk (decimal blocks)) tt (decimal_numeral blocks small) (rw in_range refl)
+    ∙ ap (λ (n : ℕ). Ok (InAccounts version (bare_deck n))) (value_is blocks small)
 
 -- a line that is taken has a form for which no cause applies
 pub record Takes (front : Front) (line : List ℕ) (next : Front) : Type 0 where

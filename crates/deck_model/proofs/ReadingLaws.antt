@@ -8,19 +8,20 @@ use Rattle.std.proofs.lemmas.List.{append-nil, length-append}
 use Rattle.std.proofs.lemmas.List.Concat.{flat_map-append}
 use Rattle.monitor_calls.specs.declared.volumes.AccountEntry.{AccountEntry}
 use Rattle.deck_model.specs.declared.faults.DeckCause.{DeckCause}
+use Rattle.deck_model.specs.declared.versions.Version.{Version}
 use Rattle.deck_model.specs.Files.{text_of, FitsText}
 use Rattle.deck_model.specs.Deck as model
 use Rattle.deck_model.specs.Deck.{Deck, IsDeck, IsKeyLine, AreTerminals}
 use Rattle.deck_model.specs.Lines.{whole_lines, cut_line}
-use Rattle.deck_model.specs.Forms.{Form, Version, Disk, Account, File, Terminal, Keys, End, line_of, is_name}
-use Rattle.deck_model.specs.Spelling.{texts_of, account_line, file_texts, file_lines, key_line, terminal_lines, group_lines, deck_lines, Spelled}
+use Rattle.deck_model.specs.Forms.{Form, Heading, Disk, Account, File, Terminal, Keys, End, line_of, is_name}
+use Rattle.deck_model.specs.Spelling.{texts_of, account_line, file_texts, file_lines, key_line, terminal_lines, group_lines, deck_lines, IsQuota, IsDeckIn, Spelled}
 use Rattle.deck_model.specs.Fronts.{Front, Nothing, Versioned, InAccounts, InFile, InTerminal, Whole, with_file, with_terminal, front_lines, IsFront, May, new_file, new_terminal, adds}
 use Rattle.deck_model.specs.Refusals.{first_cause, file_causes, causes, StopsAt, Refused}
 use Rattle.deck_model.specs.Reading.{behind_line, Verdict, Spells, Refuses, at_end, onwards, reading, verdict}
-use Rattle.text_cuts.proofs.CutLaws.{and_right}
+use Rattle.basic_values.proofs.CutLaws.{and_right}
 use Rattle.deck_model.proofs.VolumeLaws.{GoodVolume, volume_parts, volume_whole, volume_front, volume_last, FitsAmong, terminals_front, terminals_last, all_front}
 use Rattle.deck_model.proofs.FileLaws.{files_parts, files_whole, files_front}
-use Rattle.deck_model.proofs.FrontLaws.{Follows, adds_front, Takes, line_behind, line_takes, line_refuses, refused_behind, account_none, terminal_none, written, TakenFile, file_taken, deck_last, disk_behind}
+use Rattle.deck_model.proofs.FrontLaws.{Follows, adds_front, Takes, line_behind, line_takes, line_refuses, refused_behind, account_none, terminal_none, written, TakenFile, file_taken, deck_last, heading_behind, disk_behind}
 
 -- ---- what is so is told
 
@@ -52,20 +53,27 @@ leads_form from form to e same = leads_line from (line_of form) to (e ∙ ap (λ
 abbrev with_accounts : ℕ → List AccountEntry → Deck
 with_accounts blocks accounts = record { blocks = blocks; accounts = accounts; files = []; terminals = [] }
 
-accounts_lead : (blocks : ℕ) (done entries : List AccountEntry) → GoodVolume blocks (done ++ entries) → Leads (InAccounts (with_accounts blocks done)) (map account_line entries) (InAccounts (with_accounts blocks (done ++ entries)))
-accounts_lead blocks done [] good = leads_none _ _ (ap (λ (es : List AccountEntry). InAccounts (with_accounts blocks es)) (sym (append-nil done)))
-accounts_lead blocks done (e ∷ entries) good =
-    let regroup : (done ++ e ∷ []) ++ entries ≡ done ++ e ∷ entries = append_assoc done (e ∷ []) entries in
-    let front : GoodVolume blocks ((done ++ e ∷ []) ++ entries) = subst (GoodVolume blocks) (sym regroup) good in
-    let fits = volume_last blocks done e (volume_front blocks (done ++ e ∷ []) entries front) in
-    let w = written e fits.good in
-    let from : Front = InAccounts (with_accounts blocks done) in
-    let to : Front = InAccounts (with_accounts blocks (done ++ e ∷ [])) in
-    let one : Leads from (line_of (Account (texts_of e)) ∷ []) to =
-    leads_form from (Account (texts_of e)) to (line_behind from (Account (texts_of e)) tt w.formed (account_none (with_accounts blocks done) e fits))
-    (ap (λ (x : AccountEntry). InAccounts (with_accounts blocks (done ++ x ∷ []))) w.entry_is) in
-    leads_both from (account_line e ∷ []) to (map account_line entries) (InAccounts (with_accounts blocks (done ++ e ∷ entries))) one
-    (subst (λ (es : List AccountEntry). Leads to (map account_line entries) (InAccounts (with_accounts blocks es))) regroup (accounts_lead blocks (done ++ e ∷ []) entries front))
+-- quotas that the version can tell
+abbrev AreQuotas : Version → ℕ → List AccountEntry → Type 0
+AreQuotas version blocks entries = AllByRecursion (λ (entry : AccountEntry). IsQuota version blocks entry.quota) entries
+
+module _ (version : Version) (blocks : ℕ) where
+  abbrev behind : List AccountEntry → Front
+  behind entries = InAccounts version (with_accounts blocks entries)
+
+  accounts_lead : (done entries : List AccountEntry) → GoodVolume blocks (done ++ entries) → AreQuotas version blocks entries → Leads (behind done) (map (account_line version) entries) (behind (done ++ entries))
+  accounts_lead done [] good quotas = leads_none _ _ (ap behind (sym (append-nil done)))
+  accounts_lead done (e ∷ entries) good quotas =
+      let regroup : (done ++ e ∷ []) ++ entries ≡ done ++ e ∷ entries = append_assoc done (e ∷ []) entries in
+      let front : GoodVolume blocks ((done ++ e ∷ []) ++ entries) = subst (GoodVolume blocks) (sym regroup) good in
+      let fits = volume_last blocks done e (volume_front blocks (done ++ e ∷ []) entries front) in
+      let w = written version blocks e fits.good quotas.0 in
+      let form : Form = Account (texts_of version e) in
+      let one : Leads (behind done) (line_of form ∷ []) (behind (done ++ e ∷ [])) =
+      leads_form (behind done) form (behind (done ++ e ∷ [])) (line_behind (behind done) form w.may w.formed (account_none version (with_accounts blocks done) e fits w))
+      (ap (λ (x : AccountEntry). behind (done ++ x ∷ [])) w.entry_is) in
+      leads_both (behind done) (account_line version e ∷ []) (behind (done ++ e ∷ [])) (map (account_line version) entries) (behind (done ++ e ∷ entries)) one
+      (subst (λ (es : List AccountEntry). Leads (behind (done ++ e ∷ [])) (map (account_line version) entries) (behind es)) regroup (accounts_lead (done ++ e ∷ []) entries front quotas.1))
 
 -- ---- the lines of one group
 
@@ -77,226 +85,228 @@ text_no_longer xs ys =
     let split : length (text_of (xs ++ ys)) ≡ length (text_of xs ++ text_of ys) = ap length (flat_map-append (λ (text : List ℕ). text ++ codes "\r\n") xs ys) in
     omega (arith, split, length-append (text_of xs) (text_of ys))
 
-texts_lead : (deck : Deck) (file : model.File) (done texts : List (List ℕ)) → FitsText (texted file (done ++ texts)) → Leads (InFile deck (texted file done)) (map key_line texts) (InFile deck (texted file (done ++ texts)))
-texts_lead deck file done [] fits = leads_none _ _ (ap (λ (ts : List (List ℕ)). InFile deck (texted file ts)) (sym (append-nil done)))
-texts_lead deck file done (t ∷ texts) fits =
+texts_lead : (version : Version) (deck : Deck) (file : model.File) (done texts : List (List ℕ)) → FitsText (texted file (done ++ texts)) → Leads (InFile version deck (texted file done)) (map key_line texts) (InFile version deck (texted file (done ++ texts)))
+texts_lead version deck file done [] fits = leads_none _ _ (ap (λ (ts : List (List ℕ)). InFile version deck (texted file ts)) (sym (append-nil done)))
+texts_lead version deck file done (t ∷ texts) fits =
     let regroup : (done ++ t ∷ []) ++ texts ≡ done ++ t ∷ texts = append_assoc done (t ∷ []) texts in
     let more : FitsText (texted file ((done ++ t ∷ []) ++ texts)) = subst (λ (ts : List (List ℕ)). FitsText (texted file ts)) (sym regroup) fits in
     let short : length (text_of (done ++ t ∷ [])) ≤ 512 * file.blocks = omega (arith, more, text_no_longer (done ++ t ∷ []) texts) in
-    let from : Front = InFile deck (texted file done) in
-    let to : Front = InFile deck (texted file (done ++ t ∷ [])) in
+    let from : Front = InFile version deck (texted file done) in
+    let to : Front = InFile version deck (texted file (done ++ t ∷ [])) in
     let one : Leads from (line_of (Keys t) ∷ []) to = leads_form from (Keys t) to (line_behind from (Keys t) tt refl (rw (le-ltb (512 * file.blocks) (length (text_of (done ++ t ∷ []))) short) refl)) refl in
-    leads_both from (key_line t ∷ []) to (map key_line texts) (InFile deck (texted file (done ++ t ∷ texts))) one
-    (subst (λ (ts : List (List ℕ)). Leads to (map key_line texts) (InFile deck (texted file ts))) regroup (texts_lead deck file (done ++ t ∷ []) texts more))
+    leads_both from (key_line t ∷ []) to (map key_line texts) (InFile version deck (texted file (done ++ t ∷ texts))) one
+    (subst (λ (ts : List (List ℕ)). Leads to (map key_line texts) (InFile version deck (texted file ts))) regroup (texts_lead version deck file (done ++ t ∷ []) texts more))
 
 abbrev named : List ℕ → List (List ℕ) → model.Terminal
 named name keys = record { name = name; keys = keys }
 
-keys_lead : (deck : Deck) (name : List ℕ) (done keys : List (List ℕ)) → AllByRecursion IsKeyLine keys → Leads (InTerminal deck (named name done)) (map key_line keys) (InTerminal deck (named name (done ++ keys)))
-keys_lead deck name done [] short = leads_none _ _ (ap (λ (ks : List (List ℕ)). InTerminal deck (named name ks)) (sym (append-nil done)))
-keys_lead deck name done (k ∷ keys) short =
-    let from : Front = InTerminal deck (named name done) in
-    let to : Front = InTerminal deck (named name (done ++ k ∷ [])) in
+keys_lead : (version : Version) (deck : Deck) (name : List ℕ) (done keys : List (List ℕ)) → AllByRecursion IsKeyLine keys → Leads (InTerminal version deck (named name done)) (map key_line keys) (InTerminal version deck (named name (done ++ keys)))
+keys_lead version deck name done [] short = leads_none _ _ (ap (λ (ks : List (List ℕ)). InTerminal version deck (named name ks)) (sym (append-nil done)))
+keys_lead version deck name done (k ∷ keys) short =
+    let from : Front = InTerminal version deck (named name done) in
+    let to : Front = InTerminal version deck (named name (done ++ k ∷ [])) in
     let one : Leads from (line_of (Keys k) ∷ []) to = leads_form from (Keys k) to (line_behind from (Keys k) tt refl (rw (le-ltb 255 (length k) short.0) refl)) refl in
-    leads_both from (key_line k ∷ []) to (map key_line keys) (InTerminal deck (named name (done ++ k ∷ keys))) one
-    (subst (λ (ks : List (List ℕ)). Leads to (map key_line keys) (InTerminal deck (named name ks))) (append_assoc done (k ∷ []) keys) (keys_lead deck name (done ++ k ∷ []) keys short.1))
+    leads_both from (key_line k ∷ []) to (map key_line keys) (InTerminal version deck (named name (done ++ k ∷ keys))) one
+    (subst (λ (ks : List (List ℕ)). Leads to (map key_line keys) (InTerminal version deck (named name ks))) (append_assoc done (k ∷ []) keys) (keys_lead version deck name (done ++ k ∷ []) keys short.1))
 
 -- ---- fronts behind whole groups
 
--- the groups of the deck are read, and its last one may go on
-abbrev IsAt : Front → Deck → Type 0
-IsAt (InAccounts deck) whole = deck ≡ whole
-IsAt (InFile deck file) whole = with_file deck file ≡ whole
-IsAt (InTerminal deck terminal) whole = with_terminal deck terminal ≡ whole
+-- the groups of the deck are read, in this version, and its last one may go on
+abbrev IsAt : Front → Version × Deck → Type 0
+IsAt (InAccounts version deck) whole = (version, deck) ≡ whole
+IsAt (InFile version deck file) whole = (version, with_file deck file) ≡ whole
+IsAt (InTerminal version deck terminal) whole = (version, with_terminal deck terminal) ≡ whole
 IsAt front whole = ⊥
 
-end_taken : (front : Front) (whole : Deck) → IsAt front whole → behind_line front (line_of End) ≡ Ok (Whole whole)
-end_taken (InAccounts deck) whole at = line_behind (InAccounts deck) End tt refl refl ∙ ap (λ (d : Deck). Ok (Whole d)) at
-end_taken (InFile deck file) whole at = line_behind (InFile deck file) End tt refl refl ∙ ap (λ (d : Deck). Ok (Whole d)) at
-end_taken (InTerminal deck terminal) whole at = line_behind (InTerminal deck terminal) End tt refl refl ∙ ap (λ (d : Deck). Ok (Whole d)) at
+end_taken : (front : Front) (whole : Version × Deck) → IsAt front whole → behind_line front (line_of End) ≡ Ok (Whole whole.0 whole.1)
+end_taken (InAccounts version deck) whole at = line_behind (InAccounts version deck) End tt refl refl ∙ ap (λ (d : Version × Deck). Ok (Whole d.0 d.1)) at
+end_taken (InFile version deck file) whole at = line_behind (InFile version deck file) End tt refl refl ∙ ap (λ (d : Version × Deck). Ok (Whole d.0 d.1)) at
+end_taken (InTerminal version deck terminal) whole at = line_behind (InTerminal version deck terminal) End tt refl refl ∙ ap (λ (d : Version × Deck). Ok (Whole d.0 d.1)) at
 end_taken front whole at = absurd at
 
 capitals_formed : (t : model.Terminal) → model.IsTerminal t → is_name t.name ≡ true
 capitals_formed t good = and_right (nat_le 1 (length t.name) && nat_le (length t.name) 8) (is_name t.name) good.name
 
 -- the front behind the line of a terminal
-abbrev opened : Deck → model.Terminal → Result Front DeckCause
-opened deck t = Ok (InTerminal deck (new_terminal t.name))
+abbrev opened : Version × Deck → model.Terminal → Result Front DeckCause
+opened whole t = Ok (InTerminal whole.0 whole.1 (new_terminal t.name))
 
-terminal_taken : (front : Front) (whole : Deck) (t : model.Terminal) → IsAt front whole → FitsAmong whole.terminals t → behind_line front (line_of (Terminal t.name)) ≡ opened whole t
-terminal_taken (InAccounts deck) whole t at fits =
-    let own : FitsAmong deck.terminals t = subst (λ (d : Deck). FitsAmong d.terminals t) (sym at) fits in
-    line_behind (InAccounts deck) (Terminal t.name) tt (capitals_formed t fits.good) (terminal_none deck.terminals t own) ∙ ap (λ (d : Deck). opened d t) at
-terminal_taken (InFile deck file) whole t at fits =
-    let own : FitsAmong deck.terminals t = subst (λ (d : Deck). FitsAmong d.terminals t) (sym at) fits in
-    line_behind (InFile deck file) (Terminal t.name) tt (capitals_formed t fits.good) (terminal_none deck.terminals t own) ∙ ap (λ (d : Deck). opened d t) at
-terminal_taken (InTerminal deck terminal) whole t at fits =
-    let own : FitsAmong (deck.terminals ++ terminal ∷ []) t = subst (λ (d : Deck). FitsAmong d.terminals t) (sym at) fits in
-    line_behind (InTerminal deck terminal) (Terminal t.name) tt (capitals_formed t fits.good) (terminal_none (deck.terminals ++ terminal ∷ []) t own) ∙ ap (λ (d : Deck). opened d t) at
+terminal_taken : (front : Front) (whole : Version × Deck) (t : model.Terminal) → IsAt front whole → FitsAmong whole.1.terminals t → behind_line front (line_of (Terminal t.name)) ≡ opened whole t
+terminal_taken (InAccounts version deck) whole t at fits =
+    let own : FitsAmong deck.terminals t = subst (λ (d : Version × Deck). FitsAmong d.1.terminals t) (sym at) fits in
+    line_behind (InAccounts version deck) (Terminal t.name) tt (capitals_formed t fits.good) (terminal_none deck.terminals t own) ∙ ap (λ (d : Version × Deck). opened d t) at
+terminal_taken (InFile version deck file) whole t at fits =
+    let own : FitsAmong deck.terminals t = subst (λ (d : Version × Deck). FitsAmong d.1.terminals t) (sym at) fits in
+    line_behind (InFile version deck file) (Terminal t.name) tt (capitals_formed t fits.good) (terminal_none deck.terminals t own) ∙ ap (λ (d : Version × Deck). opened d t) at
+terminal_taken (InTerminal version deck terminal) whole t at fits =
+    let own : FitsAmong (deck.terminals ++ terminal ∷ []) t = subst (λ (d : Version × Deck). FitsAmong d.1.terminals t) (sym at) fits in
+    line_behind (InTerminal version deck terminal) (Terminal t.name) tt (capitals_formed t fits.good) (terminal_none (deck.terminals ++ terminal ∷ []) t own) ∙ ap (λ (d : Version × Deck). opened d t) at
 terminal_taken front whole t at fits = absurd at
 
 -- the front behind the line of a file, whose text is not there yet
-abbrev filed : Deck → model.File → Result Front DeckCause
-filed deck f = Ok (InFile deck (texted f []))
+abbrev filed : Version × Deck → model.File → Result Front DeckCause
+filed whole f = Ok (InFile whole.0 whole.1 (texted f []))
 
 -- one more is not none
 one_more : {A : Type 0} (xs : List A) (x : A) → (xs ++ x ∷ []) ≡ [] → ⊥
 one_more [] x e = absurd (cc)
 one_more (y ∷ xs) x e = absurd (cc)
 
-file_opens : (front : Front) (deck : Deck) (f : model.File) → May front (File (file_texts f)) → adds front (File (file_texts f)) ≡ InFile deck (new_file (file_texts f)) → causes front (File (file_texts f)) ≡ file_causes deck (file_texts f) → TakenFile deck f → behind_line front (line_of (File (file_texts f))) ≡ filed deck f
-file_opens front deck f may next why taken =
+file_opens : (front : Front) (whole : Version × Deck) (f : model.File) → May front (File (file_texts f)) → adds front (File (file_texts f)) ≡ InFile whole.0 whole.1 (new_file (file_texts f)) → causes front (File (file_texts f)) ≡ file_causes whole.1 (file_texts f) → TakenFile whole.1 f → behind_line front (line_of (File (file_texts f))) ≡ filed whole f
+file_opens front whole f may next why taken =
     line_behind front (File (file_texts f)) may taken.formed (ap first_cause why ∙ taken.none)
-    ∙ ap (λ (n : Front). Ok n) (next ∙ ap (InFile deck) taken.file_is)
+    ∙ ap (λ (n : Front). Ok n) (next ∙ ap (InFile whole.0 whole.1) taken.file_is)
 
-file_line_taken : (front : Front) (whole : Deck) (f : model.File) → IsAt front whole → whole.terminals ≡ [] → TakenFile whole f → behind_line front (line_of (File (file_texts f))) ≡ filed whole f
-file_line_taken (InAccounts deck) whole f at none taken =
-    let own : TakenFile deck f = subst (λ (d : Deck). TakenFile d f) (sym at) taken in
-    file_opens (InAccounts deck) deck f tt refl refl own ∙ ap (λ (d : Deck). filed d f) at
-file_line_taken (InFile deck file) whole f at none taken =
-    let own : TakenFile (with_file deck file) f = subst (λ (d : Deck). TakenFile d f) (sym at) taken in
-    file_opens (InFile deck file) (with_file deck file) f tt refl refl own ∙ ap (λ (d : Deck). filed d f) at
-file_line_taken (InTerminal deck terminal) whole f at none taken =
-    absurd (one_more deck.terminals terminal (ap (λ (d : Deck). d.terminals) at ∙ none))
+file_line_taken : (front : Front) (whole : Version × Deck) (f : model.File) → IsAt front whole → whole.1.terminals ≡ [] → TakenFile whole.1 f → behind_line front (line_of (File (file_texts f))) ≡ filed whole f
+file_line_taken (InAccounts version deck) whole f at none taken =
+    let own : TakenFile deck f = subst (λ (d : Version × Deck). TakenFile d.1 f) (sym at) taken in
+    file_opens (InAccounts version deck) (version, deck) f tt refl refl own ∙ ap (λ (d : Version × Deck). filed d f) at
+file_line_taken (InFile version deck file) whole f at none taken =
+    let own : TakenFile (with_file deck file) f = subst (λ (d : Version × Deck). TakenFile d.1 f) (sym at) taken in
+    file_opens (InFile version deck file) (version, with_file deck file) f tt refl refl own ∙ ap (λ (d : Version × Deck). filed d f) at
+file_line_taken (InTerminal version deck terminal) whole f at none taken =
+    absurd (one_more deck.terminals terminal (ap (λ (d : Version × Deck). d.1.terminals) at ∙ none))
 file_line_taken front whole f at none taken = absurd at
 
-file_leads : (from : Front) (deck : Deck) (f : model.File) → behind_line from (line_of (File (file_texts f))) ≡ filed deck f → FitsText f → Leads from (file_lines f) (InFile deck f)
-file_leads from deck f e fits =
-    leads_both from (line_of (File (file_texts f)) ∷ []) (InFile deck (texted f [])) (map key_line f.texts) (InFile deck f) (leads_line from (line_of (File (file_texts f))) (InFile deck (texted f [])) e) (texts_lead deck f [] f.texts fits)
+module _ (version : Version) where
+  file_leads : (from : Front) (deck : Deck) (f : model.File) → behind_line from (line_of (File (file_texts f))) ≡ filed (version, deck) f → FitsText f → Leads from (file_lines f) (InFile version deck f)
+  file_leads from deck f e fits =
+      leads_both from (line_of (File (file_texts f)) ∷ []) (InFile version deck (texted f [])) (map key_line f.texts) (InFile version deck f) (leads_line from (line_of (File (file_texts f))) (InFile version deck (texted f [])) e) (texts_lead version deck f [] f.texts fits)
 
-terminal_leads : (from : Front) (deck : Deck) (t : model.Terminal) → behind_line from (line_of (Terminal t.name)) ≡ opened deck t → AllByRecursion IsKeyLine t.keys → Leads from (terminal_lines t) (InTerminal deck t)
-terminal_leads from deck t e short =
-    leads_both from (line_of (Terminal t.name) ∷ []) (InTerminal deck (new_terminal t.name)) (map key_line t.keys) (InTerminal deck t) (leads_line from (line_of (Terminal t.name)) (InTerminal deck (new_terminal t.name)) e) (keys_lead deck t.name [] t.keys short)
+  terminal_leads : (from : Front) (deck : Deck) (t : model.Terminal) → behind_line from (line_of (Terminal t.name)) ≡ opened (version, deck) t → AllByRecursion IsKeyLine t.keys → Leads from (terminal_lines t) (InTerminal version deck t)
+  terminal_leads from deck t e short =
+      leads_both from (line_of (Terminal t.name) ∷ []) (InTerminal version deck (new_terminal t.name)) (map key_line t.keys) (InTerminal version deck t) (leads_line from (line_of (Terminal t.name)) (InTerminal version deck (new_terminal t.name)) e) (keys_lead version deck t.name [] t.keys short)
 
--- ---- the lines of all groups
+  -- ---- the lines of all groups
 
--- these lines lead to a front at which the groups of the deck are read
-record Reaches (lines : List (List ℕ)) (deck : Deck) : Type 0 where
-  front : Front
-  at : IsAt front deck
-  leads : Leads Nothing lines front
+  -- these lines lead to a front at which the groups of the deck are read
+  record Reaches (lines : List (List ℕ)) (deck : Deck) : Type 0 where
+    front : Front
+    at : IsAt front (version, deck)
+    leads : Leads Nothing lines front
 
-reach_file : (lines : List (List ℕ)) (deck : Deck) (f : model.File) → Reaches lines deck → deck.terminals ≡ [] → IsDeck (with_file deck f) → Reaches (lines ++ file_lines f) (with_file deck f)
-reach_file lines deck f reached none good =
-    let last = deck_last deck f good in
-    let volume = volume_parts deck.blocks deck.accounts (model.volume_files deck) last.before.volume in
-    let taken = file_taken deck f volume.0 last.fits in
-    record {
-      front = InFile deck f;
-      at = refl;
-      leads = leads_both Nothing lines reached.front (file_lines f) (InFile deck f) reached.leads
-          (file_leads reached.front deck f (file_line_taken reached.front deck f reached.at none taken) last.short);
-    }
+  reach_file : (lines : List (List ℕ)) (deck : Deck) (f : model.File) → Reaches lines deck → deck.terminals ≡ [] → IsDeck (with_file deck f) → Reaches (lines ++ file_lines f) (with_file deck f)
+  reach_file lines deck f reached none good =
+      let last = deck_last deck f good in
+      let volume = volume_parts deck.blocks deck.accounts (model.volume_files deck) last.before.volume in
+      let taken = file_taken deck f volume.0 last.fits in
+      record {
+        front = InFile version deck f;
+        at = refl;
+        leads = leads_both Nothing lines reached.front (file_lines f) (InFile version deck f) reached.leads
+            (file_leads reached.front deck f (file_line_taken reached.front (version, deck) f reached.at none taken) last.short);
+      }
 
-abbrev with_files : Deck → List model.File → Deck
-with_files deck files = record deck { files = files }
+  abbrev with_files : Deck → List model.File → Deck
+  with_files deck files = record deck { files = files }
 
--- the first of the files are good where all are
-deck_front : (deck : Deck) (fs gs : List model.File) → IsDeck (with_files deck (fs ++ gs)) → IsDeck (with_files deck fs)
-deck_front deck fs gs good =
-    let parts = volume_parts deck.blocks deck.accounts (model.volume_files (with_files deck (fs ++ gs))) good.volume in
-    let files = files_front deck.blocks deck.accounts fs gs (files_parts deck.blocks deck.accounts (fs ++ gs) parts.1) in
-    record {
-      volume = volume_whole deck.blocks deck.accounts (model.volume_files (with_files deck fs)) parts.0 (files_whole deck.blocks deck.accounts fs files);
-      texts = all_front FitsText fs gs good.texts;
-      terminals = good.terminals;
-    }
+  -- the first of the files are good where all are
+  deck_front : (deck : Deck) (fs gs : List model.File) → IsDeck (with_files deck (fs ++ gs)) → IsDeck (with_files deck fs)
+  deck_front deck fs gs good =
+      let parts = volume_parts deck.blocks deck.accounts (model.volume_files (with_files deck (fs ++ gs))) good.volume in
+      let files = files_front deck.blocks deck.accounts fs gs (files_parts deck.blocks deck.accounts (fs ++ gs) parts.1) in
+      record {
+        volume = volume_whole deck.blocks deck.accounts (model.volume_files (with_files deck fs)) parts.0 (files_whole deck.blocks deck.accounts fs files);
+        texts = all_front FitsText fs gs good.texts;
+        terminals = good.terminals;
+      }
 
-reach_files : (lines : List (List ℕ)) (deck : Deck) (fs : List model.File) → Reaches lines deck → deck.terminals ≡ [] → IsDeck (with_files deck (deck.files ++ fs)) → Reaches (lines ++ flat_map file_lines fs) (with_files deck (deck.files ++ fs))
-reach_files lines deck [] reached none good =
-    let at : deck.files ≡ deck.files ++ [] = sym (append-nil deck.files) in
-    let no_more : lines ≡ lines ++ [] = sym (append-nil lines) in
-    subst (λ (x : List (List ℕ) × List model.File). Reaches x.0 (with_files deck x.1)) (λ i. (no_more i, at i)) reached
-reach_files lines deck (f ∷ fs) reached none good =
-    let regroup : (deck.files ++ f ∷ []) ++ fs ≡ deck.files ++ f ∷ fs = append_assoc deck.files (f ∷ []) fs in
-    let again : (lines ++ file_lines f) ++ flat_map file_lines fs ≡ lines ++ (file_lines f ++ flat_map file_lines fs) = append_assoc lines (file_lines f) (flat_map file_lines fs) in
-    let all : IsDeck (with_files deck ((deck.files ++ f ∷ []) ++ fs)) = subst (λ (x : List model.File). IsDeck (with_files deck x)) (sym regroup) good in
-    let one = reach_file lines deck f reached none (deck_front deck (deck.files ++ f ∷ []) fs all) in
-    subst (λ (x : List (List ℕ) × List model.File). Reaches x.0 (with_files deck x.1)) (λ i. (again i, regroup i)) (reach_files (lines ++ file_lines f) (with_file deck f) fs one none all)
+  reach_files : (lines : List (List ℕ)) (deck : Deck) (fs : List model.File) → Reaches lines deck → deck.terminals ≡ [] → IsDeck (with_files deck (deck.files ++ fs)) → Reaches (lines ++ flat_map file_lines fs) (with_files deck (deck.files ++ fs))
+  reach_files lines deck [] reached none good =
+      let at : deck.files ≡ deck.files ++ [] = sym (append-nil deck.files) in
+      let no_more : lines ≡ lines ++ [] = sym (append-nil lines) in
+      subst (λ (x : List (List ℕ) × List model.File). Reaches x.0 (with_files deck x.1)) (λ i. (no_more i, at i)) reached
+  reach_files lines deck (f ∷ fs) reached none good =
+      let regroup : (deck.files ++ f ∷ []) ++ fs ≡ deck.files ++ f ∷ fs = append_assoc deck.files (f ∷ []) fs in
+      let again : (lines ++ file_lines f) ++ flat_map file_lines fs ≡ lines ++ (file_lines f ++ flat_map file_lines fs) = append_assoc lines (file_lines f) (flat_map file_lines fs) in
+      let all : IsDeck (with_files deck ((deck.files ++ f ∷ []) ++ fs)) = subst (λ (x : List model.File). IsDeck (with_files deck x)) (sym regroup) good in
+      let one = reach_file lines deck f reached none (deck_front deck (deck.files ++ f ∷ []) fs all) in
+      subst (λ (x : List (List ℕ) × List model.File). Reaches x.0 (with_files deck x.1)) (λ i. (again i, regroup i)) (reach_files (lines ++ file_lines f) (with_file deck f) fs one none all)
 
-reach_terminal : (lines : List (List ℕ)) (deck : Deck) (t : model.Terminal) → Reaches lines deck → AreTerminals (deck.terminals ++ t ∷ []) → Reaches (lines ++ terminal_lines t) (with_terminal deck t)
-reach_terminal lines deck t reached good =
-    let fits = terminals_last deck.terminals t good in
-    record {
-      front = InTerminal deck t;
-      at = refl;
-      leads = leads_both Nothing lines reached.front (terminal_lines t) (InTerminal deck t) reached.leads
-          (terminal_leads reached.front deck t (terminal_taken reached.front deck t reached.at fits) fits.good.keys);
-    }
+  reach_terminal : (lines : List (List ℕ)) (deck : Deck) (t : model.Terminal) → Reaches lines deck → AreTerminals (deck.terminals ++ t ∷ []) → Reaches (lines ++ terminal_lines t) (with_terminal deck t)
+  reach_terminal lines deck t reached good =
+      let fits = terminals_last deck.terminals t good in
+      record {
+        front = InTerminal version deck t;
+        at = refl;
+        leads = leads_both Nothing lines reached.front (terminal_lines t) (InTerminal version deck t) reached.leads
+            (terminal_leads reached.front deck t (terminal_taken reached.front (version, deck) t reached.at fits) fits.good.keys);
+      }
 
-abbrev with_terminals : Deck → List model.Terminal → Deck
-with_terminals deck terminals = record deck { terminals = terminals }
+  abbrev with_terminals : Deck → List model.Terminal → Deck
+  with_terminals deck terminals = record deck { terminals = terminals }
 
-reach_terminals : (lines : List (List ℕ)) (deck : Deck) (ts : List model.Terminal) → Reaches lines deck → AreTerminals (deck.terminals ++ ts) → Reaches (lines ++ flat_map terminal_lines ts) (with_terminals deck (deck.terminals ++ ts))
-reach_terminals lines deck [] reached good =
-    let at : deck.terminals ≡ deck.terminals ++ [] = sym (append-nil deck.terminals) in
-    let no_more : lines ≡ lines ++ [] = sym (append-nil lines) in
-    subst (λ (x : List (List ℕ) × List model.Terminal). Reaches x.0 (with_terminals deck x.1)) (λ i. (no_more i, at i)) reached
-reach_terminals lines deck (t ∷ ts) reached good =
-    let regroup : (deck.terminals ++ t ∷ []) ++ ts ≡ deck.terminals ++ t ∷ ts = append_assoc deck.terminals (t ∷ []) ts in
-    let again : (lines ++ terminal_lines t) ++ flat_map terminal_lines ts ≡ lines ++ (terminal_lines t ++ flat_map terminal_lines ts) = append_assoc lines (terminal_lines t) (flat_map terminal_lines ts) in
-    let all : AreTerminals ((deck.terminals ++ t ∷ []) ++ ts) = subst AreTerminals (sym regroup) good in
-    let one = reach_terminal lines deck t reached (terminals_front (deck.terminals ++ t ∷ []) ts all) in
-    subst (λ (x : List (List ℕ) × List model.Terminal). Reaches x.0 (with_terminals deck x.1)) (λ i. (again i, regroup i)) (reach_terminals (lines ++ terminal_lines t) (with_terminal deck t) ts one all)
+  reach_terminals : (lines : List (List ℕ)) (deck : Deck) (ts : List model.Terminal) → Reaches lines deck → AreTerminals (deck.terminals ++ ts) → Reaches (lines ++ flat_map terminal_lines ts) (with_terminals deck (deck.terminals ++ ts))
+  reach_terminals lines deck [] reached good =
+      let at : deck.terminals ≡ deck.terminals ++ [] = sym (append-nil deck.terminals) in
+      let no_more : lines ≡ lines ++ [] = sym (append-nil lines) in
+      subst (λ (x : List (List ℕ) × List model.Terminal). Reaches x.0 (with_terminals deck x.1)) (λ i. (no_more i, at i)) reached
+  reach_terminals lines deck (t ∷ ts) reached good =
+      let regroup : (deck.terminals ++ t ∷ []) ++ ts ≡ deck.terminals ++ t ∷ ts = append_assoc deck.terminals (t ∷ []) ts in
+      let again : (lines ++ terminal_lines t) ++ flat_map terminal_lines ts ≡ lines ++ (terminal_lines t ++ flat_map terminal_lines ts) = append_assoc lines (terminal_lines t) (flat_map terminal_lines ts) in
+      let all : AreTerminals ((deck.terminals ++ t ∷ []) ++ ts) = subst AreTerminals (sym regroup) good in
+      let one = reach_terminal lines deck t reached (terminals_front (deck.terminals ++ t ∷ []) ts all) in
+      subst (λ (x : List (List ℕ) × List model.Terminal). Reaches x.0 (with_terminals deck x.1)) (λ i. (again i, regroup i)) (reach_terminals (lines ++ terminal_lines t) (with_terminal deck t) ts one all)
 
-abbrev head : ℕ → List (List ℕ)
-head blocks = line_of Version ∷ line_of (Disk (decimal blocks)) ∷ []
+  abbrev head : ℕ → List (List ℕ)
+  head blocks = line_of (Heading version) ∷ line_of (Disk (decimal blocks)) ∷ []
 
-head_leads : (blocks : ℕ) (accounts : List AccountEntry) → GoodVolume blocks accounts → Leads Nothing (head blocks) (InAccounts (with_accounts blocks []))
-head_leads blocks accounts good =
-    leads_both Nothing (line_of Version ∷ []) Versioned (line_of (Disk (decimal blocks)) ∷ []) (InAccounts (with_accounts blocks []))
-    (leads_line Nothing (line_of Version) Versioned (line_behind Nothing Version tt refl refl))
-    (leads_line Versioned (line_of (Disk (decimal blocks))) (InAccounts (with_accounts blocks [])) (disk_behind blocks good.size))
+  head_leads : (blocks : ℕ) (accounts : List AccountEntry) → GoodVolume blocks accounts → Leads Nothing (head blocks) (InAccounts version (with_accounts blocks []))
+  head_leads blocks accounts good =
+      leads_both Nothing (line_of (Heading version) ∷ []) (Versioned version) (line_of (Disk (decimal blocks)) ∷ []) (InAccounts version (with_accounts blocks []))
+      (leads_line Nothing (line_of (Heading version)) (Versioned version) (heading_behind version))
+      (leads_line (Versioned version) (line_of (Disk (decimal blocks))) (InAccounts version (with_accounts blocks [])) (disk_behind version blocks good.size))
 
-groups_reach : (deck : Deck) → IsDeck deck → Reaches (group_lines deck) deck
-groups_reach deck good =
-    let volume = volume_parts deck.blocks deck.accounts (model.volume_files deck) good.volume in
-    let accounts : List (List ℕ) = map account_line deck.accounts in
-    let files : List (List ℕ) = flat_map file_lines deck.files in
-    let terminals : List (List ℕ) = flat_map terminal_lines deck.terminals in
-    let base : Deck = with_accounts deck.blocks deck.accounts in
-    let start : Reaches (head deck.blocks ++ accounts) base =
-    record {
-      front = InAccounts base;
-      at = refl;
-      leads = leads_both Nothing (head deck.blocks) (InAccounts (with_accounts deck.blocks [])) accounts (InAccounts base) (head_leads deck.blocks deck.accounts volume.0) (accounts_lead deck.blocks [] deck.accounts volume.0);
-    } in
-    let no_terminals : IsDeck (with_files base deck.files) = record { volume = good.volume; texts = good.texts; terminals = terminals_front [] deck.terminals good.terminals } in
-    let filed = reach_files (head deck.blocks ++ accounts) base deck.files start refl no_terminals in
-    let all = reach_terminals ((head deck.blocks ++ accounts) ++ files) (with_files base deck.files) deck.terminals filed good.terminals in
-    subst (λ (lines : List (List ℕ)). Reaches lines deck) (append_assoc (head deck.blocks ++ accounts) files terminals ∙ append_assoc (head deck.blocks) accounts (files ++ terminals)) all
+  groups_reach : (deck : Deck) → IsDeckIn version deck → Reaches (group_lines version deck) deck
+  groups_reach deck is =
+      let good = is.is_deck in
+      let volume = volume_parts deck.blocks deck.accounts (model.volume_files deck) good.volume in
+      let accounts : List (List ℕ) = map (account_line version) deck.accounts in
+      let files : List (List ℕ) = flat_map file_lines deck.files in
+      let terminals : List (List ℕ) = flat_map terminal_lines deck.terminals in
+      let base : Deck = with_accounts deck.blocks deck.accounts in
+      let start : Reaches (head deck.blocks ++ accounts) base =
+      record {
+        front = InAccounts version base;
+        at = refl;
+        leads = leads_both Nothing (head deck.blocks) (InAccounts version (with_accounts deck.blocks [])) accounts (InAccounts version base) (head_leads deck.blocks deck.accounts volume.0) (accounts_lead version deck.blocks [] deck.accounts volume.0 is.quotas);
+      } in
+      let no_terminals : IsDeck (with_files base deck.files) = record { volume = good.volume; texts = good.texts; terminals = terminals_front [] deck.terminals good.terminals } in
+      let filed = reach_files (head deck.blocks ++ accounts) base deck.files start refl no_terminals in
+      let all = reach_terminals ((head deck.blocks ++ accounts) ++ files) (with_files base deck.files) deck.terminals filed good.terminals in
+      subst (λ (lines : List (List ℕ)). Reaches lines deck) (append_assoc (head deck.blocks ++ accounts) files terminals ∙ append_assoc (head deck.blocks) accounts (files ++ terminals)) all
 
--- a front at which there are no files and no terminals is that of the accounts
-at_accounts : (front : Front) (deck : Deck) → IsAt front deck → deck.files ≡ [] → deck.terminals ≡ [] → front ≡ InAccounts deck
-at_accounts (InAccounts own) deck at no_file none = ap InAccounts at
-at_accounts (InFile own file) deck at no_file none = absurd (one_more own.files file (ap (λ (d : Deck). d.files) at ∙ no_file))
-at_accounts (InTerminal own terminal) deck at no_file none = absurd (one_more own.terminals terminal (ap (λ (d : Deck). d.terminals) at ∙ none))
-at_accounts front deck at no_file none = absurd at
+  -- a front at which there are no files and no terminals is that of the accounts
+  at_accounts : (front : Front) (deck : Deck) → IsAt front (version, deck) → deck.files ≡ [] → deck.terminals ≡ [] → front ≡ InAccounts version deck
+  at_accounts (InAccounts other own) deck at no_file none = ap (λ (d : Version × Deck). InAccounts d.0 d.1) at
+  at_accounts (InFile other own file) deck at no_file none = absurd (one_more own.files file (ap (λ (d : Version × Deck). d.1.files) at ∙ no_file))
+  at_accounts (InTerminal other own terminal) deck at no_file none = absurd (one_more own.terminals terminal (ap (λ (d : Version × Deck). d.1.terminals) at ∙ none))
+  at_accounts front deck at no_file none = absurd at
 
 -- the lines of a front lead to it
 front_leads : (front : Front) → IsFront front → Leads Nothing (front_lines front) front
 front_leads Nothing is = leads_none _ _ refl
-front_leads Versioned is = leads_line Nothing (line_of Version) Versioned (line_behind Nothing Version tt refl refl)
-front_leads (InAccounts deck) is =
-    let reached = groups_reach deck is.0 in
-    subst (λ (f : Front). Leads Nothing (group_lines deck) f) (at_accounts reached.front deck reached.at is.1 is.2) reached.leads
-front_leads (InFile deck file) is =
-    let last = deck_last deck file is.0 in
+front_leads (Versioned version) is = leads_line Nothing (line_of (Heading version)) (Versioned version) (heading_behind version)
+front_leads (InAccounts version deck) is =
+    let reached = groups_reach version deck is.0 in
+    subst (λ (f : Front). Leads Nothing (group_lines version deck) f) (at_accounts version reached.front deck reached.at is.1 is.2) reached.leads
+front_leads (InFile version deck file) is =
+    let last = deck_last deck file is.0.is_deck in
     let volume = volume_parts deck.blocks deck.accounts (model.volume_files deck) last.before.volume in
     let taken = file_taken deck file volume.0 last.fits in
-    let reached = groups_reach deck last.before in
-    leads_both Nothing (group_lines deck) reached.front (file_lines file) (InFile deck file) reached.leads
-    (file_leads reached.front deck file (file_line_taken reached.front deck file reached.at is.1 taken) last.short)
-front_leads (InTerminal deck terminal) is =
-    let fits = terminals_last deck.terminals terminal is.terminals in
-    let good : IsDeck deck = record { volume = is.volume; texts = is.texts; terminals = terminals_front deck.terminals (terminal ∷ []) is.terminals } in
-    let reached = groups_reach deck good in
-    leads_both Nothing (group_lines deck) reached.front (terminal_lines terminal) (InTerminal deck terminal) reached.leads
-    (terminal_leads reached.front deck terminal (terminal_taken reached.front deck terminal reached.at fits) fits.good.keys)
-front_leads (Whole deck) is =
-    let reached = groups_reach deck is in
-    leads_both Nothing (group_lines deck) reached.front (line_of End ∷ []) (Whole deck) reached.leads
-    (leads_line reached.front (line_of End) (Whole deck) (end_taken reached.front deck reached.at))
+    let reached = groups_reach version deck (record { is_deck = last.before; quotas = is.0.quotas }) in
+    leads_both Nothing (group_lines version deck) reached.front (file_lines file) (InFile version deck file) reached.leads
+    (file_leads version reached.front deck file (file_line_taken reached.front (version, deck) file reached.at is.1 taken) last.short)
+front_leads (InTerminal version deck terminal) is =
+    let fits = terminals_last deck.terminals terminal is.is_deck.terminals in
+    let good : IsDeck deck = record { volume = is.is_deck.volume; texts = is.is_deck.texts; terminals = terminals_front deck.terminals (terminal ∷ []) is.is_deck.terminals } in
+    let reached = groups_reach version deck (record { is_deck = good; quotas = is.quotas }) in
+    leads_both Nothing (group_lines version deck) reached.front (terminal_lines terminal) (InTerminal version deck terminal) reached.leads
+    (terminal_leads version reached.front deck terminal (terminal_taken reached.front (version, deck) terminal reached.at fits) fits.good.keys)
+front_leads (Whole version deck) is =
+    let reached = groups_reach version deck is in
+    leads_both Nothing (group_lines version deck) reached.front (line_of End ∷ []) (Whole version deck) reached.leads
+    (leads_line reached.front (line_of End) (Whole version deck) (end_taken reached.front (version, deck) reached.at))
 
 -- what is told of bytes whose lines begin by those of a front
 verdict_behind : (bytes : List ℕ) (front : Front) (rest : List (List ℕ)) → IsFront front → whole_lines bytes ≡ front_lines front ++ rest → verdict bytes ≡ reading front (length (front_lines front) + 1) rest (cut_line bytes)
@@ -310,18 +320,19 @@ verdict_behind bytes front rest is e =
 pub spelled_told : (bytes : List ℕ) (deck : Deck) → Spelled bytes deck → verdict bytes ≡ Spells deck
 unfolding reading
 spelled_told bytes deck s =
-    verdict_behind bytes (Whole deck) [] s.is_deck (s.lines_are ∙ sym (append-nil (deck_lines deck)))
-    ∙ ap (λ (cut : List ℕ). at_end (Whole deck) (length (deck_lines deck) + 1) cut) s.ends
+    let lines = deck_lines s.version deck in
+    verdict_behind bytes (Whole s.version deck) [] s.is_deck (s.lines_are ∙ sym (append-nil lines))
+    ∙ ap (λ (cut : List ℕ). at_end (Whole s.version deck) (length lines + 1) cut) s.ends
 
 stops_told : (front : Front) (number : ℕ) (rest : List (List ℕ)) (cut : List ℕ) (why : DeckCause) → StopsAt front rest cut why → reading front number rest cut ≡ Refuses number why
 unfolding reading
-stops_told (Whole deck) number [] [] why stops = absurd (omega (arith, stops.0))
-stops_told (Whole deck) number [] (b ∷ cut) why stops = ap (Refuses number) (sym stops.1)
+stops_told (Whole version deck) number [] [] why stops = absurd (omega (arith, stops.0))
+stops_told (Whole version deck) number [] (b ∷ cut) why stops = ap (Refuses number) (sym stops.1)
 stops_told Nothing number [] cut why stops = ap (Refuses number) (sym stops)
-stops_told Versioned number [] cut why stops = ap (Refuses number) (sym stops)
-stops_told (InAccounts deck) number [] cut why stops = ap (Refuses number) (sym stops)
-stops_told (InFile deck file) number [] cut why stops = ap (Refuses number) (sym stops)
-stops_told (InTerminal deck terminal) number [] cut why stops = ap (Refuses number) (sym stops)
+stops_told (Versioned version) number [] cut why stops = ap (Refuses number) (sym stops)
+stops_told (InAccounts version deck) number [] cut why stops = ap (Refuses number) (sym stops)
+stops_told (InFile version deck file) number [] cut why stops = ap (Refuses number) (sym stops)
+stops_told (InTerminal version deck terminal) number [] cut why stops = ap (Refuses number) (sym stops)
 stops_told front number (line ∷ lines) cut why stops =
     ap (λ (r : Result Front DeckCause). onwards r number (λ next. reading next (number + 1) lines cut)) (refused_behind front line why stops)
 
@@ -342,18 +353,18 @@ record Stopped (all : List (List ℕ)) (cut : List ℕ) (line : ℕ) (why : Deck
   stops : StopsAt front rest cut why
 
 abbrev IsSo : List (List ℕ) → List ℕ → Verdict → Type 0
-IsSo all cut (Spells deck) = IsDeck deck × (all ≡ deck_lines deck) × (cut ≡ [])
+IsSo all cut (Spells deck) = (version : Version) × IsDeckIn version deck × (all ≡ deck_lines version deck) × (cut ≡ [])
 IsSo all cut (Refuses line why) = Stopped all cut line why
 
 module _ (all : List (List ℕ)) where
   end_so : (front : Front) (number : ℕ) (cut : List ℕ) → IsFront front → number ≡ length (front_lines front) + 1 → all ≡ front_lines front ++ [] → IsSo all cut (at_end front number cut)
-  end_so (Whole deck) number [] is place lines = (is, lines ∙ append-nil (deck_lines deck), refl)
-  end_so (Whole deck) number (b ∷ cut) is place lines = record { front = Whole deck; rest = []; is_front = is; lines_are = lines; line_is = place; stops = (omega arith, refl) }
+  end_so (Whole version deck) number [] is place lines = (version, is, lines ∙ append-nil (deck_lines version deck), refl)
+  end_so (Whole version deck) number (b ∷ cut) is place lines = record { front = Whole version deck; rest = []; is_front = is; lines_are = lines; line_is = place; stops = (omega arith, refl) }
   end_so Nothing number cut is place lines = record { front = Nothing; rest = []; is_front = is; lines_are = lines; line_is = place; stops = refl }
-  end_so Versioned number cut is place lines = record { front = Versioned; rest = []; is_front = is; lines_are = lines; line_is = place; stops = refl }
-  end_so (InAccounts deck) number cut is place lines = record { front = InAccounts deck; rest = []; is_front = is; lines_are = lines; line_is = place; stops = refl }
-  end_so (InFile deck file) number cut is place lines = record { front = InFile deck file; rest = []; is_front = is; lines_are = lines; line_is = place; stops = refl }
-  end_so (InTerminal deck terminal) number cut is place lines = record { front = InTerminal deck terminal; rest = []; is_front = is; lines_are = lines; line_is = place; stops = refl }
+  end_so (Versioned version) number cut is place lines = record { front = Versioned version; rest = []; is_front = is; lines_are = lines; line_is = place; stops = refl }
+  end_so (InAccounts version deck) number cut is place lines = record { front = InAccounts version deck; rest = []; is_front = is; lines_are = lines; line_is = place; stops = refl }
+  end_so (InFile version deck file) number cut is place lines = record { front = InFile version deck file; rest = []; is_front = is; lines_are = lines; line_is = place; stops = refl }
+  end_so (InTerminal version deck terminal) number cut is place lines = record { front = InTerminal version deck terminal; rest = []; is_front = is; lines_are = lines; line_is = place; stops = refl }
 
   -- the front behind a line that is taken, and what the lines are then
   next_follows : (front next : Front) (line : List ℕ) → IsFront front → Takes front line next → Follows next front line
@@ -377,7 +388,7 @@ verdict_so bytes v e = subst (IsSo (whole_lines bytes) (cut_line bytes)) e (read
 pub told_spelled : (bytes : List ℕ) (deck : Deck) → verdict bytes ≡ Spells deck → Spelled bytes deck
 told_spelled bytes deck e =
     let so = verdict_so bytes (Spells deck) e in
-    record { is_deck = so.0; lines_are = so.1; ends = so.2 }
+    record { version = so.0; is_deck = so.1; lines_are = so.2; ends = so.3 }
 
 pub told_refused : (bytes : List ℕ) (line : ℕ) (why : DeckCause) → verdict bytes ≡ Refuses line why → Refused bytes line why
 told_refused bytes line why e =

@@ -10,9 +10,9 @@ use Rattle.monitor_calls.specs.declared.names.Account.{Account}
 use Rattle.monitor_calls.specs.declared.volumes.AccountEntry.{AccountEntry}
 use Rattle.monitor_calls.specs.declared.files.FileEntry.{FileEntry}
 use Rattle.monitor_calls.specs.Names.{is_password}
-use Rattle.monitor_calls.specs.Volumes.{same_account, has_account, are_apart, is_between, is_good_entry, are_good_accounts, are_good_files, is_good_volume}
+use Rattle.monitor_calls.specs.Volumes.{same_account, has_account, are_apart, is_between, is_good_entry, are_good_accounts, are_in_quota, are_good_files, is_good_volume}
 use Rattle.deck_model.specs.Deck.{Terminal, IsTerminal, AreTerminals, has_terminal, are_named_apart}
-use Rattle.text_cuts.proofs.CutLaws.{and_left, and_right, and_both}
+use Rattle.basic_values.proofs.CutLaws.{and_left, and_right, and_both}
 
 -- ---- tests
 
@@ -41,6 +41,10 @@ and_swap true false true d = refl
 and_swap true false false d = refl
 and_swap false b c d = refl
 
+pub or_none : (a b : Bool) → (a || b) ≡ false → (a ≡ false) × (b ≡ false)
+or_none true b e = absurd (cc)
+or_none false b e = (refl, e)
+
 same_sides : (a b : Bool) → (a ≡ true → b ≡ true) → (b ≡ true → a ≡ true) → a ≡ b
 same_sides true true f g = refl
 same_sides true false f g = absurd (let e : false ≡ true = f refl in cc)
@@ -54,6 +58,12 @@ eq_turned a b = same_sides (eqb a b) (eqb b a) (λ e. eq-eqb b a (sym (eqb-true 
 
 pub account_turned : (a b : Account) → same_account a b ≡ same_account b a
 account_turned a b = λ i. eq_turned a.project b.project i && eq_turned a.programmer b.programmer i
+
+pub account_same : (a b : Account) → same_account a b ≡ true → a ≡ b
+account_same a b same =
+    let project : a.project ≡ b.project = eqb-true _ _ (and_left (eqb a.project b.project) (eqb a.programmer b.programmer) same) in
+    let programmer : a.programmer ≡ b.programmer = eqb-true _ _ (and_right (eqb a.project b.project) (eqb a.programmer b.programmer) same) in
+    λ i. record { project = project i; programmer = programmer i }
 
 apart_push : (xs : List AccountEntry) (e : AccountEntry) → are_apart (xs ++ e ∷ []) ≡ (are_apart xs && not (has_account xs e.account))
 apart_push [] e = refl
@@ -86,7 +96,8 @@ entry_owner e good =
     let p : Bool = is_between 1 254 e.account.project in
     let n : Bool = nat_le e.account.programmer 254 in
     let w : Bool = is_password e.password in
-    let b = and_left (p && n) w (and_left (p && n && w) (is_between 1 16384 e.limit) good) in
+    let l : Bool = is_between 1 16384 e.limit in
+    let b = and_left (p && n) w (and_left (p && n && w) l (and_left (p && n && w && l) (nat_le e.quota 16384) good)) in
     record {
       least = and_left (nat_le 1 e.account.project) (nat_le e.account.project 254) (and_left p n b);
       project = and_right (nat_le 1 e.account.project) (nat_le e.account.project 254) (and_left p n b);
@@ -94,14 +105,7 @@ entry_owner e good =
     }
 
 same_owner : (a b : Account) → same_account a b ≡ true → IsOwner a → IsOwner b
-same_owner a b same owner =
-    let project : a.project ≡ b.project = eqb-true _ _ (and_left (eqb a.project b.project) (eqb a.programmer b.programmer) same) in
-    let programmer : a.programmer ≡ b.programmer = eqb-true _ _ (and_right (eqb a.project b.project) (eqb a.programmer b.programmer) same) in
-    record {
-      least = subst (λ n. nat_le 1 n ≡ true) project owner.least;
-      project = subst (λ n. nat_le n 254 ≡ true) project owner.project;
-      programmer = subst (λ n. nat_le n 254 ≡ true) programmer owner.programmer;
-    }
+same_owner a b same owner = subst IsOwner (account_same a b same) owner
 
 -- an account among good ones is in its ranges
 pub owner_ranges : (accounts : List AccountEntry) (a : Account) → list_all is_good_entry accounts ≡ true → has_account accounts a ≡ true → IsOwner a
@@ -137,8 +141,12 @@ volume_parts blocks accounts files good =
       and_right (size && are_good_accounts accounts) (are_good_files blocks accounts files) good,
     )
 
+none_owned : (accounts : List AccountEntry) → are_in_quota accounts [] ≡ true
+none_owned [] = refl
+none_owned (e ∷ es) = and_both (nat_le 0 e.quota) (are_in_quota es []) (le-leb 0 e.quota (omega arith)) (none_owned es)
+
 pub no_files : (blocks : ℕ) (accounts : List AccountEntry) → are_good_files blocks accounts [] ≡ true
-no_files blocks accounts = le-leb 0 blocks (omega arith)
+no_files blocks accounts = and_both (nat_le 0 blocks) (are_in_quota accounts []) (le-leb 0 blocks (omega arith)) (none_owned accounts)
 
 pub volume_whole : (blocks : ℕ) (accounts : List AccountEntry) (files : List FileEntry) → GoodVolume blocks accounts → are_good_files blocks accounts files ≡ true → is_good_volume blocks accounts files ≡ true
 volume_whole blocks accounts files v good = rw (v.size, le-leb (length accounts) 512 v.few, v.each, v.apart) good

@@ -1,9 +1,10 @@
 -- Files of a deck, and what they have on the disk.
-use Rattle.std.specs.Prelude.{ℕ, zero, suc, ◌+◌, ◌-◌, ◌*◌, ◌≤◌, Bool, List, [], ◌∷◌, ◌++◌, length, take, drop, replicate, codes}
+use Rattle.std.specs.Prelude.{ℕ, zero, suc, ◌+◌, ◌-◌, ◌*◌, ◌≤◌, Bool, if◌then◌else◌, List, [], ◌∷◌, ◌++◌, length, take, drop, replicate, codes}
 use Rattle.std.specs.List.{flat_map, list_any}
+use Rattle.monitor_calls.specs.declared.names.Account.{Account}
 use Rattle.monitor_calls.specs.declared.files.FileName.{FileName}
 use Rattle.monitor_calls.specs.declared.files.FileEntry.{FileEntry}
-use Rattle.monitor_calls.specs.FileNames.{same_name}
+use Rattle.monitor_calls.specs.FileNames.{same_name, same_account}
 
 -- a file's name and code, how many blocks of 512 bytes it has, and the lines of its text
 pub record File : Type 0 where
@@ -46,3 +47,11 @@ has_file files name = list_any (λ (file : File). same_name file.name name) file
 abbrev pub blocks_in : List File → ℕ
 blocks_in [] = 0
 blocks_in (file ∷ files) = file.blocks + blocks_in files
+
+-- the blocks of a file, where it is the owner's; and those of all files of an owner
+abbrev pub blocks_by : File → Account → ℕ
+blocks_by file owner = if same_account file.name.owner owner then file.blocks else 0
+
+abbrev pub blocks_in_by : List File → Account → ℕ
+blocks_in_by [] owner = 0
+blocks_in_by (file ∷ files) owner = blocks_by file owner + blocks_in_by files owner

@@ -1,12 +1,13 @@
 -- The text of a history: how many entries it has, and a line for each.
 use Rattle.std.specs.Prelude.{ℕ, ◌+◌, ◌/◌, ◌%◌, Bool, true, false, nat_lt, if◌then◌else◌, List, [], ◌∷◌, ◌++◌, length, Option, Some, None, codes}
+use Rattle.std.specs.List.{flat_map}
 use Rattle.std.specs.Fmt.{decimal}
 use Rattle.monitor_calls.specs.declared.names.Account.{Account}
 use Rattle.monitor_calls.specs.declared.calls.Entry.{Entry}
 use Rattle.monitor_calls.specs.declared.calls.Request.{Request}
-use Rattle.monitor_calls.specs.declared.calls.Request.TheVariants.{Login, Logout, OpenFile, CloseFile, Get, Put, Unlock, Kill, Rename, Directory, Declare, Remove, Send, Receive, Sleep, Tick, Status}
+use Rattle.monitor_calls.specs.declared.calls.Request.TheVariants.{Login, Logout, OpenFile, CloseFile, Get, Put, GetRecord, PutRecord, Unlock, Kill, Rename, Directory, Declare, Remove, Send, Receive, Sleep, Tick, Assign, Deassign, OpenPrinter, Print, ClosePrinter, Status}
 use Rattle.monitor_calls.specs.declared.calls.Reply.{Reply}
-use Rattle.monitor_calls.specs.declared.calls.Reply.TheVariants.{Done, Opened, Block, Name, Message, State, Failed, Expired}
+use Rattle.monitor_calls.specs.declared.calls.Reply.TheVariants.{Done, Opened, Block, Record, Name, Message, State, Failed, Expired}
 use Rattle.monitor_calls.specs.declared.files.FileName.{FileName}
 use Rattle.monitor_calls.specs.declared.files.OpenKind.{OpenKind}
 use Rattle.monitor_calls.specs.declared.files.OpenKind.TheVariants.{Input, Output, Either, Fresh}
@@ -25,6 +26,11 @@ hex_text (byte ∷ bytes) = hex_sign (byte / 16) ∷ hex_sign (byte % 16) ∷ he
 abbrev pub hex_or_dash : List ℕ → List ℕ
 hex_or_dash [] = codes "-"
 hex_or_dash (byte ∷ bytes) = hex_text (byte ∷ bytes)
+
+-- the blocks of a record one behind the other, and a dash where it has none
+abbrev pub pages_text : List (List ℕ) → List ℕ
+pages_text [] = codes "-"
+pages_text (page ∷ pages) = flat_map hex_text (page ∷ pages)
 
 -- p,n
 abbrev pub account_digits : Account → List ℕ
@@ -69,6 +75,10 @@ request_text (OpenFile channel name kind update code) =
 request_text (CloseFile channel) = codes "CLOSE" ++ fields (decimal channel ∷ [])
 request_text (Get channel block) = codes "GET" ++ fields (decimal channel ∷ decimal block ∷ [])
 request_text (Put channel block page) = codes "PUT" ++ fields (decimal channel ∷ decimal block ∷ hex_or_dash page ∷ [])
+request_text (GetRecord channel block count) =
+    codes "GETREC" ++ fields (decimal channel ∷ decimal block ∷ decimal count ∷ [])
+request_text (PutRecord channel block pages) =
+    codes "PUTREC" ++ fields (decimal channel ∷ decimal block ∷ pages_text pages ∷ [])
 request_text (Unlock channel) = codes "UNLOCK" ++ fields (decimal channel ∷ [])
 request_text (Kill name) = codes "KILL" ++ fields (printed_name name ∷ [])
 request_text (Rename old new code) = codes "RENAME" ++ fields (printed_name old ∷ printed_name new ∷ number_or_dash code ∷ [])
@@ -79,6 +89,11 @@ request_text (Send name text) = codes "SEND" ++ fields (letters_or_dash name ∷
 request_text Receive = codes "RECEIVE"
 request_text (Sleep seconds) = codes "SLEEP" ++ fields (decimal seconds ∷ [])
 request_text Tick = codes "TICK"
+request_text Assign = codes "ASSIGN"
+request_text Deassign = codes "DEASSIGN"
+request_text OpenPrinter = codes "LPOPEN"
+request_text (Print text) = codes "LPPRINT" ++ fields (hex_or_dash text ∷ [])
+request_text ClosePrinter = codes "LPCLOSE"
 request_text Status = codes "STATUS"
 
 abbrev pub reply_text : Reply → List ℕ
@@ -86,6 +101,7 @@ reply_text Done = codes "DONE"
 reply_text (Opened blocks read write) =
     codes "OPENED" ++ fields (decimal blocks ∷ truth_text read ∷ truth_text write ∷ [])
 reply_text (Block page) = codes "BLOCK" ++ fields (hex_or_dash page ∷ [])
+reply_text (Record pages) = codes "RECORD" ++ fields (pages_text pages ∷ [])
 reply_text (Name name code blocks) = codes "NAME" ++ fields (printed_name name ∷ decimal code ∷ number_or_dash blocks ∷ [])
 reply_text (Message job account text) =
     codes "MESSAGE" ++ fields (decimal job ∷ account_digits account ∷ hex_or_dash text ∷ [])

@@ -1,11 +1,13 @@
 -- Reading the lines of a deck in their order. No promise of the program speaks of it.
 use Rattle.std.specs.Prelude.{ℕ, ◌+◌, Bool, ◌&&◌, if◌then◌else◌, List, [], ◌∷◌, Option, Some, None, Result, Ok, Err, unwrap_or, bytes_eq, codes}
-use Rattle.text_cuts.specs.Cuts.{◌>>=◌, behind, cut}
+use Rattle.basic_values.specs.Cuts.{◌>>=◌, behind, cut}
 use Rattle.deck_model.specs.declared.faults.DeckCause.{DeckCause}
 use Rattle.deck_model.specs.declared.faults.DeckCause.TheVariants as cause
+use Rattle.deck_model.specs.declared.versions.Version.{Version}
+use Rattle.deck_model.specs.declared.versions.Version.TheVariants.{One, Two}
 use Rattle.deck_model.specs.Deck.{Deck}
 use Rattle.deck_model.specs.Lines.{whole_lines, cut_line}
-use Rattle.deck_model.specs.Forms.{Form, Version, Disk, Account, File, Terminal, Keys, End, AccountTexts, FileTexts, is_numeral, is_name}
+use Rattle.deck_model.specs.Forms.{Form, Heading, Disk, Account, File, Terminal, Keys, End, AccountTexts, FileTexts, heading, is_numeral, is_numeral_or_none, is_name}
 use Rattle.deck_model.specs.Fronts.{Front, Nothing, Versioned, InAccounts, InFile, InTerminal, Whole, adds}
 use Rattle.deck_model.specs.Refusals.{causes, first_cause, shape_cause}
 
@@ -17,32 +19,43 @@ or_else (Some a) other = Some a
 -- FORMS
 
 unfoldable pub version_in : List ℕ → Option Form
-version_in line = if bytes_eq line (codes "RSTS-DECK 1") then Some Version else None
+version_in line =
+    if bytes_eq line (heading One) then Some (Heading One)
+    else if bytes_eq line (heading Two) then Some (Heading Two) else None
 
 unfoldable pub disk_in : List ℕ → Option Form
 disk_in line = do
   blocks ← behind (codes "DISK ") line
   if is_numeral blocks then Some (Disk blocks) else None
 
+-- the limit of an account's calls, and in version 2 its quota
+abbrev pub limits_in : Version → List ℕ → Option (List ℕ × Option (List ℕ))
+limits_in One text = Some (text, None)
+limits_in Two text = do
+  parts ← cut 32 text
+  Some (parts.0, Some parts.1)
+
 -- the texts of the fields of an account
-unfoldable pub texts_in : List ℕ → Option AccountTexts
-texts_in line = do
+unfoldable pub texts_in : Version → List ℕ → Option AccountTexts
+texts_in version line = do
   fields ← behind (codes "ACCOUNT ") line
   project ← cut 44 fields
   programmer ← cut 32 project.1
   password ← cut 32 programmer.1
+  limits ← limits_in version password.1
   Some (record {
     project = project.0;
     programmer = programmer.0;
     password = password.0;
-    limit = password.1;
+    limit = limits.0;
+    quota = limits.1;
   })
 
-unfoldable pub account_in : List ℕ → Option Form
-account_in line = do
-  texts ← texts_in line
+unfoldable pub account_in : Version → List ℕ → Option Form
+account_in version line = do
+  texts ← texts_in version line
   if is_numeral texts.project && is_numeral texts.programmer && is_name texts.password
-      && is_numeral texts.limit
+      && is_numeral texts.limit && is_numeral_or_none texts.quota
       then Some (Account texts) else None
 
 -- the stem of a file's name, and its extension behind the first point
@@ -96,9 +109,10 @@ unfoldable pub end_in : List ℕ → Option Form
 end_in line = if bytes_eq line (codes "END") then Some End else None
 
 -- a form among those of accounts
-unfoldable pub groups_in : List ℕ → Option Form
-groups_in line =
-    or_else (account_in line) (or_else (file_in line) (or_else (terminal_in line) (end_in line)))
+unfoldable pub groups_in : Version → List ℕ → Option Form
+groups_in version line =
+    or_else (account_in version line)
+    (or_else (file_in line) (or_else (terminal_in line) (end_in line)))
 
 -- a form behind a file
 unfoldable pub contents_in : List ℕ → Option Form
@@ -112,11 +126,11 @@ session_in line = or_else (keys_in line) (or_else (terminal_in line) (end_in lin
 -- the form that a line has behind a front
 unfoldable pub form_at : Front → List ℕ → Option Form
 form_at Nothing line = version_in line
-form_at Versioned line = disk_in line
-form_at (InAccounts deck) line = groups_in line
-form_at (InFile deck file) line = contents_in line
-form_at (InTerminal deck terminal) line = session_in line
-form_at (Whole deck) line = None
+form_at (Versioned version) line = disk_in line
+form_at (InAccounts version deck) line = groups_in version line
+form_at (InFile version deck file) line = contents_in line
+form_at (InTerminal version deck terminal) line = session_in line
+form_at (Whole version deck) line = None
 
 -- FRONTS
 
@@ -142,7 +156,7 @@ pub data Verdict : Type 0 where
 
 -- where the lines have ended
 abbrev pub at_end : Front → ℕ → List ℕ → Verdict
-at_end (Whole deck) line [] = Spells deck
+at_end (Whole version deck) line [] = Spells deck
 at_end front line cut = Refuses line cause.Cut
 
 -- on to the front behind a line, unless the line is refused

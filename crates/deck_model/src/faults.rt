@@ -5,7 +5,7 @@
 pub enum DeckCause {
     /// The input ends before the LF of the line, or behind a whole line without END.
     Cut,
-    /// The first line is not that of version 1.
+    /// The first line is neither that of version 1 nor that of version 2.
     Version,
     /// The line has none of the forms that may stand there.
     Shape,
@@ -16,8 +16,8 @@ pub enum DeckCause {
     Double,
     /// The account of the file was not given.
     Owner,
-    /// There are already as many as there may be, the disk has not that many blocks left, or the
-    /// text goes beyond the blocks of its file.
+    /// There are already as many as there may be, the disk has not that many blocks left, the
+    /// blocks of an account's files pass its quota, or the text goes beyond the blocks of its file.
     Space,
 }
 

@@ -1,6 +1,6 @@
 //! Decks and reports as texts: definitions, laws and the causes for which a deck is refused.
 //!
-//! `specs/Spelling` says which bytes spell which deck, `specs/Refusals` at which line and for which
+//! `specs/Spelling` says which bytes spell which deck, in two versions, `specs/Refusals` at which line and for which
 //! cause bytes that spell none are refused, in the words of `specs/Lines`, `Forms` and `Fronts`;
 //! `specs/Report` says what a run writes, and `specs/Words` what the words ask for.
 //! `specs/Reading` reads a deck line by line; no promise of the program speaks of it, and the
@@ -14,5 +14,7 @@
 
 mod faults;
 pub mod laws;
+mod versions;
 
 pub use faults::{DeckCause, DeckFault};
+pub use versions::Version;

@@ -1,25 +1,28 @@
 -- Files of a volume, as the deck has them.
 use Rattle.std.proofs.Common.{◌≡◌, ℕ, ◌+◌, ◌-◌, ◌≤◌, Bool, false, cond, List, [], ◌∷◌, ◌++◌, length, take, replicate, map, Option, Some, None, Err, refl, sym, ap, ◌∙◌, arith}
-use Rattle.std.specs.Prelude.{◌*◌, ◌||◌}
-use Rattle.std.specs.List.{concat}
+use Rattle.std.specs.Prelude.{◌*◌, ◌&&◌, ◌||◌, nat_lt}
+use Rattle.std.specs.List.{concat, list_any}
 use Rattle.std.proofs.lemmas.List.{length-append, length-replicate, map-append, take_all}
+use Rattle.monitor_calls.specs.declared.names.Account.{Account}
+use Rattle.monitor_calls.specs.declared.volumes.AccountEntry.{AccountEntry}
 use Rattle.monitor_calls.specs.declared.files.FileName.{FileName}
 use Rattle.monitor_calls.specs.declared.files.FileEntry.{FileEntry}
 use Rattle.monitor_calls.specs.FileNames.{same_name}
-use Rattle.monitor_calls.specs.Volumes.{blocks_of}
+use Rattle.monitor_calls.specs.Volumes.{same_account, blocks_of, blocks_for, blocks_owned}
 use Rattle.deck_model.specs.declared.faults.DeckCause.TheVariants as cause
-use Rattle.deck_model.specs.Files.{File, text_of, contents_of, pages_of, file_entry, has_file, blocks_in}
+use Rattle.deck_model.specs.Files.{File, text_of, contents_of, pages_of, file_entry, has_file, blocks_in, blocks_in_by}
 use Rattle.deck_model.specs.Lines.{whole_lines}
 use Rattle.deck_model.specs.Deck.{Deck}
 use Rattle.deck_model.specs.Forms.{FileTexts}
 use Rattle.deck_model.specs.Fronts.{Front, InFile, new_file}
-use Rattle.deck_model.specs.Refusals.{is_file_in_range, first_cause, filing_causes, file_causes}
+use Rattle.deck_model.specs.declared.versions.Version.{Version}
+use Rattle.deck_model.specs.Refusals.{is_file_in_range, passes_quota, first_cause, filing_causes, file_causes}
 use Rattle.deck_model.specs.Reading.{unless_refused}
-use Rattle.text_cuts.proofs.CutLaws.{guard_some}
-use Rattle.text_cuts.proofs.PlaceLemmas.{missed}
+use Rattle.basic_values.proofs.CutLaws.{guard_some}
+use Rattle.basic_values.proofs.PlaceLemmas.{missed}
 use Rattle.deck_model.proofs.FileLaws.{length-pages}
 use Rattle.deck_reader.specs.Filed.{file_of}
-use Rattle.deck_reader.specs.Seen.{is_filed}
+use Rattle.deck_reader.specs.Seen.{is_filed, is_over}
 use Rattle.deck_reader.proofs.TextLemmas.{concat-pages, lines_padded}
 
 pub filed_is : (entries : List FileEntry) (name : FileName) → is_filed entries name ≡ has_file (map file_of entries) name
@@ -30,6 +33,15 @@ filed_is (entry ∷ entries) name = ap (λ (b : Bool). same_name entry.name name
 pub blocks_are : (entries : List FileEntry) → blocks_of entries ≡ blocks_in (map file_of entries)
 blocks_are [] = refl
 blocks_are (entry ∷ entries) = ap (λ (n : ℕ). length entry.pages + n) (blocks_are entries)
+
+owned_are : (entries : List FileEntry) (owner : Account) → blocks_owned entries owner ≡ blocks_in_by (map file_of entries) owner
+owned_are [] owner = refl
+owned_are (entry ∷ entries) owner = ap (λ (n : ℕ). blocks_for entry owner + n) (owned_are entries owner)
+
+pub over_is : (accounts : List AccountEntry) (entries : List FileEntry) (file : File) → is_over accounts entries file.name.owner file.blocks ≡ passes_quota accounts (map file_of entries) file
+unfolding is_over
+over_is accounts entries file =
+    ap (λ (n : ℕ). list_any (λ (entry : AccountEntry). same_account entry.account file.name.owner && nat_lt entry.quota (n + file.blocks)) accounts) (owned_are entries file.name.owner)
 
 -- ---- a file whose text is whole
 
@@ -87,7 +99,7 @@ out_of_range deck texts front none =
     let no : is_file_in_range texts ≡ false = (missed (is_file_in_range texts) (new_file texts) (new_file texts) none).0 in
     rw no refl
 
-pub in_range : (deck : Deck) (texts : FileTexts) (file : File) → found_file texts ≡ Some file → unless_refused (InFile deck (new_file texts)) (first_cause (file_causes deck texts)) ≡ unless_refused (InFile deck file) (first_cause (filing_causes deck file))
-in_range deck texts file found =
+pub in_range : (version : Version) (deck : Deck) (texts : FileTexts) (file : File) → found_file texts ≡ Some file → unless_refused (InFile version deck (new_file texts)) (first_cause (file_causes deck texts)) ≡ unless_refused (InFile version deck file) (first_cause (filing_causes deck file))
+in_range version deck texts file found =
     let g = guard_some (is_file_in_range texts) (new_file texts) file found in
-    rw g.0 (ap (λ (f : File). unless_refused (InFile deck f) (first_cause (filing_causes deck f))) g.1)
+    rw g.0 (ap (λ (f : File). unless_refused (InFile version deck f) (first_cause (filing_causes deck f))) g.1)

@@ -1,18 +1,20 @@
 -- What a line adds to a front, by what the code finds of it.
-use Rattle.std.proofs.Common.{◌≡◌, ℕ, ◌<◌, ◌≤◌, true, false, List, length, map, Some, Ok, Err, refl, sym, ap, ◌∙◌, arith}
-use Rattle.std.specs.Prelude.{Result, nat_le}
+use Rattle.std.proofs.Common.{◌≡◌, ℕ, ◌<◌, ◌≤◌, true, false, cond, List, length, map, Some, Ok, Err, refl, sym, ap, ◌∙◌, arith}
+use Rattle.std.specs.Prelude.{Result, None, nat_le}
 use Rattle.std.proofs.lemmas.Bool.{le-leb, lt-leb}
 use Rattle.std.proofs.lemmas.List.{length-map}
 use Rattle.monitor_calls.specs.Names.{is_terminal_name}
 use Rattle.deck_model.specs.declared.faults.DeckCause.{DeckCause}
 use Rattle.deck_model.specs.declared.faults.DeckCause.TheVariants as cause
+use Rattle.deck_model.specs.declared.versions.Version.{Version}
 use Rattle.deck_model.specs.Deck as model
 use Rattle.deck_model.specs.Deck.{has_terminal}
 use Rattle.deck_model.specs.Forms as forms
 use Rattle.deck_model.specs.Forms.{Account, File, Keys, AccountTexts, FileTexts}
-use Rattle.deck_model.specs.Fronts.{Front, InAccounts, InFile, InTerminal, with_account, with_file, with_text, entry_of, new_file, new_terminal}
-use Rattle.deck_model.specs.Refusals.{first_cause, account_causes, file_causes, text_causes, terminal_causes}
-use Rattle.deck_model.specs.Reading.{groups_in, contents_in, form_at, unless_refused, behind_form, behind_line}
+use Rattle.deck_model.specs.Fronts.{Front, InAccounts, InFile, InTerminal, with_account, with_file, with_text, with_terminal, entry_of, new_file, new_terminal}
+use Rattle.deck_model.specs.Refusals.{is_in_range, first_cause, account_causes, file_causes, text_causes, terminal_causes}
+use Rattle.deck_model.specs.Reading.{groups_in, contents_in, session_in, form_at, unless_refused, behind_form, behind_line}
+use Rattle.basic_values.proofs.PlaceLemmas.{missed}
 use Rattle.deck_model.proofs.FormLaws.{form_takes}
 use Rattle.deck_reader.specs.Filed.{has_line_feed}
 use Rattle.deck_reader.specs.declared.decks.Terminal.{Terminal}
@@ -37,34 +39,49 @@ pub terminal_added : (terminals : List Terminal) (name : List ℕ) (front : Fron
 terminal_added terminals name front good new few =
     has_room (map terminal_of terminals) name front good (sym (named_is terminals name) ∙ new) (omega (arith, length-map terminals terminal_of))
 
-pub account_behind : (deck : model.Deck) (line : List ℕ) (texts : AccountTexts) → groups_in line ≡ Some (Account texts) → behind_line (InAccounts deck) line ≡ unless_refused (InAccounts (with_account deck (entry_of texts))) (first_cause (account_causes deck texts))
+pub account_behind : (version : Version) (deck : model.Deck) (line : List ℕ) (texts : AccountTexts) → groups_in version line ≡ Some (Account texts) → behind_line (InAccounts version deck) line ≡ unless_refused (InAccounts version (with_account deck (entry_of deck.blocks texts))) (first_cause (account_causes deck texts))
 unfolding behind_line behind_form form_at
-account_behind deck line texts e = rw e refl
+account_behind version deck line texts e = rw e refl
 
 -- the front behind the line of a file
-abbrev pub filed : model.Deck → FileTexts → Result Front DeckCause
-filed deck texts = unless_refused (InFile deck (new_file texts)) (first_cause (file_causes deck texts))
+abbrev pub filed : Version → model.Deck → FileTexts → Result Front DeckCause
+filed version deck texts = unless_refused (InFile version deck (new_file texts)) (first_cause (file_causes deck texts))
 
-pub file_behind : (deck : model.Deck) (line : List ℕ) (texts : FileTexts) → groups_in line ≡ Some (File texts) → behind_line (InAccounts deck) line ≡ filed deck texts
+pub file_behind : (version : Version) (deck : model.Deck) (line : List ℕ) (texts : FileTexts) → groups_in version line ≡ Some (File texts) → behind_line (InAccounts version deck) line ≡ filed version deck texts
 unfolding behind_line behind_form form_at
-file_behind deck line texts e = rw e refl
+file_behind version deck line texts e = rw e refl
 
-pub next_file_behind : (deck : model.Deck) (file : model.File) (line : List ℕ) (texts : FileTexts) → contents_in line ≡ Some (File texts) → behind_line (InFile deck file) line ≡ filed (with_file deck file) texts
+pub next_file_behind : (version : Version) (deck : model.Deck) (file : model.File) (line : List ℕ) (texts : FileTexts) → contents_in line ≡ Some (File texts) → behind_line (InFile version deck file) line ≡ filed version (with_file deck file) texts
 unfolding behind_line behind_form form_at
-next_file_behind deck file line texts e = rw e refl
+next_file_behind version deck file line texts e = rw e refl
 
-pub text_behind : (deck : model.Deck) (file : model.File) (line text : List ℕ) → contents_in line ≡ Some (Keys text) → behind_line (InFile deck file) line ≡ unless_refused (InFile deck (with_text file text)) (first_cause (text_causes file text))
+pub text_behind : (version : Version) (deck : model.Deck) (file : model.File) (line text : List ℕ) → contents_in line ≡ Some (Keys text) → behind_line (InFile version deck file) line ≡ unless_refused (InFile version deck (with_text file text)) (first_cause (text_causes file text))
 unfolding behind_line behind_form form_at
-text_behind deck file line text e = rw e refl
+text_behind version deck file line text e = rw e refl
 
-pub text_lacks : (deck : model.Deck) (file : model.File) (line text : List ℕ) → contents_in line ≡ Some (Keys text) → has_line_feed line ≡ false → has_line_feed text ≡ false
+pub text_lacks : (version : Version) (deck : model.Deck) (file : model.File) (line text : List ℕ) → contents_in line ≡ Some (Keys text) → has_line_feed line ≡ false → has_line_feed text ≡ false
 unfolding form_at
-text_lacks deck file line text e lacks = ap has_line_feed (sym (form_takes (InFile deck file) line (Keys text) e).line_is) ∙ lacks
+text_lacks version deck file line text e lacks = ap has_line_feed (sym (form_takes (InFile version deck file) line (Keys text) e).line_is) ∙ lacks
 
 -- the front behind the line of a terminal
-abbrev pub named : model.Deck → List ℕ → Result Front DeckCause
-named deck name = unless_refused (InTerminal deck (new_terminal name)) (first_cause (terminal_causes deck.terminals name))
+abbrev pub named : Version → model.Deck → List ℕ → Result Front DeckCause
+named version deck name = unless_refused (InTerminal version deck (new_terminal name)) (first_cause (terminal_causes deck.terminals name))
 
-pub named_behind : (deck : model.Deck) (file : model.File) (line name : List ℕ) → contents_in line ≡ Some (forms.Terminal name) → behind_line (InFile deck file) line ≡ named (with_file deck file) name
+pub named_behind : (version : Version) (deck : model.Deck) (file : model.File) (line name : List ℕ) → contents_in line ≡ Some (forms.Terminal name) → behind_line (InFile version deck file) line ≡ named version (with_file deck file) name
 unfolding behind_line behind_form form_at
-named_behind deck file line name e = rw e refl
+named_behind version deck file line name e = rw e refl
+
+pub first_terminal_behind : (version : Version) (deck : model.Deck) (line name : List ℕ) → groups_in version line ≡ Some (forms.Terminal name) → behind_line (InAccounts version deck) line ≡ named version deck name
+unfolding behind_line behind_form form_at
+first_terminal_behind version deck line name e = rw e refl
+
+pub next_terminal_behind : (version : Version) (deck : model.Deck) (terminal : model.Terminal) (line name : List ℕ) → session_in line ≡ Some (forms.Terminal name) → behind_line (InTerminal version deck terminal) line ≡ named version (with_terminal deck terminal) name
+unfolding behind_line behind_form form_at
+next_terminal_behind version deck terminal line name e = rw e refl
+
+-- fields of an account that are out of their ranges
+pub account_out : (deck : model.Deck) (texts : AccountTexts) (front : Front) → cond (is_in_range texts) (Some (entry_of deck.blocks texts)) None ≡ None → unless_refused front (first_cause (account_causes deck texts)) ≡ Err cause.Range
+account_out deck texts front none =
+    let entry = entry_of deck.blocks texts in
+    let no : is_in_range texts ≡ false = (missed (is_in_range texts) entry entry none).0 in
+    rw no refl

@@ -6,9 +6,9 @@ use Rattle.std.proofs.lemmas.Bool.{ltb-true, ltb-false}
 use Rattle.std.proofs.lemmas.List.Splits.{slice_split_first, slice_split_none, length-slice_split}
 use Rattle.std.proofs.lemmas.List.Sums.{fails_before_first}
 use Rattle.deck_model.specs.Lines.{lines_in, last_in, whole_lines, cut_line}
-use Rattle.text_cuts.specs.Cuts.{cut}
-use Rattle.text_cuts.proofs.CutLaws.{guard_some}
-use Rattle.text_cuts.proofs.PlaceLemmas.{missed}
+use Rattle.basic_values.specs.Cuts.{cut}
+use Rattle.basic_values.proofs.CutLaws.{guard_some}
+use Rattle.basic_values.proofs.PlaceLemmas.{missed}
 
 abbrev is_lf : ℕ → Bool
 is_lf b = eqb b 10

@@ -10,7 +10,7 @@ use Rattle.std.proofs.lemmas.List.Concat.{flat_map-append}
 use Rattle.deck_model.specs.Lines.{lines_in, whole_lines}
 use Rattle.deck_model.specs.Files.{text_of, pages_of}
 use Rattle.deck_reader.specs.Filed.{has_line_feed}
-use Rattle.text_cuts.proofs.CutLaws.{Lacks, lacks_both, cut_again, cut_nowhere}
+use Rattle.basic_values.proofs.CutLaws.{Lacks, lacks_both, cut_again, cut_nowhere}
 use Rattle.deck_reader.proofs.LineLemmas.{line_found, line_missed}
 
 abbrev is_lf : ℕ → Bool

@@ -1,12 +1,15 @@
 -- What was read, as the definitions have it, and what reading answers.
-use Rattle.std.specs.Prelude.{◌≡◌, ℕ, Bool, bytes_eq, List, [], ◌∷◌, Option, Some, None, Result, Ok, Err, map, ⊤}
+use Rattle.std.specs.Prelude.{◌≡◌, ℕ, ◌+◌, ◌&&◌, nat_lt, Bool, bytes_eq, List, [], ◌∷◌, Option, Some, None, Result, Ok, Err, map, ⊤}
 use Rattle.std.specs.List.{list_any}
 use Rattle.std.specs.Borrow.{Bor}
 use Rattle.basic_values.specs.declared.failures.Trouble.{Trouble}
 use Rattle.basic_values.specs.declared.failures.Trouble.TheVariants as trouble
+use Rattle.monitor_calls.specs.declared.names.Account.{Account}
 use Rattle.monitor_calls.specs.declared.files.FileName.{FileName}
 use Rattle.monitor_calls.specs.declared.files.FileEntry.{FileEntry}
+use Rattle.monitor_calls.specs.declared.volumes.AccountEntry.{AccountEntry}
 use Rattle.monitor_calls.specs.FileNames.{same_name}
+use Rattle.monitor_calls.specs.Volumes.{same_account, blocks_owned}
 use Rattle.deck_model.specs.declared.faults.DeckCause.{DeckCause}
 use Rattle.deck_model.specs.declared.faults.DeckFault.{DeckFault}
 use Rattle.deck_model.specs.Deck as model
@@ -42,6 +45,13 @@ is_named terminals name = list_any (λ (terminal : Terminal). bytes_eq terminal.
 unfoldable pub is_filed : List FileEntry → FileName → Bool
 is_filed files name = list_any (λ (file : FileEntry). same_name file.name name) files
 
+-- whether the owner is one of the accounts, and has not the quota for so many blocks more
+unfoldable pub is_over : List AccountEntry → List FileEntry → Account → ℕ → Bool
+is_over accounts files owner blocks =
+    list_any
+    (λ (entry : AccountEntry). same_account entry.account owner && nat_lt entry.quota (blocks_owned files owner + blocks))
+    accounts
+
 -- a deck without where it lies in memory
 abbrev pub deck_of : Deck → model.Deck
 deck_of deck = record {
@@ -62,11 +72,17 @@ open_of file = record {
 
 abbrev pub front_of : Front → fronts.Front
 front_of code.Nothing = fronts.Nothing
-front_of code.Versioned = fronts.Versioned
-front_of (code.InAccounts deck) = fronts.InAccounts (deck_of deck)
-front_of (code.InFile deck file) = fronts.InFile (deck_of deck) (open_of file)
-front_of (code.InTerminal deck terminal) = fronts.InTerminal (deck_of deck) (terminal_of terminal)
-front_of (code.Whole deck) = fronts.Whole (deck_of deck)
+front_of (code.Versioned version) = fronts.Versioned version
+front_of (code.InAccounts version deck) = fronts.InAccounts version (deck_of deck)
+front_of (code.InFile version deck file) = fronts.InFile version (deck_of deck) (open_of file)
+front_of (code.InTerminal version deck terminal) =
+    fronts.InTerminal version (deck_of deck) (terminal_of terminal)
+front_of (code.Whole version deck) = fronts.Whole version (deck_of deck)
+
+-- a text that may not be there
+abbrev pub option_seen : Option (Bor (List ℕ)) → Option (List ℕ)
+option_seen None = None
+option_seen (Some text) = Some text.now
 
 abbrev pub texts_seen : AccountTexts → forms.AccountTexts
 texts_seen texts = record {
@@ -74,18 +90,15 @@ texts_seen texts = record {
   programmer = texts.programmer.now;
   password = texts.password.now;
   limit = texts.limit.now;
+  quota = option_seen texts.quota;
 }
-
-abbrev pub extension_seen : Option (Bor (List ℕ)) → Option (List ℕ)
-extension_seen None = None
-extension_seen (Some text) = Some text.now
 
 abbrev pub file_texts_seen : FileTexts → forms.FileTexts
 file_texts_seen texts = record {
   project = texts.project.now;
   programmer = texts.programmer.now;
   stem = texts.stem.now;
-  extension = extension_seen texts.extension;
+  extension = option_seen texts.extension;
   code = texts.code.now;
   blocks = texts.blocks.now;
 }

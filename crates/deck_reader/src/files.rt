@@ -1,13 +1,13 @@
 //! Files of a deck: begun, their texts, and their pages on the volume.
 
 ghost use Rattle.std.specs.Prelude.{◌≡◌, ◌≤◌, ◌+◌, ◌*◌, false, if◌then◌else◌, not, [], Some, None, length, map, nat_le, nat_lt, unwrap_or, IfOk};
-ghost use Rattle.monitor_calls.specs.Volumes.{same_account, has_account, blocks_of};
+ghost use Rattle.monitor_calls.specs.Volumes.{same_account, has_account, blocks_of, blocks_for, blocks_owned};
 ghost use Rattle.deck_model.specs.Files.{text_of, pages_of, file_entry};
 ghost use Rattle.deck_model.specs.Fronts as model;
 ghost use Rattle.deck_model.specs.Refusals.{is_extension, is_file_in_range};
-ghost use Rattle.text_cuts.specs.Cuts.{Finds};
+ghost use Rattle.basic_values.specs.Cuts.{Finds};
 ghost use Rattle.deck_reader.specs.Filed.{file_of, has_line_feed};
-ghost use Rattle.deck_reader.specs.Seen.{extension_seen, file_texts_seen, open_of, is_filed};
+ghost use Rattle.deck_reader.specs.Seen.{option_seen, file_texts_seen, open_of, is_filed};
 
 use crate::decks::OpenFile;
 use crate::forms::FileTexts;
@@ -50,8 +50,8 @@ pub(crate) fn new_file(alloc: Global, texts: &FileTexts<'_>) -> Option<OpenFile>
 /// The extension behind a point, of 1 to 3 capital letters and digits; empty where there is no
 /// point.
 fn extension_of(text: Option<&[u8]>) -> Option<Short>
-    ensures { result ≡ (if is_extension (extension_seen text.entry)
-        then Some (unwrap_or (extension_seen text.entry) []) else None) }
+    ensures { result ≡ (if is_extension (option_seen text.entry)
+        then Some (unwrap_or (option_seen text.entry) []) else None) }
 {
     match text {
         None => Short::of(b""),
@@ -146,4 +146,34 @@ pub(crate) fn fit_in(blocks: usize, files: &[FileEntry]) -> bool
             pages <= blocks && fit_in(blocks - pages, others)
         }
     }
+}
+
+/// Whether the files of an owner have no more blocks than this.
+pub(crate) fn owns_at_most(blocks: usize, owner: Account, files: &[FileEntry]) -> bool
+    ensures { result ≡ nat_le (blocks_owned files.now owner) blocks }
+{
+    match files {
+        [] => true,
+        [first, others @ ..] => {
+            let pages = blocks_for(first, owner);
+            pages <= blocks && owns_at_most(blocks - pages, owner, others)
+        }
+    }
+}
+
+/// The blocks of a file, where it is the owner's.
+fn blocks_for(file: &FileEntry, owner: Account) -> usize
+    ensures { result ≡ blocks_for file.now owner }
+{
+    if is_same(file.name.owner, owner) {
+        file.pages.as_slice().len()
+    } else {
+        0
+    }
+}
+
+pub(crate) fn is_same(a: Account, b: Account) -> bool
+    ensures { result ≡ same_account a b }
+{
+    a.project == b.project && a.programmer == b.programmer
 }

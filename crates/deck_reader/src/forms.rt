@@ -3,20 +3,22 @@
 ghost use Rattle.std.specs.Prelude.{◌≡◌};
 ghost use Rattle.std.specs.List.{list_all};
 ghost use Rattle.std.specs.Char.{is_ascii_digit};
-ghost use Rattle.deck_model.specs.Forms.{Disk, Account, File, Terminal, is_numeral, is_name};
-ghost use Rattle.deck_model.specs.Reading.{disk_in, texts_in, account_in, stem_before, extension_behind, file_texts_in, are_file_texts, file_in, terminal_in, groups_in, contents_in, session_in};
-ghost use Rattle.text_cuts.specs.Cuts.{Finds, cut};
-ghost use Rattle.deck_reader.specs.Seen.{texts_seen, extension_seen, file_texts_seen, group_seen, contents_seen, session_seen};
+ghost use Rattle.deck_model.specs.Forms.{Heading, Disk, Account, File, Terminal, is_numeral, is_numeral_or_none, is_name};
+ghost use Rattle.deck_model.specs.Reading.{version_in, disk_in, limits_in, texts_in, account_in, stem_before, extension_behind, file_texts_in, are_file_texts, file_in, terminal_in, groups_in, contents_in, session_in};
+ghost use Rattle.basic_values.specs.Cuts.{Finds, cut};
+ghost use Rattle.deck_reader.specs.Seen.{texts_seen, option_seen, file_texts_seen, group_seen, contents_seen, session_seen};
 
-use text_cuts::{behind, cut};
+use deck_model::Version;
+use basic_values::{behind, cut};
 
-/// The texts of an account's fields.
+/// The texts of an account's fields; its quota where version 2 tells it.
 #[derive(Clone, Copy)]
 pub(crate) struct AccountTexts<'a> {
     pub(crate) project: &'a [u8],
     pub(crate) programmer: &'a [u8],
     pub(crate) password: &'a [u8],
     pub(crate) limit: &'a [u8],
+    pub(crate) quota: Option<&'a [u8]>,
 }
 
 /// The texts of a file's fields; its extension where a point stands.
@@ -56,6 +58,20 @@ pub(crate) enum SessionForm<'a> {
     End,
 }
 
+/// The version that the first line tells.
+#[tactic(auto, unfolding(deck_model::specs::Reading::version_in))]
+pub(crate) fn version_of(line: &[u8]) -> Option<Version>
+    ensures { Finds (λ version. Heading version) result (version_in line.now) }
+{
+    if line == b"RSTS-DECK 1".as_slice() {
+        Some(Version::One)
+    } else if line == b"RSTS-DECK 2".as_slice() {
+        Some(Version::Two)
+    } else {
+        None
+    }
+}
+
 /// The number of blocks of a DISK line.
 #[tactic(auto, unfolding(deck_model::specs::Reading::disk_in))]
 pub(crate) fn disk_blocks(line: &[u8]) -> Option<&[u8]>
@@ -71,10 +87,10 @@ pub(crate) fn disk_blocks(line: &[u8]) -> Option<&[u8]>
 
 /// The form that a line has where accounts may stand.
 #[tactic(auto, unfolding(deck_model::specs::Reading::groups_in, deck_model::specs::Reading::end_in))]
-pub(crate) fn group_form(line: &[u8]) -> Option<GroupForm<'_>>
-    ensures { Finds group_seen result (groups_in line.now) }
+pub(crate) fn group_form(version: Version, line: &[u8]) -> Option<GroupForm<'_>>
+    ensures { Finds group_seen result (groups_in version line.now) }
 {
-    if let Some(texts) = account_texts(line) {
+    if let Some(texts) = account_texts(version, line) {
         return Some(GroupForm::Account(texts));
     }
     if let Some(texts) = file_texts(line) {
@@ -131,30 +147,47 @@ pub(crate) fn session_form(line: &[u8]) -> Option<SessionForm<'_>>
 
 /// The fields of an ACCOUNT line.
 #[tactic(auto, unfolding(deck_model::specs::Reading::account_in))]
-fn account_texts(line: &[u8]) -> Option<AccountTexts<'_>>
-    ensures { Finds (λ texts. Account (texts_seen texts)) result (account_in line.now) }
+fn account_texts(version: Version, line: &[u8]) -> Option<AccountTexts<'_>>
+    ensures { Finds (λ texts. Account (texts_seen texts)) result (account_in version line.now) }
 {
-    let texts = fields_of(line)?;
+    let texts = fields_of(version, line)?;
     let is_formed = is_numeral(texts.project)
         && is_numeral(texts.programmer)
         && is_name(texts.password)
-        && is_numeral(texts.limit);
+        && is_numeral(texts.limit)
+        && is_numeral_or_none(texts.quota);
     if is_formed { Some(texts) } else { None }
 }
 
 #[tactic(auto, unfolding(deck_model::specs::Reading::texts_in))]
-fn fields_of(line: &[u8]) -> Option<AccountTexts<'_>>
-    ensures { Finds texts_seen result (texts_in line.now) }
+fn fields_of(version: Version, line: &[u8]) -> Option<AccountTexts<'_>>
+    ensures { Finds texts_seen result (texts_in version line.now) }
 {
     let (project, rest) = cut(b',', behind(b"ACCOUNT ", line)?)?;
     let (programmer, rest) = cut(b' ', rest)?;
-    let (password, limit) = cut(b' ', rest)?;
+    let (password, rest) = cut(b' ', rest)?;
+    let (limit, quota) = limits_of(version, rest)?;
     Some(AccountTexts {
         project,
         programmer,
         password,
         limit,
+        quota,
     })
+}
+
+/// The limit of calls, and the quota that version 2 tells behind it.
+fn limits_of(version: Version, text: &[u8]) -> Option<(&[u8], Option<&[u8]>)>
+    ensures { Finds (λ limits. (limits.0.now, option_seen limits.1)) result
+        (limits_in version text.now) }
+{
+    match version {
+        Version::One => Some((text, None)),
+        Version::Two => {
+            let (limit, quota) = cut(b' ', text)?;
+            Some((limit, Some(quota)))
+        }
+    }
 }
 
 /// The fields of a FILE line.
@@ -195,7 +228,7 @@ fn file_fields(line: &[u8]) -> Option<FileTexts<'_>>
 /// The stem of a name, and the extension behind its first point.
 fn name_parts(name: &[u8]) -> (&[u8], Option<&[u8]>)
     ensures stem { result.0.now ≡ stem_before name.now (cut 46 name.now) }
-    ensures extension { extension_seen result.1 ≡ extension_behind (cut 46 name.now) }
+    ensures extension { option_seen result.1 ≡ extension_behind (cut 46 name.now) }
 {
     match cut(b'.', name) {
         Some((stem, extension)) => (stem, Some(extension)),
@@ -219,6 +252,15 @@ fn is_numeral(text: &[u8]) -> bool
     match text {
         [] => false,
         [first, rest @ ..] => is_digits(text) && (*first != b'0' || rest.is_empty()),
+    }
+}
+
+fn is_numeral_or_none(text: Option<&[u8]>) -> bool
+    ensures { result ≡ is_numeral_or_none (option_seen text.entry) }
+{
+    match text {
+        None => true,
+        Some(text) => is_numeral(text),
     }
 }
 

@@ -1,25 +1,25 @@
 //! The front of a deck: what its lines said so far, and what the next one adds.
 
 ghost use Rattle.std.specs.Prelude.{◌≡◌, ◌+◌, ◌==◌, ◌&&◌, false, if◌then◌else◌, Some, None, length, nat_le, nat_lt, bytes_eq, IfOk};
-ghost use Rattle.monitor_calls.specs.Volumes.{same_account, has_account};
+ghost use Rattle.monitor_calls.specs.Volumes.{has_account, blocks_owned};
 ghost use Rattle.deck_model.specs.Files.{has_file, blocks_in};
 ghost use Rattle.deck_model.specs.Fronts as model;
-ghost use Rattle.deck_model.specs.Fronts.{entry_of};
-ghost use Rattle.deck_model.specs.Refusals.{is_in_range, first_cause, account_causes, filing_causes, file_causes, text_causes, terminal_causes, keys_causes};
+ghost use Rattle.deck_model.specs.Fronts.{quota_from, entry_of};
+ghost use Rattle.deck_model.specs.Refusals.{is_quota, is_in_range, passes_quota, first_cause, account_causes, filing_causes, file_causes, text_causes, terminal_causes, keys_causes};
 ghost use Rattle.deck_model.specs.Reading.{behind_line, unless_refused, at_end};
 ghost use Rattle.deck_reader.specs.Filed.{has_line_feed};
-ghost use Rattle.deck_reader.specs.Seen.{Decides, Tells, texts_seen, file_texts_seen, deck_of, open_of, terminal_of, front_of, is_named};
+ghost use Rattle.deck_reader.specs.Seen.{Decides, Tells, option_seen, texts_seen, file_texts_seen, deck_of, open_of, terminal_of, front_of, is_over, is_named};
 
 use crate::decks::{Deck, OpenFile, Terminal};
 use crate::failures::ReadError;
-use crate::files::{fit_in, is_filed, new_file};
+use crate::files::{fit_in, is_filed, is_same, new_file, owns_at_most};
 use crate::forms::{
     AccountTexts, ContentsForm, FileTexts, GroupForm, SessionForm, contents_form, disk_blocks,
-    group_form, session_form,
+    group_form, session_form, version_of,
 };
 use basic_values::{KeyLine, LINE_LENGTH, NoMemory, Trouble, number_between};
-use deck_model::{DeckCause, DeckFault};
-use monitor_calls::{Account, AccountEntry, FileName, Short, TerminalName, Volume};
+use deck_model::{DeckCause, DeckFault, Version};
+use monitor_calls::{Account, AccountEntry, FileEntry, FileName, Short, TerminalName, Volume};
 use std::alloc::Global;
 
 /// How many accounts a deck has at the most.
@@ -31,19 +31,19 @@ const MOST_FILES: usize = 512;
 /// How many terminals a deck has at the most.
 const MOST_TERMINALS: usize = 63;
 
-/// What the lines of a deck said so far.
+/// What the lines of a deck said so far. Behind the first line each keeps the version.
 #[derive(Drop)]
 pub(crate) enum Front {
     Nothing,
-    Versioned,
+    Versioned(Version),
     /// The disk and the accounts.
-    InAccounts(Deck),
+    InAccounts(Version, Deck),
     /// A deck without terminals, and its last file, whose text may still go on.
-    InFile(Deck, OpenFile),
+    InFile(Version, Deck, OpenFile),
     /// A deck, and its last terminal, which may still get keys.
-    InTerminal(Deck, Terminal),
+    InTerminal(Version, Deck, Terminal),
     /// A deck with its END.
-    Whole(Deck),
+    Whole(Version, Deck),
 }
 
 impl Front {
@@ -54,11 +54,13 @@ impl Front {
     {
         match self {
             Front::Nothing => behind_nothing(line),
-            Front::Versioned => behind_version(alloc, line),
-            Front::InAccounts(deck) => behind_accounts(alloc, deck, line),
-            Front::InFile(deck, file) => behind_file(alloc, deck, file, line),
-            Front::InTerminal(deck, terminal) => behind_terminal(alloc, deck, terminal, line),
-            Front::Whole(deck) => behind_end(deck, line),
+            Front::Versioned(version) => behind_version(alloc, version, line),
+            Front::InAccounts(version, deck) => behind_accounts(alloc, version, deck, line),
+            Front::InFile(version, deck, file) => behind_file(alloc, version, deck, file, line),
+            Front::InTerminal(version, deck, terminal) => {
+                behind_terminal(alloc, version, deck, terminal, line)
+            }
+            Front::Whole(version, deck) => behind_end(version, deck, line),
         }
     }
 
@@ -66,7 +68,7 @@ impl Front {
     pub(crate) fn at_end(self, number: u32, cut: &[u8]) -> Result<Deck, Trouble<DeckFault>>
         ensures { Tells result (at_end (front_of self) number cut.now) }
     {
-        if let Front::Whole(deck) = self {
+        if let Front::Whole(_, deck) = self {
             if cut.is_empty() {
                 return Ok(deck);
             }
@@ -78,20 +80,19 @@ impl Front {
     }
 }
 
-#[tactic(auto, unfolding(deck_model::specs::Reading::behind_line, deck_model::specs::Reading::behind_form, deck_model::specs::Reading::form_at, deck_model::specs::Reading::version_in))]
+#[tactic(auto, unfolding(deck_model::specs::Reading::behind_line, deck_model::specs::Reading::behind_form, deck_model::specs::Reading::form_at))]
 fn behind_nothing(line: &[u8]) -> Result<Front, ReadError>
     ensures { Decides front_of result (behind_line model.Nothing line.now) }
 {
-    if line == b"RSTS-DECK 1".as_slice() {
-        Ok(Front::Versioned)
-    } else {
-        Err(ReadError::Refused(DeckCause::Version))
+    match version_of(line) {
+        Some(version) => Ok(Front::Versioned(version)),
+        None => Err(ReadError::Refused(DeckCause::Version)),
     }
 }
 
 #[tactic(auto, unfolding(deck_model::specs::Reading::behind_line, deck_model::specs::Reading::behind_form, deck_model::specs::Reading::form_at))]
-fn behind_version(alloc: Global, line: &[u8]) -> Result<Front, ReadError>
-    ensures { Decides front_of result (behind_line model.Versioned line.now) }
+fn behind_version(alloc: Global, version: Version, line: &[u8]) -> Result<Front, ReadError>
+    ensures { Decides front_of result (behind_line (model.Versioned version) line.now) }
 {
     let text = disk_blocks(line).ok_or(DeckCause::Shape)?;
     let blocks = number_between(1, 16384, text).ok_or(DeckCause::Range)?;
@@ -101,42 +102,54 @@ fn behind_version(alloc: Global, line: &[u8]) -> Result<Front, ReadError>
         files: Vec::new(alloc),
     };
     let terminals = Vec::new(alloc);
-    Ok(Front::InAccounts(Deck { volume, terminals }))
+    Ok(Front::InAccounts(version, Deck { volume, terminals }))
 }
 
 #[tactic(auto, unfolding(deck_model::specs::Reading::behind_line, deck_model::specs::Reading::behind_form, deck_model::specs::Reading::form_at))]
-fn behind_accounts(alloc: Global, deck: Deck, line: &[u8]) -> Result<Front, ReadError>
-    ensures { Decides front_of result (behind_line (model.InAccounts (deck_of deck)) line.now) }
+fn behind_accounts(
+    alloc: Global,
+    version: Version,
+    deck: Deck,
+    line: &[u8],
+) -> Result<Front, ReadError>
+    ensures { Decides front_of result
+        (behind_line (model.InAccounts version (deck_of deck)) line.now) }
 {
-    match group_form(line) {
+    match group_form(version, line) {
         None => Err(ReadError::Refused(DeckCause::Shape)),
-        Some(GroupForm::Account(texts)) => with_account(deck, &texts),
-        Some(GroupForm::File(texts)) => with_file(alloc, deck, &texts),
-        Some(GroupForm::Terminal(name)) => with_terminal(alloc, deck, name),
-        Some(GroupForm::End) => Ok(Front::Whole(deck)),
+        Some(GroupForm::Account(texts)) => with_account(version, deck, &texts),
+        Some(GroupForm::File(texts)) => with_file(alloc, version, deck, &texts),
+        Some(GroupForm::Terminal(name)) => with_terminal(alloc, version, deck, name),
+        Some(GroupForm::End) => Ok(Front::Whole(version, deck)),
     }
 }
 
 #[tactic(auto, unfolding(deck_model::specs::Reading::behind_line, deck_model::specs::Reading::behind_form, deck_model::specs::Reading::form_at))]
-fn behind_file(alloc: Global, deck: Deck, file: OpenFile, line: &[u8]) -> Result<Front, ReadError>
+fn behind_file(
+    alloc: Global,
+    version: Version,
+    deck: Deck,
+    file: OpenFile,
+    line: &[u8],
+) -> Result<Front, ReadError>
     requires { has_line_feed line.now ≡ false }
     ensures { Decides front_of result
-        (behind_line (model.InFile (deck_of deck) (open_of file)) line.now) }
+        (behind_line (model.InFile version (deck_of deck) (open_of file)) line.now) }
 {
     match contents_form(line) {
         None => Err(ReadError::Refused(DeckCause::Shape)),
-        Some(ContentsForm::Text(text)) => with_text(deck, file, text),
+        Some(ContentsForm::Text(text)) => with_text(version, deck, file, text),
         Some(ContentsForm::File(texts)) => {
             let before = filed(alloc, deck, file)?;
-            with_file(alloc, before, &texts)
+            with_file(alloc, version, before, &texts)
         }
         Some(ContentsForm::Terminal(name)) => {
-            let named = filed(alloc, deck, file)?;
-            with_terminal(alloc, named, name)
+            let before = filed(alloc, deck, file)?;
+            with_terminal(alloc, version, before, name)
         }
         Some(ContentsForm::End) => {
             let whole = filed(alloc, deck, file)?;
-            Ok(Front::Whole(whole))
+            Ok(Front::Whole(version, whole))
         }
     }
 }
@@ -144,45 +157,49 @@ fn behind_file(alloc: Global, deck: Deck, file: OpenFile, line: &[u8]) -> Result
 #[tactic(auto, unfolding(deck_model::specs::Reading::behind_line, deck_model::specs::Reading::behind_form, deck_model::specs::Reading::form_at))]
 fn behind_terminal(
     alloc: Global,
+    version: Version,
     deck: Deck,
     terminal: Terminal,
     line: &[u8],
 ) -> Result<Front, ReadError>
     ensures { Decides front_of result
-        (behind_line (model.InTerminal (deck_of deck) (terminal_of terminal)) line.now) }
+        (behind_line (model.InTerminal version (deck_of deck) (terminal_of terminal)) line.now) }
 {
-    let mut deck = deck;
     match session_form(line) {
         None => Err(ReadError::Refused(DeckCause::Shape)),
-        Some(SessionForm::Keys(keys)) => with_keys(alloc, deck, terminal, keys),
+        Some(SessionForm::Keys(keys)) => with_keys(alloc, version, deck, terminal, keys),
         Some(SessionForm::Terminal(name)) => {
-            deck.terminals.push(terminal)?;
-            with_terminal(alloc, deck, name)
+            let before = named(deck, terminal)?;
+            with_terminal(alloc, version, before, name)
         }
         Some(SessionForm::End) => {
-            deck.terminals.push(terminal)?;
-            Ok(Front::Whole(deck))
+            let whole = named(deck, terminal)?;
+            Ok(Front::Whole(version, whole))
         }
     }
 }
 
 /// Nothing stands behind END.
 #[tactic(auto, unfolding(deck_model::specs::Reading::behind_line, deck_model::specs::Reading::behind_form, deck_model::specs::Reading::form_at))]
-fn behind_end(deck: Deck, line: &[u8]) -> Result<Front, ReadError>
-    ensures { Decides front_of result (behind_line (model.Whole (deck_of deck)) line.now) }
+fn behind_end(version: Version, deck: Deck, line: &[u8]) -> Result<Front, ReadError>
+    ensures { Decides front_of result (behind_line (model.Whole version (deck_of deck)) line.now) }
 {
-    let _ = (deck, line);
+    let _ = (version, deck, line);
     Err(ReadError::Refused(DeckCause::Shape))
 }
 
 /// One account more.
-fn with_account(deck: Deck, texts: &AccountTexts<'_>) -> Result<Front, ReadError>
+fn with_account(version: Version, deck: Deck, texts: &AccountTexts<'_>) -> Result<Front, ReadError>
     ensures { Decides front_of result (unless_refused
-        (model.InAccounts (model.with_account (deck_of deck) (entry_of (texts_seen texts.now))))
+        (model.InAccounts version (model.with_account (deck_of deck)
+        (entry_of deck.volume.blocks (texts_seen texts.now))))
         (first_cause (account_causes (deck_of deck) (texts_seen texts.now)))) }
 {
     let mut deck = deck;
-    let entry = entry_of(texts).ok_or(DeckCause::Range)?;
+    let entry = match entry_of(deck.volume.blocks, texts) {
+        Some(entry) => entry,
+        None => return Err(ReadError::Refused(DeckCause::Range)),
+    };
     if has_account(deck.volume.accounts.as_slice(), entry.account) {
         return Err(ReadError::Refused(DeckCause::Double));
     }
@@ -190,30 +207,35 @@ fn with_account(deck: Deck, texts: &AccountTexts<'_>) -> Result<Front, ReadError
         return Err(ReadError::Refused(DeckCause::Space));
     }
     deck.volume.accounts.push(entry)?;
-    Ok(Front::InAccounts(deck))
+    Ok(Front::InAccounts(version, deck))
 }
 
 /// One file more, without its text.
-fn with_file(alloc: Global, deck: Deck, texts: &FileTexts<'_>) -> Result<Front, ReadError>
+fn with_file(
+    alloc: Global,
+    version: Version,
+    deck: Deck,
+    texts: &FileTexts<'_>,
+) -> Result<Front, ReadError>
     ensures { Decides front_of result (unless_refused
-        (model.InFile (deck_of deck) (model.new_file (file_texts_seen texts.now)))
+        (model.InFile version (deck_of deck) (model.new_file (file_texts_seen texts.now)))
         (first_cause (file_causes (deck_of deck) (file_texts_seen texts.now)))) }
 {
     match new_file(alloc, texts) {
         None => Err(ReadError::Refused(DeckCause::Range)),
-        Some(file) => with_new_file(deck, file),
+        Some(file) => with_new_file(version, deck, file),
     }
 }
 
 /// One file more, whose numbers and name are in their ranges.
-fn with_new_file(deck: Deck, file: OpenFile) -> Result<Front, ReadError>
+fn with_new_file(version: Version, deck: Deck, file: OpenFile) -> Result<Front, ReadError>
     ensures { Decides front_of result (unless_refused
-        (model.InFile (deck_of deck) (open_of file))
+        (model.InFile version (deck_of deck) (open_of file))
         (first_cause (filing_causes (deck_of deck) (open_of file)))) }
 {
     match filing_cause(&deck, &file) {
         Some(cause) => Err(ReadError::Refused(cause)),
-        None => Ok(Front::InFile(deck, file)),
+        None => Ok(Front::InFile(version, deck, file)),
     }
 }
 
@@ -225,7 +247,7 @@ fn filing_cause(deck: &Deck, file: &OpenFile) -> Option<DeckCause>
         Some(DeckCause::Double)
     } else if !has_account(deck.volume.accounts.as_slice(), file.name.owner) {
         Some(DeckCause::Owner)
-    } else if has_all_files(deck) || lacks_blocks(deck, file.blocks) {
+    } else if has_all_files(deck) || lacks_blocks(deck, file.blocks) || passes_quota(deck, file) {
         Some(DeckCause::Space)
     } else {
         None
@@ -258,18 +280,51 @@ fn lacks_blocks(deck: &Deck, blocks: u16) -> bool
     !fit_in(disk - wanted, deck.volume.files.as_slice())
 }
 
+/// Whether the blocks of its owner's files pass the owner's quota with this file. One account is the
+/// owner, so the files are gone through once.
+#[tactic(auto, using(crate::proofs::FileLemmas::over_is))]
+fn passes_quota(deck: &Deck, file: &OpenFile) -> bool
+    ensures { result ≡ passes_quota (deck_of deck.now).accounts (deck_of deck.now).files
+        (open_of file.now) }
+{
+    let accounts = deck.volume.accounts.as_slice();
+    let files = deck.volume.files.as_slice();
+    is_over(accounts, files, file.name.owner, file.blocks)
+}
+
+/// Whether the owner is one of the accounts, and has not the quota for so many blocks more.
+#[tactic(auto, unfolding(crate::specs::Seen::is_over))]
+fn is_over(accounts: &[AccountEntry], files: &[FileEntry], owner: Account, blocks: u16) -> bool
+    ensures { result ≡ is_over accounts.now files.now owner blocks }
+{
+    accounts.iter().any(|entry| is_same(entry.account, owner)
+        && lacks(entry.quota, files, owner, blocks))
+}
+
+/// Whether a quota has not so many blocks beside those of the owner's files.
+fn lacks(quota: u16, files: &[FileEntry], owner: Account, blocks: u16) -> bool
+    ensures { result ≡ nat_lt quota (blocks_owned files.now owner + blocks) }
+{
+    let most = quota as usize;
+    let wanted = blocks as usize;
+    if wanted > most {
+        return true;
+    }
+    !owns_at_most(most - wanted, owner, files)
+}
+
 /// One line more of the text of the last file.
-fn with_text(deck: Deck, file: OpenFile, text: &[u8]) -> Result<Front, ReadError>
+fn with_text(version: Version, deck: Deck, file: OpenFile, text: &[u8]) -> Result<Front, ReadError>
     requires { has_line_feed text.now ≡ false }
     ensures { Decides front_of result (unless_refused
-        (model.InFile (deck_of deck) (model.with_text (open_of file) text.now))
+        (model.InFile version (deck_of deck) (model.with_text (open_of file) text.now))
         (first_cause (text_causes (open_of file) text.now))) }
 {
     if file.is_full_at(text) {
         return Err(ReadError::Refused(DeckCause::Space));
     }
     let file = file.with_text(text)?;
-    Ok(Front::InFile(deck, file))
+    Ok(Front::InFile(version, deck, file))
 }
 
 /// The deck with its last file, whose text is whole.
@@ -282,11 +337,26 @@ fn filed(alloc: Global, deck: Deck, file: OpenFile) -> Result<Deck, NoMemory>
     Ok(deck)
 }
 
+/// The deck with its last terminal, whose keys are whole.
+fn named(deck: Deck, terminal: Terminal) -> Result<Deck, NoMemory>
+    ensures { IfOk result (λ whole.
+        deck_of whole ≡ model.with_terminal (deck_of deck) (terminal_of terminal)) }
+{
+    let mut deck = deck;
+    deck.terminals.push(terminal)?;
+    Ok(deck)
+}
+
 /// One terminal more.
 #[tactic(auto, using(crate::proofs::NameLemmas::named_is))]
-fn with_terminal(alloc: Global, deck: Deck, name: &[u8]) -> Result<Front, ReadError>
+fn with_terminal(
+    alloc: Global,
+    version: Version,
+    deck: Deck,
+    name: &[u8],
+) -> Result<Front, ReadError>
     ensures { Decides front_of result (unless_refused
-        (model.InTerminal (deck_of deck) (model.new_terminal name.now))
+        (model.InTerminal version (deck_of deck) (model.new_terminal name.now))
         (first_cause (terminal_causes (deck_of deck).terminals name.now))) }
 {
     let terminal = TerminalName::of(name).ok_or(DeckCause::Range)?;
@@ -298,6 +368,7 @@ fn with_terminal(alloc: Global, deck: Deck, name: &[u8]) -> Result<Front, ReadEr
     }
     let keys = Vec::new(alloc);
     Ok(Front::InTerminal(
+        version,
         deck,
         Terminal {
             name: terminal,
@@ -307,9 +378,15 @@ fn with_terminal(alloc: Global, deck: Deck, name: &[u8]) -> Result<Front, ReadEr
 }
 
 /// The keys of one line more.
-fn with_keys(alloc: Global, deck: Deck, terminal: Terminal, keys: &[u8]) -> Result<Front, ReadError>
+fn with_keys(
+    alloc: Global,
+    version: Version,
+    deck: Deck,
+    terminal: Terminal,
+    keys: &[u8],
+) -> Result<Front, ReadError>
     ensures { Decides front_of result (unless_refused
-        (model.InTerminal (deck_of deck) (model.with_keys (terminal_of terminal) keys.now))
+        (model.InTerminal version (deck_of deck) (model.with_keys (terminal_of terminal) keys.now))
         (first_cause (keys_causes keys.now))) }
 {
     let mut terminal = terminal;
@@ -317,18 +394,20 @@ fn with_keys(alloc: Global, deck: Deck, terminal: Terminal, keys: &[u8]) -> Resu
         return Err(ReadError::Refused(DeckCause::Range));
     }
     terminal.keys.push(KeyLine::of(alloc, keys)?)?;
-    Ok(Front::InTerminal(deck, terminal))
+    Ok(Front::InTerminal(version, deck, terminal))
 }
 
-/// The account of such fields, where its numbers and its password are in their ranges.
-fn entry_of(texts: &AccountTexts<'_>) -> Option<AccountEntry>
+/// The account of such fields, on a disk of so many blocks, where its numbers and its password are in
+/// their ranges.
+fn entry_of(disk: u16, texts: &AccountTexts<'_>) -> Option<AccountEntry>
     ensures { result ≡ (if is_in_range (texts_seen texts.now)
-        then Some (entry_of (texts_seen texts.now)) else None) }
+        then Some (entry_of disk (texts_seen texts.now)) else None) }
 {
     let project = number_between(1, 254, texts.project)?;
     let programmer = number_between(0, 254, texts.programmer)?;
     let password = Short::password(texts.password)?;
     let limit = number_between(1, 16384, texts.limit)?;
+    let quota = quota_of(disk, texts.quota)?;
     Some(AccountEntry {
         account: Account {
             project: project as u8,
@@ -336,13 +415,22 @@ fn entry_of(texts: &AccountTexts<'_>) -> Option<AccountEntry>
         },
         password,
         limit: limit as u16,
+        quota,
     })
 }
 
-fn is_same(a: Account, b: Account) -> bool
-    ensures { result ≡ same_account a b }
+/// The quota that is told, where it is in its range; all blocks of the disk where none is told.
+fn quota_of(disk: u16, text: Option<&[u8]>) -> Option<u16>
+    ensures { result ≡ (if is_quota (option_seen text.entry)
+        then Some (quota_from disk (option_seen text.entry)) else None) }
 {
-    a.project == b.project && a.programmer == b.programmer
+    match text {
+        None => Some(disk),
+        Some(text) => {
+            let quota = number_between(0, 16384, text)?;
+            Some(quota as u16)
+        }
+    }
 }
 
 fn has_account(entries: &[AccountEntry], account: Account) -> bool

@@ -4,7 +4,7 @@ ghost use Rattle.std.specs.Prelude.{◌≡◌, ◌<◌, length, IfSome};
 ghost use Rattle.std.specs.Str.Lines.{strip_carriage_return};
 ghost use Rattle.deck_reader.specs.Seen.{CutsLine};
 
-use text_cuts::cut;
+use basic_values::cut;
 
 /// The first line that ends by LF, without the LF and one CR before it, and the bytes behind it.
 pub(crate) fn next_line(bytes: &[u8]) -> Option<(&[u8], &[u8])>

@@ -12,8 +12,8 @@ use Rattle.std.proofs.lemmas.List.Elements.{filter-append}
 use Rattle.std.proofs.lemmas.Option.{slice_get_past}
 use Rattle.basic_values.specs.Blanks.{is_blank}
 use Rattle.monitor_calls.specs.Names.{is_capital_or_digit, is_text_of}
-use Rattle.text_cuts.specs.Cuts.{behind}
-use Rattle.text_cuts.proofs.CutLaws.{and_left, and_right}
+use Rattle.basic_values.specs.Cuts.{behind}
+use Rattle.basic_values.proofs.CutLaws.{and_left, and_right}
 use Rattle.file_names.specs.Names.{Place, Untold, Library, Bracketed, Written, device_text, place_text, extension_written, code_written, written_text, IsPlace, IsExtension, IsCode, IsWritten, solid, squeezed, letters_in, has_device}
 
 -- ---- one byte more

@@ -8,8 +8,8 @@ use Rattle.std.proofs.lemmas.List.{nil_from_length, append-nil, append_assoc}
 use Rattle.basic_values.specs.Decimals.{number_between}
 use Rattle.monitor_calls.specs.declared.names.Account.{Account}
 use Rattle.monitor_calls.specs.Names.{is_password}
-use Rattle.text_cuts.specs.Cuts.{◌>>=◌, behind, cut}
-use Rattle.text_cuts.proofs.CutLaws.{bind_some, guard_some, behind_takes, cut_takes, and_left, and_right, number_takes, number_at_most}
+use Rattle.basic_values.specs.Cuts.{◌>>=◌, behind, cut}
+use Rattle.basic_values.proofs.CutLaws.{bind_some, guard_some, behind_takes, cut_takes, and_left, and_right, number_takes, number_at_most}
 use Rattle.file_names.specs.declared.spec.Spec.{Spec}
 use Rattle.file_names.specs.Names.{Place, Untold, Library, Bracketed, Written, device_text, place_text, extension_written, code_written, written_text, IsPlace, IsExtension, is_extension, IsCode, IsWritten, library, owner_of, spec_of}
 use Rattle.file_names.specs.Reading.{without_device, bracketed_in, owner_behind, owner_in, closed_code, code_behind, code_in, stem_before, stem_in, extension_behind, extension_in, spec_in}

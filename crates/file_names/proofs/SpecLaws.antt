@@ -14,7 +14,7 @@ use Rattle.basic_values.specs.Blanks.{is_blank}
 use Rattle.monitor_calls.specs.declared.names.Account.{Account}
 use Rattle.monitor_calls.specs.Names.{is_capital_or_digit}
 use Rattle.monitor_calls.specs.NameTexts.{account_text, extension_text, name_text}
-use Rattle.text_cuts.proofs.CutLaws.{and_left, and_right}
+use Rattle.basic_values.proofs.CutLaws.{and_left, and_right}
 use Rattle.file_names.specs.declared.spec.Spec.{Spec}
 use Rattle.file_names.specs.Names.{Bracketed, Written, extension_written, IsPlace, IsExtension, is_extension, Spells, squeezed}
 use Rattle.file_names.specs.Laws.{SpecIsOne, PrintedIsRead}

@@ -9,8 +9,8 @@ use Rattle.std.proofs.lemmas.Bool.{false_from_ne_true}
 use Rattle.std.proofs.lemmas.List.{append-nil, append_assoc}
 use Rattle.monitor_calls.specs.declared.names.Account.{Account}
 use Rattle.monitor_calls.specs.Names.{is_capital_or_digit, is_password, is_text_of}
-use Rattle.text_cuts.specs.Cuts.{behind, cut}
-use Rattle.text_cuts.proofs.CutLaws.{and_left, and_right, behind_again, cut_again, cut_nowhere, number_again, decimal_lacks, kind_lacks, lacks_both, Lacks}
+use Rattle.basic_values.specs.Cuts.{behind, cut}
+use Rattle.basic_values.proofs.CutLaws.{and_left, and_right, behind_again, cut_again, cut_nowhere, number_again, decimal_lacks, kind_lacks, lacks_both, Lacks}
 use Rattle.file_names.specs.Names.{Place, Untold, Library, Bracketed, Written, device_text, place_text, extension_written, code_written, written_text, IsPlace, IsExtension, IsCode, IsWritten, owner_of, spec_of}
 use Rattle.file_names.specs.Reading.{without_device, bracketed_in, owner_behind, owner_in, closed_code, code_in, stem_in, extension_in, spec_in}
 use Rattle.file_names.proofs.ReadingLaws.{brackets, five}

@@ -7,7 +7,7 @@ use Rattle.basic_values.specs.Blanks.{is_blank}
 use Rattle.monitor_calls.specs.declared.names.Account.{Account}
 use Rattle.monitor_calls.specs.Names.{is_text_of, is_capital_or_digit, is_password}
 use Rattle.monitor_calls.specs.NameTexts.{account_text}
-use Rattle.text_cuts.specs.Cuts.{behind}
+use Rattle.basic_values.specs.Cuts.{behind}
 use Rattle.file_names.specs.declared.spec.Spec.{Spec}
 
 -- WHAT IS READ: without any blank, letters raised

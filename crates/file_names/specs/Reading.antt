@@ -3,7 +3,7 @@ use Rattle.std.specs.Prelude.{ℕ, ◌==◌, if◌then◌else◌, List, length, 
 use Rattle.basic_values.specs.Decimals.{number_between}
 use Rattle.monitor_calls.specs.declared.names.Account.{Account}
 use Rattle.monitor_calls.specs.Names.{is_password}
-use Rattle.text_cuts.specs.Cuts.{◌>>=◌, behind, cut}
+use Rattle.basic_values.specs.Cuts.{◌>>=◌, behind, cut}
 use Rattle.file_names.specs.declared.spec.Spec.{Spec}
 use Rattle.file_names.specs.Names.{library, is_extension}
 

@@ -1,15 +1,14 @@
 //! Specifications of files.
 
 ghost use Rattle.std.specs.Prelude.{◌≡◌, if◌then◌else◌, Some, None, take, IfOk, IfErr};
-ghost use Rattle.text_cuts.specs.Cuts.{Finds};
+ghost use Rattle.basic_values.specs.Cuts.{Finds};
 ghost use Rattle.file_names.specs.Names.{Spells, squeezed, is_extension, has_device, names_device, refusal_of};
 ghost use Rattle.file_names.specs.Reading.{without_device, bracketed_in, owner_in, closed_code, code_in, stem_in, extension_in, spec_in};
 ghost use Rattle.file_names.specs.declared.spec.Spec.{Spec as TheSpec};
 
 use arrayvec::ArrayVec;
-use basic_values::{Fault, is_blank, number_between};
+use basic_values::{Fault, behind, cut, is_blank, number_between};
 use monitor_calls::{Account, FileName, Short};
-use text_cuts::{behind, cut};
 
 /// What names a file: its name, and the protection code that is told with it.
 #[derive(Clone, Copy)]

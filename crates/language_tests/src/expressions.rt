@@ -232,7 +232,7 @@ fn is_same(word: Word<'_>, wanted: Word<'_>) -> bool {
 /// The line has these words, and none behind them.
 fn has_words(rt: &impl Abort, alloc: Global, line: &[u8], wanted: &[Word<'_>]) {
     assert!(rt; line.len() <= 255);
-    let Ok(tokens) = scan(alloc, line) else {
+    let Ok(tokens) = scan(line) else {
         assert!(rt; false, "{line:?} is refused");
         return;
     };
@@ -270,7 +270,7 @@ enum Answer {
 
 fn parsed<R: Abort>(rt: &R, alloc: Global, line: &[u8], want: Want) -> Answer {
     assert!(rt; line.len() <= 255, "a line is too long");
-    let tokens = match scan(alloc, line) {
+    let tokens = match scan(line) {
         Ok(tokens) => tokens,
         Err(_) => return Answer::Failed,
     };

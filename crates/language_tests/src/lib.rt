@@ -5,6 +5,8 @@
 #[cfg(test)]
 mod expressions;
 #[cfg(test)]
+mod last_words;
+#[cfg(test)]
 mod lines;
 #[cfg(test)]
 mod scanner;

@@ -32,9 +32,8 @@ fn refused(refusal: Refusal) -> Answer {
 
 fn answer_of<R: Abort>(rt: &R, alloc: Global, line: &[u8]) -> Answer {
     assert!(rt; line.len() <= 255, "a line is too long");
-    match scan(alloc, line) {
-        Err(Trouble::Refused(refusal)) => refused(refusal),
-        Err(Trouble::NoMemory) => Answer::NoMemory,
+    match scan(line) {
+        Err(refusal) => refused(refusal),
         Ok(tokens) => match parse_line(alloc, &tokens) {
             Ok(_) => Answer::Tree,
             Err(Trouble::Refused(refusal)) => refused(refusal),

@@ -2,7 +2,6 @@
 
 use basic_scanner::{keyword_of, literal_value, scan, sign_of};
 use basic_tree::{Cause, Keyword, Sign, TokenKind};
-use basic_values::Trouble;
 use std::alloc::Global;
 use std::process::Abort;
 use std::test::Fail;
@@ -238,7 +237,7 @@ static REFUSED: [(&[u8], u16, Cause); 39] = [
 ];
 
 /// The keywords but REM and DATA, and of two spellings the longer.
-static WORDS: [&[u8]; 78] = [
+static WORDS: [&[u8]; 84] = [
     b"ABS%",
     b"AND",
     b"AS",
@@ -247,6 +246,7 @@ static WORDS: [&[u8]; 78] = [
     b"CHR$",
     b"CLOSE",
     b"CLUSTERSIZE",
+    b"CON",
     b"CVT$%",
     b"CVT%$",
     b"DEF",
@@ -265,6 +265,7 @@ static WORDS: [&[u8]; 78] = [
     b"GO",
     b"GOSUB",
     b"GOTO",
+    b"IDN",
     b"IF",
     b"IMP",
     b"INPUT",
@@ -275,6 +276,7 @@ static WORDS: [&[u8]; 78] = [
     b"LET",
     b"LINE",
     b"LSET",
+    b"MAT",
     b"MID$",
     b"MODE",
     b"NAME",
@@ -310,19 +312,22 @@ static WORDS: [&[u8]; 78] = [
     b"TAB",
     b"THEN",
     b"TO",
+    b"TRN",
     b"UNLESS",
     b"UNLOCK",
     b"UNTIL",
+    b"USING",
     b"VAL",
     b"WHILE",
     b"XLATE",
     b"XOR",
+    b"ZER",
 ];
 
 /// The line has these tokens.
-fn is_taken(rt: &impl Abort, alloc: Global, line: &[u8], wanted: &[Wanted]) {
+fn is_taken(rt: &impl Abort, line: &[u8], wanted: &[Wanted]) {
     assert!(rt; line.len() <= 255);
-    match scan(alloc, line) {
+    match scan(line) {
         Ok(tokens) => {
             assert_eq!(rt; tokens.len() as usize, wanted.len(), "{line:?}");
             for k in 0..tokens.len() {
@@ -339,25 +344,24 @@ fn is_taken(rt: &impl Abort, alloc: Global, line: &[u8], wanted: &[Wanted]) {
 }
 
 /// The line is refused there.
-fn is_refused(rt: &impl Abort, alloc: Global, line: &[u8], place: u16, cause: Cause) {
+fn is_refused(rt: &impl Abort, line: &[u8], place: u16, cause: Cause) {
     assert!(rt; line.len() <= 255);
-    match scan(alloc, line) {
+    match scan(line) {
         Ok(_) => assert!(rt; false, "{line:?} is taken"),
-        Err(Trouble::Refused(refusal)) => {
+        Err(refusal) => {
             assert_eq!(rt; refusal.place, place, "{line:?}");
             assert_eq!(rt; refusal.cause, cause, "{line:?}");
         }
-        Err(Trouble::NoMemory) => assert!(rt; false, "no memory"),
     }
 }
 
 #[test]
 fn lines_have_their_tokens_or_are_refused(rt: HostRuntime) {
     for (line, wanted) in TAKEN {
-        is_taken(&rt, rt.alloc(), line, wanted);
+        is_taken(&rt, line, wanted);
     }
     for (line, place, cause) in REFUSED {
-        is_refused(&rt, rt.alloc(), line, place, cause);
+        is_refused(&rt, line, place, cause);
     }
 }
 
@@ -375,13 +379,13 @@ fn keywords_end_where_another_byte_begins(rt: HostRuntime) -> Result<(), Fail> {
         assert!(rt; word.len() < 20);
         let end = word.len() as u16;
         let letter = beside(rt.alloc(), word, b"Q%")?;
-        is_taken(&rt, rt.alloc(), &letter, &[(K, 0, word), (V, end, b"Q%")]);
+        is_taken(&rt, &letter, &[(K, 0, word), (V, end, b"Q%")]);
         let digit = beside(rt.alloc(), word, b"7")?;
-        is_taken(&rt, rt.alloc(), &digit, &[(K, 0, word), (L, end, b"7")]);
+        is_taken(&rt, &digit, &[(K, 0, word), (L, end, b"7")]);
         let percent = beside(rt.alloc(), word, b"%")?;
-        is_refused(&rt, rt.alloc(), &percent, end, Cause::StrayByte);
+        is_refused(&rt, &percent, end, Cause::StrayByte);
         let dollar = beside(rt.alloc(), word, b"$")?;
-        is_refused(&rt, rt.alloc(), &dollar, end, Cause::StrayByte);
+        is_refused(&rt, &dollar, end, Cause::StrayByte);
     }
     Ok(())
 }
@@ -390,14 +394,14 @@ fn keywords_end_where_another_byte_begins(rt: HostRuntime) -> Result<(), Fail> {
 fn long_lines_and_words(rt: HostRuntime) -> Result<(), Fail> {
     let zeros = vec![in rt.alloc(); b'0'; 255]?;
     assert_eq!(rt; zeros.len(), 255);
-    match scan(rt.alloc(), &zeros) {
+    match scan(&zeros) {
         Ok(tokens) => assert_eq!(rt; tokens.len(), 1),
         Err(_) => assert!(rt; false, "255 digits"),
     }
     let commas = vec![in rt.alloc(); b','; 251]?;
     let data = beside(rt.alloc(), b"DATA", &commas)?;
     assert_eq!(rt; data.len(), 255);
-    match scan(rt.alloc(), &data) {
+    match scan(&data) {
         Ok(tokens) => assert_eq!(rt; tokens.len(), 253),
         Err(_) => assert!(rt; false, "252 items"),
     }

@@ -1,8 +1,9 @@
 //! A tree as a text: one arm for each form of the grammar.
 
 use basic_tree::{
-    ChainLine, Clause, CloseChannel, Expr, FieldPart, FileShape, Line, Modifier, Name, OpenFor,
-    PrintChannel, PrintItem, Printed, Prompt, Separator, Shape, Statement, Target,
+    ChainLine, Clause, CloseChannel, Expr, FieldPart, FileShape, Line, MatrixValue, Modifier, Name,
+    OpenFor, PrintChannel, PrintItem, Printed, Prompt, Separator, Shape, Statement, Target,
+    UsingItem,
 };
 use std::alloc::AllocError;
 
@@ -539,6 +540,88 @@ fn put_value(out: &mut String, statement: &Statement) -> Result<bool, AllocError
     Ok(true)
 }
 
+fn put_using(
+    out: &mut String,
+    channel: &Option<Expr>,
+    format: &Expr,
+    values: &[UsingItem],
+    last: &Option<Expr>,
+) -> Result<(), AllocError> {
+    out.push_str("PRINT")?;
+    put_behind(out, " #", channel)?;
+    out.push_str(" USING ")?;
+    put_expr(out, format)?;
+    for item in values {
+        out.push(' ')?;
+        put_expr(out, &item.value)?;
+        put_separator(out, item.separator)?;
+    }
+    put_behind(out, " ", last)
+}
+
+/// Two arrays with a sign between them.
+fn put_pair(out: &mut String, left: &Name, sign: char, right: &Name) -> Result<(), AllocError> {
+    put_name(out, left)?;
+    out.push(sign)?;
+    put_name(out, right)
+}
+
+fn put_matrix(out: &mut String, value: &MatrixValue) -> Result<(), AllocError> {
+    match value {
+        MatrixValue::Zero => out.push_str("ZER"),
+        MatrixValue::One => out.push_str("CON"),
+        MatrixValue::Identity => out.push_str("IDN"),
+        MatrixValue::Copy(name) => put_name(out, name),
+        MatrixValue::Sum(left, right) => put_pair(out, left, '+', right),
+        MatrixValue::Difference(left, right) => put_pair(out, left, '-', right),
+        MatrixValue::Product(left, right) => put_pair(out, left, '*', right),
+        MatrixValue::Scaled { factor, matrix } => {
+            out.push('(')?;
+            put_expr(out, factor)?;
+            out.push_str(")*")?;
+            put_name(out, matrix)
+        }
+        MatrixValue::Transposed(name) => {
+            out.push_str("TRN ")?;
+            put_name(out, name)
+        }
+    }
+}
+
+/// What is printed by a format, and whole arrays.
+fn put_array(out: &mut String, statement: &Statement) -> Result<bool, AllocError> {
+    match statement {
+        Statement::PrintUsing {
+            channel,
+            format,
+            values,
+            last,
+        } => put_using(out, channel, format, values.as_slice(), last)?,
+        Statement::MatRead(names) => {
+            out.push_str("MAT READ")?;
+            for name in names.as_slice() {
+                out.push(' ')?;
+                put_name(out, name)?;
+            }
+        }
+        Statement::MatPrint { matrix, separator } => {
+            out.push_str("MAT PRINT ")?;
+            put_name(out, matrix)?;
+            if let Some(separator) = separator {
+                put_separator(out, *separator)?;
+            }
+        }
+        Statement::MatLet { target, value } => {
+            out.push_str("MAT ")?;
+            put_name(out, target)?;
+            out.push('=')?;
+            put_matrix(out, value)?;
+        }
+        _ => return Ok(false),
+    }
+    Ok(true)
+}
+
 #[cycle(statements)]
 fn put_clause(out: &mut String, clause: &Clause) -> Result<(), AllocError> {
     match clause {
@@ -597,6 +680,9 @@ pub(crate) fn put_statement(out: &mut String, statement: &Statement) -> Result<(
                 return Ok(());
             }
             if put_file(out, other)? {
+                return Ok(());
+            }
+            if put_array(out, other)? {
                 return Ok(());
             }
             put_value(out, other)?;

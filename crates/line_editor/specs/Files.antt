@@ -1,11 +1,12 @@
 -- Program files: the bytes of their pages, and the lines that are read from them.
 use Rattle.std.specs.Prelude.{◌≡◌, ◌⊎◌, ◌<◌, ◌-◌, ℕ, Bool, true, not, ◌&&◌, ◌==◌, if◌then◌else◌, List, [], ◌∷◌, ◌++◌, length, take, filter, replicate, slice_index, Result, Ok, Err}
 use Rattle.std.specs.List.{AllByRecursion, concat, list_all, slice_split}
+use Rattle.basic_values.specs.declared.errors.TheConstants.{DATA_FORMAT_ERROR}
 use Rattle.basic_values.specs.declared.failures.Trouble.{Trouble}
 use Rattle.basic_values.specs.declared.failures.Trouble.TheVariants.{Refused, NoMemory}
 use Rattle.line_editor.specs.declared.text.EditRefusal.{EditRefusal}
 use Rattle.line_editor.specs.declared.files.Cut.{Cut}
-use Rattle.line_editor.specs.declared.files.TheConstants.{PAGE_BYTES, DATA_FORMAT}
+use Rattle.line_editor.specs.declared.files.TheConstants.{PAGE_BYTES}
 use Rattle.line_editor.specs.Lines.{Lines, stored}
 use Rattle.line_editor.specs.Numbers.{digits_of, number_of, rest_of}
 use Rattle.line_editor.specs.Edits.{IsStorable, RefusesFor}
@@ -81,20 +82,20 @@ IsFileOf pages lines = AreKept (file_lines (file_text pages)) [] lines
 -- One line of a file is stored, or it is bad: error 50.
 abbrev pub KeepsOne : List ℕ → Lines → Lines → Result Unit (Trouble ℕ) → Type 0
 KeepsOne text old new (Ok done) = IsKept text old × (new ≡ kept text old)
-KeepsOne text old new (Err (Refused fault)) = (fault ≡ DATA_FORMAT) × IsBad text old
+KeepsOne text old new (Err (Refused fault)) = (fault ≡ DATA_FORMAT_ERROR) × IsBad text old
 KeepsOne text old new (Err NoMemory) = Unit {0}
 
 -- Lines of a file are stored behind others, or there is a bad one among them: error 50.
 abbrev pub KeepsAll : List (List ℕ) → Lines → Lines → Result Unit (Trouble ℕ) → Type 0
 KeepsAll texts old new (Ok done) = AreKept texts old new
-KeepsAll texts old new (Err (Refused fault)) = (fault ≡ DATA_FORMAT) × HasBad texts old
+KeepsAll texts old new (Err (Refused fault)) = (fault ≡ DATA_FORMAT_ERROR) × HasBad texts old
 KeepsAll texts old new (Err NoMemory) = Unit {0}
 
 -- A file is read.
 abbrev pub ReadsFile : List (List ℕ) → Result Lines (Trouble ℕ) → Type 0
 ReadsFile pages (Ok lines) = IsFileOf pages lines
 ReadsFile pages (Err (Refused fault)) =
-    (fault ≡ DATA_FORMAT) × HasBad (file_lines (file_text pages)) []
+    (fault ≡ DATA_FORMAT_ERROR) × HasBad (file_lines (file_text pages)) []
 ReadsFile pages (Err NoMemory) = Unit {0}
 
 -- no line has a zero byte or an LF

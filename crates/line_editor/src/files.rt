@@ -6,15 +6,13 @@ ghost use Rattle.line_editor.specs.Files.{is_written, without_return, file_text,
 
 use crate::numbers::line_number;
 use crate::text::{MOST_NUMBER, ProgramText};
+use basic_values::errors::DATA_FORMAT_ERROR;
 use basic_values::{Fault, NoMemory, Trouble};
 use monitor_calls::Page;
 use std::alloc::Global;
 
 /// The bytes of a page.
 pub const PAGE_BYTES: usize = 512;
-
-/// The error of a file that is no program's.
-pub const DATA_FORMAT: u8 = 50;
 
 /// The first line of some text, and what is left behind it.
 #[derive(Clone, Copy)]
@@ -66,11 +64,11 @@ impl ProgramText {
         ensures { KeepsOne text.now self.old self.new result }
     {
         let Some(numbered) = line_number(text) else {
-            return Err(Trouble::Refused(Fault::new(DATA_FORMAT)));
+            return Err(Trouble::Refused(Fault::new(DATA_FORMAT_ERROR)));
         };
         match self.keep(numbered.number, numbered.rest) {
             Ok(()) => Ok(()),
-            Err(Trouble::Refused(_)) => Err(Trouble::Refused(Fault::new(DATA_FORMAT))),
+            Err(Trouble::Refused(_)) => Err(Trouble::Refused(Fault::new(DATA_FORMAT_ERROR))),
             Err(Trouble::NoMemory) => Err(Trouble::NoMemory),
         }
     }

@@ -11,6 +11,6 @@ mod files;
 mod numbers;
 mod text;
 
-pub use files::{DATA_FORMAT, PAGE_BYTES};
+pub use files::PAGE_BYTES;
 pub use numbers::{Numbered, line_number};
 pub use text::{EditRefusal, MOST_LINES, ProgramText};

@@ -6,21 +6,13 @@ ghost use Rattle.monitor_model.specs.Refusals.{RefusedBy, RefusedByOrNoMemory};
 ghost use Rattle.monitor_model.specs.Queues.{is_receiver, has_receiver, is_full, letters_of, declare, drop_receiver, send, receive};
 ghost use Rattle.message_queues.specs.Calls.{declare_refusals, send_refusals, receive_refusals};
 
+use basic_values::errors::{NAME_EXISTS, NO_BUFFER_SPACE, NO_SUCH_FILE};
 use basic_values::{Fault, NoMemory, Trouble};
 use circular_buffer::HeapCircularBuffer;
 use monitor_calls::Short;
 use monitor_model::Letter;
 use std::alloc::Global;
 use std::marker::Model;
-
-/// The number of "can't find file or account", where no receiver or no letter is there.
-const NOT_FOUND: u8 = 5;
-
-/// The number of "name or account now exists", where a name is in use.
-const NAME_IN_USE: u8 = 16;
-
-/// The number of "no room for more messages", where as many wait as the receiver takes.
-const NO_ROOM: u8 = 32;
 
 /// What a receiver is called, its job, and a ring of as many letters as it takes.
 #[derive(Drop)]
@@ -69,7 +61,7 @@ impl Queues {
         ensures err { OnErr result (self.new ≡ self.old) }
     {
         if self.is_receiver(&name) || self.has_receiver(job) {
-            return Err(Trouble::Refused(Fault::new(NAME_IN_USE)));
+            return Err(Trouble::Refused(Fault::new(NAME_EXISTS)));
         }
         self.add(job, name, most)?;
         Ok(())
@@ -82,10 +74,10 @@ impl Queues {
         ensures err { OnErr result (self.new ≡ self.old) }
     {
         if !self.is_receiver(name) {
-            return Err(Fault::new(NOT_FOUND));
+            return Err(Fault::new(NO_SUCH_FILE));
         }
         if self.is_full(name) {
-            return Err(Fault::new(NO_ROOM));
+            return Err(Fault::new(NO_BUFFER_SPACE));
         }
         self.post(name, message);
         Ok(())
@@ -113,7 +105,7 @@ impl Queues {
     {
         match self.take(job) {
             Some(letter) => Ok(letter),
-            None => Err(Fault::new(NOT_FOUND)),
+            None => Err(Fault::new(NO_SUCH_FILE)),
         }
     }
 

@@ -8,9 +8,11 @@ ghost use Rattle.monitor_calls.specs.Rooms.{HasRoom};
 use crate::files::{FileName, OpenKind};
 use crate::names::{Account, Short};
 use crate::pages::Page;
-use crate::ranges::{read_account, read_name, read_option, read_page, read_short, read_text};
+use crate::ranges::{
+    read_account, read_name, read_option, read_page, read_pages, read_short, read_text,
+};
 use crate::rooms::ReplyRoom;
-use basic_values::{Fault, Text};
+use basic_values::{Fault, Series, Text};
 
 /// What a job asks of the monitor.
 #[derive(Drop)]
@@ -44,6 +46,20 @@ pub enum Request {
         channel: u8,
         block: u16,
         page: Page,
+    },
+    /// Reads a record of a channel's file: so many blocks from this one on, 1 to 3, as far as the
+    /// file goes. A channel for update then holds these blocks alone.
+    GetRecord {
+        channel: u8,
+        block: u16,
+        count: u8,
+    },
+    /// Writes a record of a channel's file: 1 to 3 blocks from this one on. Past its end the file
+    /// grows.
+    PutRecord {
+        channel: u8,
+        block: u16,
+        pages: Series<Page>,
     },
     /// Lets go of what a channel holds.
     Unlock {
@@ -84,6 +100,18 @@ pub enum Request {
     },
     /// The job has used 1,000 units more.
     Tick,
+    /// Gives the job the printer until it gives it back.
+    Assign,
+    /// Gives the printer back.
+    Deassign,
+    /// Begins a listing on the printer.
+    OpenPrinter,
+    /// Prints up to 512 bytes in the listing.
+    Print {
+        text: Text,
+    },
+    /// Ends the listing.
+    ClosePrinter,
     /// Asks which job this is, for whom it acts, and how many calls it has made.
     Status,
 }
@@ -100,6 +128,8 @@ pub enum Reply {
     },
     /// The block that was read.
     Block(Page),
+    /// The blocks that were read.
+    Record(Series<Page>),
     /// A file with its code. Its blocks are told to whom may read or write it.
     Name {
         name: FileName,
@@ -166,6 +196,21 @@ impl Request {
                 let _place = (*channel, *block);
                 read_page(page);
             }
+            Request::GetRecord {
+                channel,
+                block,
+                count,
+            } => {
+                let _place = (*channel, *block, *count);
+            }
+            Request::PutRecord {
+                channel,
+                block,
+                pages,
+            } => {
+                let _place = (*channel, *block);
+                read_pages(pages);
+            }
             Request::Kill { name } => read_name(name),
             Request::Rename { old, new, code } => {
                 read_name(old);
@@ -184,6 +229,7 @@ impl Request {
                 read_short(name);
                 read_text(text);
             }
+            Request::Print { text } => read_text(text),
             Request::Sleep { seconds } => {
                 let _seconds = *seconds;
             }
@@ -191,6 +237,10 @@ impl Request {
             | Request::Remove
             | Request::Receive
             | Request::Tick
+            | Request::Assign
+            | Request::Deassign
+            | Request::OpenPrinter
+            | Request::ClosePrinter
             | Request::Status => {}
         }
     }
@@ -206,6 +256,7 @@ impl Reply {
                 let _blocks = *blocks;
             }
             Reply::Block(page) => read_page(page),
+            Reply::Record(pages) => read_pages(pages),
             Reply::Name { name, code, blocks } => {
                 read_name(name);
                 let _code = *code;
@@ -241,6 +292,7 @@ impl Reply {
     {
         match self {
             Reply::Block(page) => Reply::Block(room.page_like(page)),
+            Reply::Record(_) => Reply::Record(room.pages()),
             Reply::Message { job, account, .. } => Reply::Message {
                 job: *job,
                 account: *account,

@@ -1,11 +1,11 @@
 //! The room that a copy of a reply takes.
 
 ghost use Rattle.std.specs.Prelude.{◌≡◌, true, Some, IsSome, IfOk};
-ghost use Rattle.monitor_calls.specs.Rooms.{HasRoom, has_page, text_in};
+ghost use Rattle.monitor_calls.specs.Rooms.{HasRoom, has_page, pages_in, text_in};
 
 use crate::calls::Reply;
 use crate::pages::Page;
-use basic_values::{NoMemory, Text, Trouble};
+use basic_values::{NoMemory, Series, Text};
 use std::alloc::Global;
 
 /// What a copy of a reply is made of. It is taken before the monitor is asked, so that a call that
@@ -16,7 +16,9 @@ pub enum ReplyRoom {
     Small,
     /// A page for a block, whatever its bytes.
     Page(Page),
-    /// The text of the message.
+    /// The very pages of a record.
+    Pages(Series<Page>),
+    /// The very text of a message.
     Text(Text),
 }
 
@@ -27,6 +29,7 @@ impl ReplyRoom {
     {
         match reply {
             Reply::Block(_) => Ok(ReplyRoom::Page(Page::new(alloc)?)),
+            Reply::Record(pages) => Ok(ReplyRoom::Pages(copies_of(alloc, pages.as_slice())?)),
             Reply::Message { text, .. } => Ok(ReplyRoom::Text(copy_of(alloc, text)?)),
             Reply::Done
             | Reply::Opened { .. }
@@ -47,7 +50,7 @@ impl ReplyRoom {
                 copy.copy_from(page);
                 copy
             }
-            ReplyRoom::Small | ReplyRoom::Text(_) => unreachable!(),
+            ReplyRoom::Small | ReplyRoom::Text(_) | ReplyRoom::Pages(_) => unreachable!(),
         }
     }
 
@@ -58,7 +61,18 @@ impl ReplyRoom {
     {
         match self {
             ReplyRoom::Text(text) => text,
-            ReplyRoom::Small | ReplyRoom::Page(_) => unreachable!(),
+            ReplyRoom::Small | ReplyRoom::Page(_) | ReplyRoom::Pages(_) => unreachable!(),
+        }
+    }
+
+    /// Its pages.
+    pub(crate) fn pages(self) -> Series<Page>
+        requires { IsSome (pages_in self) }
+        ensures { pages_in self ≡ Some result }
+    {
+        match self {
+            ReplyRoom::Pages(pages) => pages,
+            ReplyRoom::Small | ReplyRoom::Page(_) | ReplyRoom::Text(_) => unreachable!(),
         }
     }
 }
@@ -71,4 +85,23 @@ pub fn copy_of(alloc: Global, text: &Text) -> Result<Text, NoMemory>
         Ok(copy) => Ok(copy),
         Err(_) => Err(NoMemory),
     }
+}
+
+/// Copies of the pages, in their order.
+fn copies_of(alloc: Global, pages: &[Page]) -> Result<Series<Page>, NoMemory>
+    ensures { IfOk result (λ copy. copy ≡ pages.now) }
+{
+    let mut copies = Vec::new(alloc);
+    for page in pages {
+        copies.push(copy_of_page(alloc, page)?)?;
+    }
+    Ok(Series::from_vec(copies))
+}
+
+fn copy_of_page(alloc: Global, page: &Page) -> Result<Page, NoMemory>
+    ensures { IfOk result (λ copy. copy ≡ page.now) }
+{
+    let mut copy = Page::new(alloc)?;
+    copy.copy_from(page);
+    Ok(copy)
 }

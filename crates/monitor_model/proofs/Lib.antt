@@ -14,14 +14,21 @@ pub mod HoldLemmas
 mod Holding
 pub mod JobLemmas
 mod JobsKept
+mod Joined
+mod ListingLaw
 mod MaskLaw
 pub mod Moves
 mod Opened
 pub mod Opening
+pub mod OwnerLemmas
 pub mod Outcomes
 pub mod PageLemmas
+mod PrinterCalls
+mod PrinterKept
+mod PrinterLemmas
 pub mod QueueLemmas
 mod ReceiversKept
+pub mod RecordLemmas
 mod Refusing
 mod Rows
 mod SpanHolds

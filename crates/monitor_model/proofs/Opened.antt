@@ -8,7 +8,7 @@ use Rattle.monitor_calls.specs.declared.files.FileName.{FileName}
 use Rattle.monitor_calls.specs.declared.files.OpenKind.{OpenKind}
 use Rattle.monitor_calls.specs.declared.calls.Entry.{Entry}
 use Rattle.monitor_calls.specs.declared.calls.Request.{Request}
-use Rattle.monitor_calls.specs.declared.calls.Request.TheVariants.{Login, Logout, OpenFile, CloseFile, Get, Put, Unlock, Kill, Rename}
+use Rattle.monitor_calls.specs.declared.calls.Request.TheVariants.{Login, Logout, OpenFile, CloseFile, Get, Put, GetRecord, PutRecord, Unlock, Kill, Rename}
 use Rattle.monitor_calls.specs.declared.calls.Reply.{Reply}
 use Rattle.monitor_calls.specs.declared.calls.Reply.TheVariants.{Done, Opened, Failed, Expired}
 use Rattle.monitor_model.specs.declared.entries.ChannelEntry.{ChannelEntry}
@@ -107,14 +107,17 @@ module _ (m : State) (g : Good m) (job : ℕ) where
     stops = λ caller some. ended_all Logout Done;
     expires = λ request caller some. ended_all request Expired;
     table = λ caller some more. table_is (counted m job) job caller Came (record {
-      idle = λ request reply mild fine. unchanged request reply mild.no_close;
-      posts = λ request reply mild fine receivers posting. unchanged request reply mild.no_close;
+      idle = λ request reply mild goes fine. unchanged request reply mild.no_close;
+      posts = λ request reply mild goes fine receivers posting. unchanged request reply mild.no_close;
+      prints = λ request mild printer printing. unchanged request Done mild.no_close;
       opens = λ channel name kind update code low free there right. opened_one caller some channel _ kind code (size_at m.files name) (inl (by_protection caller some name update there right));
       makes = λ channel name kind update code low free none h. opened_one caller some channel (record { name = name; update = update; read = true; write = true }) kind code 0 (inr (inl (record { is_new = none; may_make = not-false _ h.1.0; read = refl; write = refl })));
       remakes = λ channel name kind update code low free there write unopened. opened_one caller some channel (record { name = name; update = update; read = true; write = true }) kind code 0 (inr (inr (record { is_there = there; may_remake = sym (may-counted m job caller name Write) ∙ write; read = refl; write = refl })));
       closes = λ channel is. closed_one channel;
       gets = λ channel block is h. unchanged (Get channel block) _ (λ d. refl);
       puts = λ channel block page is h. unchanged (Put channel block page) Done (λ d. refl);
+      gets_record = λ channel block count is h. unchanged (GetRecord channel block count) _ (λ d. refl);
+      puts_record = λ channel block pages is h. unchanged (PutRecord channel block pages) Done (λ d. refl);
       unlocks = λ channel is. unchanged (Unlock channel) Done (λ d. refl);
       kills = λ name h. unchanged (Kill name) Done (λ d. refl);
       renames = λ old new code h. unchanged (Rename old new code) Done (λ d. refl);

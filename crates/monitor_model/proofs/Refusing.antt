@@ -80,14 +80,17 @@ stopped_at n test k tests none e =
 done_is_none : (s : State) (job : ℕ) (caller : Account) (n : ℕ) (request : Request) → is_logout request ≡ false → NoneApply (refusals s job caller request) → (done s job caller request).1 ≢ Failed n
 done_is_none s job caller n =
     done_is s job caller (λ request out. out.1 ≢ Failed n) (record {
-      idle = λ request reply mild fine. fine n;
-      posts = λ request reply mild fine receivers posting. fine n;
+      idle = λ request reply mild goes fine. fine n;
+      posts = λ request reply mild goes fine receivers posting. fine n;
+      prints = λ request mild printer printing e. cc;
       opens = λ channel name kind update code low free there right e. cc;
       makes = λ channel name kind update code low free none h e. cc;
       remakes = λ channel name kind update code low free there write unopened e. cc;
       closes = λ channel is e. cc;
       gets = λ channel block is h e. cc;
       puts = λ channel block page is h e. cc;
+      gets_record = λ channel block count is h e. cc;
+      puts_record = λ channel block pages is h e. cc;
       unlocks = λ channel is e. cc;
       kills = λ name h e. cc;
       renames = λ old new code h e. cc;

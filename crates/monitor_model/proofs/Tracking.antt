@@ -1,26 +1,27 @@
 -- Each block that is held lies in a span of the channel that holds it.
-use Rattle.std.proofs.Common.{◌≡◌, ◌≢◌, ℕ, true, false, cond, List, [], ◌∷◌, ◌++◌, refl, sym, ap, ◌∙◌, subst, inl, inr, ◌⊎◌, Some, None}
+use Rattle.std.proofs.Common.{◌≡◌, ◌≢◌, ℕ, true, false, cond, List, [], ◌∷◌, ◌++◌, length, refl, sym, ap, ◌∙◌, subst, arith, inl, inr, ◌⊎◌, Some, None}
 use Rattle.std.specs.FinMap.{empty}
 use Rattle.std.proofs.lemmas.Bool.{true≢false, ne_eqb}
 use Rattle.std.proofs.lemmas.List.{append_assoc, append-nil}
 use Rattle.monitor_calls.specs.declared.files.FileName.{FileName}
 use Rattle.monitor_calls.specs.declared.calls.Entry.{Entry}
 use Rattle.monitor_calls.specs.declared.calls.Request.{Request}
-use Rattle.monitor_calls.specs.declared.calls.Request.TheVariants.{Login, Logout, OpenFile, CloseFile, Get, Put, Unlock, Kill, Rename}
+use Rattle.monitor_calls.specs.declared.calls.Request.TheVariants.{Login, Logout, OpenFile, CloseFile, Get, Put, GetRecord, PutRecord, Unlock, Kill, Rename}
 use Rattle.monitor_calls.specs.declared.calls.Reply.{Reply}
-use Rattle.monitor_calls.specs.declared.calls.Reply.TheVariants.{Done, Block, Failed, Expired}
+use Rattle.monitor_calls.specs.declared.calls.Reply.TheVariants.{Done, Block, Record, Failed, Expired}
 use Rattle.monitor_model.specs.declared.entries.ChannelEntry.{ChannelEntry}
 use Rattle.monitor_model.specs.Jobs.{account_of, channel_of, is_open, the_channel, closed}
 use Rattle.monitor_model.specs.Holds.{HoldMap, holder, hold, release, release_job}
 use Rattle.monitor_model.specs.State.{State}
-use Rattle.monitor_model.specs.Answer.{counted, got, page_read, answer, next, reply}
+use Rattle.monitor_model.specs.Answer.{counted, got, page_read, pages_read, answer, next, reply}
 use Rattle.monitor_model.specs.Good.{Good}
-use Rattle.monitor_model.specs.History.{entry_for, after, IsAnswered, Legal}
-use Rattle.monitor_model.specs.Spans.{is_end, NoEnd, InSpan}
+use Rattle.monitor_model.specs.History.{after, IsAnswered, Legal}
+use Rattle.monitor_model.specs.Spans.{is_end, NoEnd, IsAmong, Reads, InSpan}
 use Rattle.monitor_model.proofs.Tools.{either, some_of}
 use Rattle.monitor_model.proofs.HoldLemmas.{holder-empty, holder_was-release, holder_was-release_job}
 use Rattle.monitor_model.proofs.JobLemmas.{channel_of-count, closed_nobody}
 use Rattle.monitor_model.proofs.Outcomes.{table_is, Outcomes, answer_outcomes}
+use Rattle.monitor_model.proofs.RecordLemmas.{page_among}
 use Rattle.monitor_model.proofs.Holding.{held_by}
 use Rattle.monitor_model.proofs.GoodLaw.{all_good}
 use Rattle.monitor_model.proofs.Histories.{after-append}
@@ -30,9 +31,8 @@ use Rattle.monitor_model.proofs.Histories.{after-append}
 -- the call itself took the block
 record IsFresh (m : State) (job : ℕ) (request : Request) (answer : Reply) (name : FileName) (block k d : ℕ) : Type 0 where
   by : k ≡ job
-  request_is : request ≡ Get d block
   page : List ℕ
-  reply_is : answer ≡ Block page
+  reads : Reads request answer d block page
   entry : ChannelEntry
   is_open : channel_of m.jobs k d ≡ Some entry
   on : entry.name ≡ name
@@ -70,19 +70,21 @@ module _ (m : State) (g : Good m) (job : ℕ) where
       let was = holder_was-release_job m.holds job name block k d is in
       inl (was.0, λ same. absurd (was.1 same))
 
-  get_traced : (channel block : ℕ) → is_open (counted m job).jobs job channel ≡ true → Traced (Get channel block) (got (counted m job) job channel block, Block (page_read (counted m job) job channel block))
-  get_traced channel block is =
+  -- a reading of so many blocks
+  read_traced : (request : Request) (answer : Reply) (channel first count : ℕ) → is_open (counted m job).jobs job channel ≡ true → ((d : ℕ) → channel ≢ d → is_end d request answer ≡ false) → ((block : ℕ) → IsAmong first count block → (page : List ℕ) × Reads request answer channel block page) → Traced request (got (counted m job) job channel first count, answer)
+  read_traced request answer channel first count is ends reads =
       let s = counted m job in
       let at : ChannelEntry = the_channel s.jobs job channel in
       let opened : channel_of m.jobs job channel ≡ Some at = sym (channel_of-count m.jobs job job channel) ∙ some_of (channel_of s.jobs job channel) closed is in
-      let answer : Reply = Block (page_read s job channel block) in
-      elim (at.update) as (λ v. at.update ≡ v → From (Get channel block) (cond v (hold m.holds job channel at.name block) m.holds) answer) [
-        | true ↦ λ update name b k d held. either (held_by m.holds job channel at.name block name b k d held)
-            (λ new. inr (record { by = new.0; request_is = λ i. Get (sym new.1.0 i) (sym new.1.1.1 i); page = page_read s job channel block; reply_is = refl; entry = at; is_open = subst (λ x. channel_of m.jobs x d ≡ Some at) (sym new.0) (subst (λ x. channel_of m.jobs job x ≡ Some at) (sym new.1.0) opened); on = sym new.1.1.0; update = update }))
-            (λ was. inl (was.0, λ same. ne_eqb channel d (λ this. was.1 same (sym this))))
+      elim (at.update) as (λ v. at.update ≡ v → From request (cond v (hold m.holds job channel at.name first count) m.holds) answer) [
+        | true ↦ λ update name b k d held. either (held_by m.holds job channel at.name first count name b k d held)
+            (λ new.
+            let page = reads b new.1.1.1 in
+            inr (record { by = new.0; page = page.0; reads = subst (λ x. Reads request answer x b page.0) (sym new.1.0) page.1; entry = at; is_open = subst (λ x. channel_of m.jobs x d ≡ Some at) (sym new.0) (subst (λ x. channel_of m.jobs job x ≡ Some at) (sym new.1.0) opened); on = sym new.1.1.0; update = update }))
+            (λ was. inl (was.0, λ same. ends d (λ this. was.1 same (sym this))))
         | false ↦ λ update name b k d held. inl (
           held,
-          λ same. ne_eqb channel d (λ this.
+          λ same. ends d (λ this.
               let h = (g.holds.held name b k d held).1 in
               let there : channel_of m.jobs job channel ≡ Some h.entry = subst (λ x. channel_of m.jobs x channel ≡ Some h.entry) same (subst (λ x. channel_of m.jobs k x ≡ Some h.entry) (sym this) h.is_open) in
               let both : Some at ≡ Some h.entry = sym opened ∙ there in
@@ -90,6 +92,9 @@ module _ (m : State) (g : Good m) (job : ℕ) where
               true≢false (sym h.update ∙ sym (ap (λ x. x.update) one) ∙ update)),
         )
       ] refl
+
+  one_block : (first block : ℕ) → IsAmong first 1 block → first ≡ block
+  one_block first block among = omega (arith, among.0, among.1)
 
   hold_outcomes : Outcomes m job Traced
   hold_outcomes = record {
@@ -99,14 +104,23 @@ module _ (m : State) (g : Good m) (job : ℕ) where
     stops = λ caller some. ended_all Logout Done;
     expires = λ request caller some. ended_all request Expired;
     table = λ caller some more. table_is (counted m job) job caller Traced (record {
-      idle = λ request reply mild fine. unchanged request reply mild.no_end;
-      posts = λ request reply mild fine receivers posting. unchanged request reply mild.no_end;
+      idle = λ request reply mild goes fine. unchanged request reply mild.no_end;
+      posts = λ request reply mild goes fine receivers posting. unchanged request reply mild.no_end;
+      prints = λ request mild printer printing. unchanged request Done mild.no_end;
       opens = λ channel name kind update code low free there right. unchanged (OpenFile channel name kind update code) _ (λ d. refl);
       makes = λ channel name kind update code low free none h. unchanged (OpenFile channel name kind update code) _ (λ d. refl);
       remakes = λ channel name kind update code low free there write unopened. unchanged (OpenFile channel name kind update code) _ (λ d. refl);
       closes = λ channel is. freed (CloseFile channel) Done channel (λ d ne. ne_eqb channel d ne);
-      gets = λ channel block is h. get_traced channel block is;
+      gets = λ channel block is h.
+          let page = page_read (counted m job) job channel block in
+          read_traced (Get channel block) (Block page) channel block 1 is (λ d ne. ne_eqb channel d ne) (λ b among. (page, (refl, (one_block block b among, refl))));
       puts = λ channel block page is h. freed (Put channel block page) Done channel (λ d ne. ne_eqb channel d ne);
+      gets_record = λ channel block count is h.
+          let pages = pages_read (counted m job) job channel block count in
+          read_traced (GetRecord channel block count) (Record pages) channel block (length pages) is (λ d ne. ne_eqb channel d ne) (λ b among.
+          let page = page_among pages block b among.0 among.1 in
+          (page.0, (refl, (among.0, page.1))));
+      puts_record = λ channel block pages is h. freed (PutRecord channel block pages) Done channel (λ d ne. ne_eqb channel d ne);
       unlocks = λ channel is. freed (Unlock channel) Done channel (λ d ne. ne_eqb channel d ne);
       kills = λ name h. unchanged (Kill name) Done (λ d. refl);
       renames = λ old new code h. unchanged (Rename old new code) Done (λ d. refl);
@@ -132,8 +146,11 @@ module _ (m : State) (past : List Entry) (entry : Entry) where
   span_more : (k d : ℕ) (name : FileName) (block : ℕ) (page : List ℕ) → InSpan m past k d name block page → (k ≡ entry.job → is_end d entry.request entry.reply ≡ false) → InSpan m (past ++ entry ∷ []) k d name block page
   span_more k d name block page s last = record {
     before = s.before;
+    by = s.by;
     between = s.between ++ entry ∷ [];
-    is = ap (λ x. x ++ entry ∷ []) s.is ∙ append_assoc s.before (entry_for k (Get d block) (Block page) ∷ s.between) (entry ∷ []);
+    is = ap (λ x. x ++ entry ∷ []) s.is ∙ append_assoc s.before (s.by ∷ s.between) (entry ∷ []);
+    of_job = s.of_job;
+    reads = s.reads;
     opened = s.opened;
     is_open = s.is_open;
     on = s.on;
@@ -144,8 +161,11 @@ module _ (m : State) (past : List Entry) (entry : Entry) where
   span_new : (k d : ℕ) (name : FileName) (block : ℕ) → (f : IsFresh (after m past) entry.job entry.request entry.reply name block k d) → InSpan m (past ++ entry ∷ []) k d name block f.page
   span_new k d name block f = record {
     before = past;
+    by = entry;
     between = [];
-    is = ap (λ x. past ++ x ∷ []) (λ i. record { job = sym f.by i; request = f.request_is i; reply = f.reply_is i });
+    is = refl;
+    of_job = sym f.by;
+    reads = f.reads;
     opened = f.entry;
     is_open = f.is_open;
     on = f.on;

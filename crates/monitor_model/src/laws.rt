@@ -4,6 +4,7 @@ ghost use Rattle.monitor_model.specs.Laws.{OpeningIsGood, OpeningIsUnopened};
 ghost use Rattle.monitor_model.specs.Laws.{AnswerKeepsGood, AnswerKeepsJobs};
 ghost use Rattle.monitor_model.specs.Laws.{HeldInSpans, RefusedInSpans, RefusedInSpansOnly};
 ghost use Rattle.monitor_model.specs.Laws.{RightsOfOpened, RefusedByRights};
+ghost use Rattle.monitor_model.specs.Laws.{PrintsAlone, PrintsInListing, ListingsAreAll, RefusedByPrinter};
 ghost use Rattle.monitor_model.specs.Laws.{MaskedTellsTheSame, MaskedIsProper, MaskedCase};
 
 /// The state that a good volume opens with is good.
@@ -26,9 +27,9 @@ pub fn answer_keeps_jobs()
     ensures { AnswerKeepsJobs }
 {}
 
-/// What a block that is held means. From the Get that was replied a page through a channel for
-/// update, up to the call that frees the block, the channel holds it and its bytes stay; each
-/// admissible call of another channel on it is refused by 19; and 19 comes to no other call.
+/// What a block that is held means. From the call that read its page through a channel for update,
+/// up to the call that frees the block, the channel holds it and its bytes stay; each admissible
+/// call of another channel on it is refused by 19; and 19 comes to no other call.
 pub fn exclusion()
     ensures held { HeldInSpans }
     ensures refused { RefusedInSpans }
@@ -43,11 +44,21 @@ pub fn rights()
     ensures ten { RefusedByRights }
 {}
 
-/// What of a history is hidden from an account, in a run where no call is refused for want of room:
-/// all that is done to the blocks of names that the account is denied throughout. The history
-/// without it, with each Get, Put and Unlock there a Tick, is legal, and tells the account the
-/// same; and its numbers and texts are those of their types where the history's are. There are such
-/// histories.
+/// Whose the printer is. While a job prints a listing, no other job begins one, prints, or gets the
+/// printer assigned; who prints has begun a listing; the listings, joined, are all that is printed;
+/// and who wants the printer is refused by 8 exactly where another job has it.
+pub fn printing()
+    ensures alone { PrintsAlone }
+    ensures begun { PrintsInListing }
+    ensures joined { ListingsAreAll }
+    ensures eight { RefusedByPrinter }
+{}
+
+/// What of a history is hidden from an account, in a run where no call is refused for want of room,
+/// on the disk or by a quota: all that is done to the blocks of names that the account is denied
+/// throughout. The history without it, with each reading, writing and Unlock there a Tick, is legal,
+/// and tells the account the same; and its numbers and texts are those of their types where the
+/// history's are. There are such histories.
 pub fn masking()
     ensures same { MaskedTellsTheSame }
     ensures proper { MaskedIsProper }

@@ -2,39 +2,16 @@
 use Rattle.std.specs.Prelude.{ℕ, false, List, Option}
 use Rattle.monitor_calls.specs.declared.files.FileName.{FileName}
 use Rattle.monitor_calls.specs.declared.files.OpenKind.{OpenKind}
-use Rattle.monitor_calls.specs.declared.calls.Request.{Request}
 use Rattle.monitor_calls.specs.declared.calls.Request.TheVariants as request
-use Rattle.monitor_calls.specs.declared.calls.Reply.{Reply}
-use Rattle.monitor_calls.specs.declared.calls.Reply.TheVariants.{Done, Opened, Block, Failed}
-use Rattle.job_model.specs.Act.{Act, Gives, Breaks, Break, Faulted, Gone, ◌then◌}
-use Rattle.job_model.specs.Asking.{ask}
-use Rattle.program_files.specs.Ends.{at_ends}
+use Rattle.job_model.specs.Act.{Act, Gives, Breaks, Break, Faulted, ◌then◌}
+use Rattle.job_model.specs.Ends.{at_ends}
+use Rattle.job_model.specs.Replies.{ReplyAct, asks_for, done_by, opened_by, block_by}
 use Rattle.program_files.specs.declared.channels.TheConstants.{CHANNEL}
 
 abbrev pub FileAct : Type 0 → Type 0
-FileAct A = Act ⊥ Unit A
-
--- WHAT A REPLY LEADS TO: a refusal is a fault, and what is no reply to the request ends the job
-
-abbrev pub done_by : Reply → FileAct Unit
-done_by Done = Gives tt tt
-done_by (Failed number) = Breaks (Faulted number) tt
-done_by reply = Breaks Gone tt
-
-abbrev pub opened_by : Reply → FileAct ℕ
-opened_by (Opened blocks read write) = Gives blocks tt
-opened_by (Failed number) = Breaks (Faulted number) tt
-opened_by reply = Breaks Gone tt
-
-abbrev pub block_by : Reply → FileAct (List ℕ)
-block_by (Block page) = Gives page tt
-block_by (Failed number) = Breaks (Faulted number) tt
-block_by reply = Breaks Gone tt
+FileAct A = ReplyAct A
 
 -- THE REQUESTS
-
-abbrev pub asks_for : {A : Type 0} → (Reply → FileAct A) → Request → FileAct A
-asks_for by request = ask request tt then λ reply _. by reply
 
 -- it gives how many blocks the file has; the code is for a file that is made
 abbrev pub opens : FileName → OpenKind → Option ℕ → FileAct ℕ

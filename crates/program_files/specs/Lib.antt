@@ -1,5 +1,4 @@
 pub mod Catalogs
 pub mod Channels
-pub mod Ends
 pub mod Programs
 pub mod Taken

@@ -10,9 +10,9 @@ ghost use Rattle.monitor_calls.specs.declared.names.Account.{Account as TheAccou
 ghost use Rattle.program_files.specs.Taken.{IsTold};
 ghost use Rattle.program_files.specs.Catalogs.{shown_by, at_left, at_right, blocks_text, file_line, catalog_from, shows_file};
 
-use crate::channels::is_error;
 use basic_values::{NoMemory, Stop};
 use itoa::Buffer;
+use job_model::is_error;
 use monitor_calls::{Account, FileName, Port, Reply, Request};
 use std::alloc::Global;
 use terminal_line::Screen;

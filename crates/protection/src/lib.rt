@@ -5,11 +5,9 @@
 ghost use Rattle.std.specs.Prelude.{◌≡◌};
 ghost use Rattle.monitor_model.specs.Allows.{allows, refusing_bit};
 
+use basic_values::limits::SYSTEM_PROJECT;
 use monitor_calls::Account;
 pub use monitor_model::Right;
-
-/// The project whose accounts may do all.
-const SYSTEM_PROJECT: u8 = 1;
 
 /// Whether a file's code leaves the right to the caller. It does to project 1, and to others where
 /// it lacks the bit that refuses the owner, another account of the owner's project, or all others.

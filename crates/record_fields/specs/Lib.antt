@@ -1,4 +1,5 @@
 pub mod Buffers
+pub mod Laws
 pub mod Layouts
 pub mod Lending
 pub mod Parts

@@ -10,7 +10,7 @@ use std::alloc::Global;
 use std::marker::Model;
 
 /// The channels of a job, which are numbered from 1.
-pub const CHANNELS: usize = 12;
+pub const BUFFER_COUNT: usize = 12;
 
 /// The bytes of a channel's buffer, and of a block of a file.
 pub const BUFFER_BYTES: usize = 512;
@@ -23,22 +23,22 @@ pub struct Buffers {
 
 impl Model for Buffers {
     ghost use Rattle.std.specs.Prelude.{List, ℕ, ◌≡◌, vec_len};
-    ghost use Rattle.record_fields.specs.declared.buffers.TheConstants.{CHANNELS};
+    ghost use Rattle.record_fields.specs.declared.buffers.TheConstants.{BUFFER_COUNT};
 
     ghost Value = { List (List ℕ) };
 
     ghost view = { λ buffers. buffers.blocks.items };
 
-    ghost invariant = { λ buffers. vec_len buffers.blocks ≡ CHANNELS };
+    ghost invariant = { λ buffers. vec_len buffers.blocks ≡ BUFFER_COUNT };
 }
 
 impl Buffers {
     /// Buffers of zeros.
     pub fn new(alloc: Global) -> Result<Buffers, NoMemory>
-        ensures { IfOk result (λ buffers. buffers ≡ replicate CHANNELS (replicate BUFFER_BYTES 0)) }
+        ensures { IfOk result (λ buffers. buffers ≡ replicate BUFFER_COUNT (replicate BUFFER_BYTES 0)) }
     {
-        let mut blocks = Vec::with_capacity(alloc, CHANNELS)?;
-        blocks.resize(CHANNELS, [0u8; BUFFER_BYTES])?;
+        let mut blocks = Vec::with_capacity(alloc, BUFFER_COUNT)?;
+        blocks.resize(BUFFER_COUNT, [0u8; BUFFER_BYTES])?;
         Ok(Buffers { blocks })
     }
 

@@ -2,6 +2,7 @@
 -- keys and the replies. A judge says of each line that is a statement which tree the grammar has for
 -- it, or why it refuses it.
 use Rattle.std.specs.Prelude.{◌≡◌, ℕ, zero, suc, Bool, true, false, if◌then◌else◌, List, [], ◌∷◌, ◌++◌, length, map, replicate, Option, Some, None, Result, Ok, Err, codes}
+use Rattle.basic_values.specs.declared.errors.TheConstants.{DATA_FORMAT_ERROR}
 use Rattle.monitor_calls.specs.declared.names.Account.{Account}
 use Rattle.monitor_calls.specs.declared.files.OpenKind.{OpenKind}
 use Rattle.monitor_calls.specs.declared.calls.Request.{Request}
@@ -19,13 +20,12 @@ use Rattle.session_model.specs.Commands.{Login, Naming, Nameless, Named, Misname
 use Rattle.job_model.specs.Play.{at_start, fuel_for, play, End, Gave, Broke, Finished, Played, told_by}
 use Rattle.job_model.specs.PlayLaws.{Begins}
 use Rattle.job_model.specs.Texts.{line_end, job_expired}
+use Rattle.job_model.specs.Ends.{at_ends}
 use Rattle.file_names.specs.declared.spec.Spec.{Spec}
-use Rattle.line_editor.specs.declared.files.TheConstants.{DATA_FORMAT}
 use Rattle.line_editor.specs.Lines.{Lines, within, without, listing}
 use Rattle.program_files.specs.declared.catalogs.TheConstants.{MOST_FILES}
 use Rattle.program_files.specs.Catalogs.{catalog_from}
 use Rattle.program_files.specs.Channels.{FileAct, kills}
-use Rattle.program_files.specs.Ends.{at_ends}
 use Rattle.program_files.specs.Programs.{reads_pages, writes_pages}
 use Rattle.program_model.specs.declared.refusals.LowerRefusal.{LowerRefusal}
 use Rattle.program_model.specs.Program.{Program, Position}
@@ -181,7 +181,7 @@ loaded name lines s = with_lines lines (named name (emptied s))
 
 -- OLD: a text that is no program is an error, and nothing has changed
 abbrev pub loads : {R : Type 0} → List ℕ → Option Lines → Session R → Step R
-loads name None s = answered (fault_line DATA_FORMAT) s
+loads name None s = answered (fault_line DATA_FORMAT_ERROR) s
 loads name (Some lines) s = answered [] (loaded name lines s)
 
 abbrev pub reads_old : {R : Type 0} → Judge → Spec → Session R → Step R
@@ -285,7 +285,7 @@ runs program most s = runs_unless (refusal_of program) program most (begun progr
 
 -- RUN with a name: the program is read as OLD reads it, and runs
 abbrev pub runs_loaded : Judge → ℕ → List ℕ → Option Lines → Session Position → Step Position
-runs_loaded judge most name None s = answered (fault_line DATA_FORMAT) s
+runs_loaded judge most name None s = answered (fault_line DATA_FORMAT_ERROR) s
 runs_loaded judge most name (Some lines) s = runs (program_by judge lines) most (loaded name lines s)
 
 abbrev pub reads_and_runs : Judge → ℕ → Spec → Session Position → Step Position

@@ -14,27 +14,20 @@ pub returns-in-Comment-clause-found : goal.returns-in-Comment-clause-found
 returns-in-Comment-clause-found c =
     sym c.loop-place.invariant.value ∙ at_comment _ _ _ c.loop-place-test.true c.in-Comment.ensures.value
 
-pub returns-in-Comment-clause-few : goal.returns-in-Comment-clause-few
-returns-in-Comment-clause-few c = omega arith
-
 pub returns-in-Data-clause-found : goal.returns-in-Data-clause-found
 returns-in-Data-clause-found c =
     let items = items_from (c.loop-place.place + 4) [] None (drop (c.loop-place.place + 4) c.args.line.now) in
     sym c.loop-place.invariant.value
     ∙ at_data _ _ _ c.loop-place-test.true c.in-Data.ensures.value
-    ∙ ap (λ (ts : List Lexeme). Ok ts) (sym (c.in_ok-push_items-in-Data.ensures.items ∙ ap (λ (ts : List Lexeme). ts ++ items) c.in_ok-push-in-Data.ensures.tokens))
-
-pub returns-in-Data-clause-few : goal.returns-in-Data-clause-few
-returns-in-Data-clause-few c =
-    omega (arith, c.in_ok-push_items-in-Data.ensures.count, c.in_ok-push-in-Data.ensures.count)
+    ∙ ap (λ (ts : List Lexeme). Ok ts) (sym (c.push_items.ensures ∙ ap (λ (ts : List Lexeme). ts ++ items) c.push.ensures.tokens))
 
 pub loop-place-preserved : goal.loop-place-preserved
 loop-place-preserved c =
     let behind = tokens_from (c.loop-place.place + c.in-Token.len) 0 (drop (c.loop-place.place + c.in-Token.len) c.args.line.now) in
     record {
-      value = ap (λ (ts : List Lexeme). with_tokens ts behind) c.in_ok-push-in-Token.ensures.tokens ∙ sym (at_token _ _ _ c.loop-place-test.true _ _ c.in-Token.ensures.value c.in-Token.ensures.fits.0) ∙ c.loop-place.invariant.value;
+      value = ap (λ (ts : List Lexeme). with_tokens ts behind) c.push-in-Token.ensures.tokens ∙ sym (at_token _ _ _ c.loop-place-test.true _ _ c.in-Token.ensures.value c.in-Token.ensures.fits.0) ∙ c.loop-place.invariant.value;
       within = omega (arith, c.in-Token.ensures.fits.1, length-drop c.loop-place.place c.args.line.now);
-      count = omega (arith, c.in_ok-push-in-Token.ensures.count, c.in-Token.ensures.fits.0);
+      count = omega (arith, c.push-in-Token.ensures.count, c.in-Token.ensures.fits.0);
     }
 
 pub returns-in-Refused-clause-refused : goal.returns-in-Refused-clause-refused
@@ -43,6 +36,3 @@ returns-in-Refused-clause-refused c =
 
 pub returns-clause-found : goal.returns-clause-found
 returns-clause-found c = sym c.loop-place.invariant.value ∙ at_end _ _ _ (omega arith)
-
-pub returns-clause-few : goal.returns-clause-few
-returns-clause-few c = omega arith

@@ -8,4 +8,4 @@ returns-in-Ok-clause-slices c = tokens_cut c.args.line.now c.args.line.now 0 0 _
 
 pub invariant_of-result : goal.invariant_of-result
 invariant_of-result c =
-    (omega (arith, c.in-Ok.ensures.few), cut_short c.args.line.now 0 _ c.requires (tokens_cut c.args.line.now c.args.line.now 0 0 _ refl (omega arith) c.in-Ok.ensures.found))
+    cut_short c.args.line.now 0 _ c.requires (tokens_cut c.args.line.now c.args.line.now 0 0 _ refl (omega arith) c.in-Ok.ensures.found)

@@ -11,7 +11,7 @@ returns-then-len-ge-MOST_TERMINALS c =
     let good : is_terminal_name c.args.name.now ≡ true = search rules in
     let new : is_named terminals.items c.args.name.now ≡ false = search rules in
     let full : 63 ≤ length terminals.items = omega (arith, c.len.ensures, c.args.deck.terminals.ok.0) in
-    terminal_full terminals.items c.args.name.now (InTerminal (deck_of c.args.deck) (new_terminal c.args.name.now)) good new full
+    terminal_full terminals.items c.args.name.now (InTerminal c.args.version (deck_of c.args.deck) (new_terminal c.args.name.now)) good new full
 
 pub returns : goal.returns
 returns c =
@@ -21,5 +21,5 @@ returns c =
     let few : length terminals.items < 63 = omega (arith, c.len.ensures, c.args.deck.terminals.ok.0) in
     let same : c.in_ok-terminal.terminal ≡ c.args.name.now = search rules in
     let none = c.new-keys.ensures.items in
-    terminal_added terminals.items c.args.name.now (InTerminal (deck_of c.args.deck) (new_terminal c.args.name.now)) good new few
-    ∙ (λ i. Ok (InTerminal (deck_of c.args.deck) (record { name = sym same i; keys = sym none i })))
+    terminal_added terminals.items c.args.name.now (InTerminal c.args.version (deck_of c.args.deck) (new_terminal c.args.name.now)) good new few
+    ∙ (λ i. Ok (InTerminal c.args.version (deck_of c.args.deck) (record { name = sym same i; keys = sym none i })))

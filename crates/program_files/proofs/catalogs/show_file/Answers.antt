@@ -1,7 +1,8 @@
 use Rattle.monitor_calls.specs.declared.calls.Request.TheVariants as request
 use Rattle.job_model.specs.Asking.{counts_as}
 use Rattle.program_files.specs.Catalogs.{shown_by}
-use Rattle.program_files.proofs.Acts.{follows_told, follows_unasked}
+use Rattle.job_model.proofs.Asked.{follows_unasked}
+use Rattle.program_files.proofs.Acts.{follows_told}
 use Rattle.program_files.proofs.catalogs.show_file.Goals as goal
 
 pub returns-in_err-reply : goal.returns-in_err-reply

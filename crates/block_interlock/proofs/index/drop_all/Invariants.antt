@@ -1,0 +1,11 @@
+use Rattle.std.proofs.Common.{◌≤◌}
+use Rattle.std.specs.Prelude.{vec_capacity}
+use Rattle.block_interlock.specs.Index.{DropsAll}
+use Rattle.block_interlock.proofs.RunLemmas.{first}
+use Rattle.block_interlock.proofs.index.drop_all.Given as goal
+
+abbrev pub invariant-loop-place : goal.invariant-loop-place
+invariant-loop-place l = record {
+  drops : DropsAll (first l.run l.place) l.initial.index.items l.index.items;
+  room : vec_capacity l.initial.index ≤ vec_capacity l.index;
+}

@@ -1,0 +1,13 @@
+//! What a user of the parts relies on, as laws over the definitions: each is the contract of a function that does nothing.
+
+ghost use Rattle.record_fields.specs.Laws.{OthersStay, WrittenIsRead};
+
+/// What was written to a part is read there.
+pub fn written_is_read()
+    ensures { WrittenIsRead }
+{}
+
+/// A write to a part leaves each part apart from it as it was.
+pub fn others_stay()
+    ensures { OthersStay }
+{}
