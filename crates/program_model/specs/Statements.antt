@@ -1,6 +1,6 @@
 -- What each statement does at its position, and to what it leads.
 use Rattle.std.specs.Prelude.{ℕ, Bool, true, false, if◌then◌else◌, Option, Some, None}
-use Rattle.basic_tree.specs.Trees.{Tree, ModifierTree, If, Unless, While, Until, ForModifier, StatementTree, IfThen, IfGoto, Modified, For, Next, FnEnd, Data, Dim, DimFile, Def, Let, Result as ResultOf, Print, Input, InputLine, Read, Restore, Goto, Gosub, Return, OnGoto, OnGosub, OnErrorGoto, Resume, Stop, End, Chain, Sleep, Open, Close, Get, Put, Unlock, Field, Lset, Rset, Kill, Rename}
+use Rattle.basic_tree.specs.Trees.{Tree, ModifierTree, If, Unless, While, Until, ForModifier, StatementTree, IfThen, IfGoto, Modified, For, Next, FnEnd, Data, Dim, DimFile, Def, Let, Result as ResultOf, Print, PrintUsing, Input, InputLine, Read, Restore, Goto, Gosub, Return, OnGoto, OnGosub, OnErrorGoto, Resume, Stop, End, Chain, Sleep, Open, Close, Get, Put, Unlock, Field, Lset, Rset, Kill, Rename, MatRead, MatPrint, MatLet}
 use Rattle.job_model.specs.Act.{Gives, Breaks, Left, ◌then◌}
 use Rattle.program_model.specs.Program.{Program, Position, whole, inside, items_of, behind_body, next_of, for_of, behind_statement, loop_place}
 use Rattle.program_model.specs.Job.{Value, number, Job, Ended, Stopped}
@@ -90,6 +90,7 @@ does around program q (Resume n) j = resumes (λ m. At (whole m)) (at_line progr
 does around program q Stop j = Breaks (Left (Stopped q)) j
 does around program q End j = Breaks (Left Ended) j
 does around program q (Print (Some channel) items last) j = of_later_stage q j
+does around program q (PrintUsing channel format values last) j = of_later_stage q j
 does around program q (Input (Some channel) prompt targets) j = of_later_stage q j
 does around program q (InputLine (Some channel) variable) j = of_later_stage q j
 does around program q (DimFile channel shapes) j = of_later_stage q j
@@ -105,3 +106,6 @@ does around program q (Lset variable e) j = of_later_stage q j
 does around program q (Rset variable e) j = of_later_stage q j
 does around program q (Kill e) j = of_later_stage q j
 does around program q (Rename old new) j = of_later_stage q j
+does around program q (MatRead matrices) j = of_later_stage q j
+does around program q (MatPrint matrix separator) j = of_later_stage q j
+does around program q (MatLet target value) j = of_later_stage q j

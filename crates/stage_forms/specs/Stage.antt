@@ -3,7 +3,7 @@ use Rattle.std.specs.Prelude.{Bool, true, false, ◌&&◌, List, Some, None}
 use Rattle.std.specs.List.{list_all}
 use Rattle.basic_tree.specs.declared.expressions.Function.{Function}
 use Rattle.basic_tree.specs.declared.expressions.Function.TheVariants as function
-use Rattle.basic_tree.specs.Trees.{Tree, Literal, Quoted, Variable, Element, FunctionOf, Call, Parenthesized, Negative, Positive, Not, Operation, Comparison, Trees, NoTrees, AndTrees, StatementTree, IfThen, IfGoto, Modified, For, Next, FnEnd, Data, Dim, DimFile, Def, Let, Result as ResultOf, Print, Input, InputLine, Read, Restore, Goto, Gosub, Return, OnGoto, OnGosub, OnErrorGoto, Resume, Stop, End, Chain, Sleep, Open, Close, Get, Put, Unlock, Field, Lset, Rset, Kill, Rename}
+use Rattle.basic_tree.specs.Trees.{Tree, Literal, Quoted, Variable, Element, FunctionOf, Call, Parenthesized, Negative, Positive, Not, Operation, Comparison, Trees, NoTrees, AndTrees, StatementTree, IfThen, IfGoto, Modified, For, Next, FnEnd, Data, Dim, DimFile, Def, Let, Result as ResultOf, Print, PrintUsing, Input, InputLine, Read, Restore, Goto, Gosub, Return, OnGoto, OnGosub, OnErrorGoto, Resume, Stop, End, Chain, Sleep, Open, Close, Get, Put, Unlock, Field, Lset, Rset, Kill, Rename, MatRead, MatPrint, MatLet}
 use Rattle.program_model.specs.Parts.{simple_in, expressions_in}
 
 -- EXPRESSIONS
@@ -56,9 +56,10 @@ abbrev mutual
 
 -- STATEMENTS
 
--- of a statement without IFs and modifiers around it: what uses a channel comes later, and so do CHAIN and SLEEP. Each form has its row.
+-- of a statement without IFs and modifiers around it: what uses a channel comes later, and so do CHAIN, SLEEP, PRINT USING and MAT. Each form has its row.
 abbrev pub is_form_in_stage : StatementTree → Bool
 is_form_in_stage (Print (Some channel) items last) = false
+is_form_in_stage (PrintUsing channel format values last) = false
 is_form_in_stage (Input (Some channel) prompt targets) = false
 is_form_in_stage (InputLine (Some channel) variable) = false
 is_form_in_stage (DimFile channel shapes) = false
@@ -72,6 +73,9 @@ is_form_in_stage (Lset variable e) = false
 is_form_in_stage (Rset variable e) = false
 is_form_in_stage (Kill e) = false
 is_form_in_stage (Rename old new) = false
+is_form_in_stage (MatRead matrices) = false
+is_form_in_stage (MatPrint matrix separator) = false
+is_form_in_stage (MatLet target value) = false
 is_form_in_stage (Chain e line) = false
 is_form_in_stage (Sleep e) = false
 is_form_in_stage (Print None items last) = true

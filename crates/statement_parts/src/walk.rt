@@ -3,15 +3,15 @@
 ghost use Rattle.std.specs.Prelude.{◌≡◌, [], ◌∷◌, ◌++◌, map, option_map, true, OnOk};
 ghost use Rattle.basic_tree.specs.StatementViews.{statement_of, clause_of};
 ghost use Rattle.basic_tree.specs.Trees.{Modified, End};
-ghost use Rattle.basic_tree.specs.TreeViews.{tree_of, target_of, printed_of, item_of, print_channel_of, close_channel_of, field_part_of, modifier_of};
-ghost use Rattle.program_model.specs.Parts.{given, printed_expression};
+ghost use Rattle.basic_tree.specs.TreeViews.{tree_of, target_of, printed_of, item_of, print_channel_of, close_channel_of, field_part_of, modifier_of, using_item_of, matrix_of};
+ghost use Rattle.program_model.specs.Parts.{given, printed_expression, matrix_expressions};
 ghost use Rattle.program_model.specs.Program.{loops_outside};
 ghost use Rattle.statement_parts.specs.Walk.{own_expressions, parts_alone, modifier_parts, parts_in, parts_in_clause, visited, shown};
 
 use crate::parts::{Expression, Part, Simple, Visitor};
 use basic_tree::{
-    Clause, CloseChannel, Expr, FieldPart, Modifier, PrintChannel, PrintItem, Printed, Statement,
-    Target,
+    Clause, CloseChannel, Expr, FieldPart, MatrixValue, Modifier, PrintChannel, PrintItem, Printed,
+    Statement, Target, UsingItem,
 };
 
 /// Shows the parts of a statement and of those inside it.
@@ -129,6 +129,17 @@ fn visit_expressions<V: Visitor>(visitor: &mut V, statement: &Statement) -> Resu
             visit_items(visitor, items.as_slice())?;
             visit_last(visitor, last)
         }
+        Statement::PrintUsing {
+            channel,
+            format,
+            values,
+            last,
+        } => {
+            visit_given(visitor, channel)?;
+            visit_tree(visitor, format)?;
+            visit_values(visitor, values.as_slice())?;
+            visit_given(visitor, last)
+        }
         Statement::Input {
             channel,
             targets,
@@ -178,6 +189,9 @@ fn visit_expressions<V: Visitor>(visitor: &mut V, statement: &Statement) -> Resu
             visit_tree(visitor, old)?;
             visit_tree(visitor, new)
         }
+        Statement::MatLet { value, .. } => visit_matrix(visitor, value),
+        Statement::MatRead(_) => Ok(()),
+        Statement::MatPrint { .. } => Ok(()),
         Statement::IfThen { .. } => Ok(()),
         Statement::IfGoto { .. } => Ok(()),
         Statement::Modified { .. } => Ok(()),
@@ -328,4 +342,27 @@ fn visit_widths<V: Visitor>(visitor: &mut V, fields: &[FieldPart]) -> Result<(),
         visit_tree(visitor, &field.width)?;
     }
     Ok(())
+}
+
+fn visit_values<V: Visitor>(visitor: &mut V, values: &[UsingItem]) -> Result<(), V::Stop>
+    ensures { OnOk result (visitor.new
+        ≡ shown V.after visitor.old (map (λ item. item.value) (map using_item_of values.now))) }
+{
+    for item in values {
+        visit_tree(visitor, &item.value)?;
+    }
+    Ok(())
+}
+
+fn visit_matrix<V: Visitor>(visitor: &mut V, value: &MatrixValue) -> Result<(), V::Stop>
+    ensures { OnOk result (visitor.new
+        ≡ shown V.after visitor.old (matrix_expressions (matrix_of value.now))) }
+{
+    match value {
+        MatrixValue::Scaled { factor, .. } => visit_tree(visitor, factor),
+        MatrixValue::Zero | MatrixValue::One | MatrixValue::Identity => Ok(()),
+        MatrixValue::Copy(_) | MatrixValue::Transposed(_) => Ok(()),
+        MatrixValue::Sum(_, _) | MatrixValue::Difference(_, _) => Ok(()),
+        MatrixValue::Product(_, _) => Ok(()),
+    }
 }
