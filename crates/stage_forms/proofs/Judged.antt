@@ -5,8 +5,9 @@ use Rattle.std.specs.List.{flat_map, list_all}
 use Rattle.basic_tree.specs.declared.statements.Statement.{Statement}
 use Rattle.basic_tree.specs.StatementViews.{statement_of}
 use Rattle.basic_tree.specs.Trees.{StatementTree}
-use Rattle.statement_parts.specs.Walk.{PartTree, Simple, Expression, Loop, simple_by, expression_by, parts_in, visited}
-use Rattle.statement_parts.proofs.PartLaws.{simple_parts, expression_parts}
+use Rattle.statement_walk.specs.Walk.{PartTree, Simple, Expression, Loop, simple_by, expression_by, parts_in, visited}
+use Rattle.statement_walk.proofs.PartLaws.{simple_parts, expression_parts}
+use Rattle.program_model.specs.Parts.{simple_in}
 use Rattle.stage_forms.specs.declared.stage.Judge.{Judge}
 use Rattle.stage_forms.specs.Stage.{is_tree_in_stage, is_form_in_stage, is_in_stage}
 use Rattle.stage_forms.specs.Judging.{is_part_in_stage}

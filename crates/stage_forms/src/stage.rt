@@ -3,13 +3,13 @@
 ghost use Rattle.std.specs.Prelude.{◌≡◌, ◌&&◌};
 ghost use Rattle.std.specs.List.{list_all};
 ghost use Rattle.basic_tree.specs.StatementViews.{line_of, statement_of};
-ghost use Rattle.statement_parts.specs.Views.{part_of};
+ghost use Rattle.statement_walk.specs.Views.{part_of};
 ghost use Rattle.stage_forms.specs.Stage.{are_in_stage, is_form_in_stage, is_in_stage};
 ghost use Rattle.stage_forms.specs.Judging.{is_part_in_stage};
 
 use crate::expressions::{is_expr_in_stage, is_target_in_stage};
 use basic_tree::{Line, Statement};
-use statement_parts::{Expression, Part, Simple, Visitor, visit_parts};
+use statement_walk::{Expression, Part, Simple, Visitor, visit_parts};
 use std::convert::Infallible;
 
 /// Whether all statements of a line are of this stage.
@@ -36,16 +36,17 @@ fn is_taken(statement: &Statement) -> bool
 }
 
 /// Who looks whether each part of a statement is of this stage.
+#[derive(Drop)]
 struct Judge {
     taken: bool,
 }
 
-impl<'a> Visitor<'a> for Judge {
+impl Visitor for Judge {
     type Stop = Infallible;
 
     ghost after = { λ judge part. record { taken = judge.taken && is_part_in_stage part } };
 
-    fn visit(&mut self, part: Part<'a>) -> Result<(), Infallible> {
+    fn visit(&mut self, part: Part<'_>) -> Result<(), Infallible> {
         self.taken = self.taken && is_part_in_stage(&part);
         Ok(())
     }
