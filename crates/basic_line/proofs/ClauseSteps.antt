@@ -23,9 +23,9 @@ use Rattle.basic_tree.proofs.FormWords.{key_is_same}
 use Rattle.basic_tree.proofs.FormLeads.{Says, OfClass}
 use Rattle.basic_tree.proofs.SoundSentences.{sentence_sound}
 use Rattle.basic_tree.proofs.LineSteps as steps
-use Rattle.basic_stmt.proofs.Steps.{key_stands_not}
-use Rattle.basic_stmt.specs.Reading.{Leads, Makes, Halts, SkipsKey, Behind}
-use Rattle.basic_stmt.specs.Families.{MakesPlain, HaltsPlain, is_choice}
+use Rattle.statement_parts.proofs.Steps.{key_stands_not}
+use Rattle.statement_parts.specs.Reading.{Leads, Makes, Halts, SkipsKey, Behind}
+use Rattle.basic_stmt.specs.Plain.{MakesPlain, HaltsPlain, is_choice}
 use Rattle.basic_line.specs.Structure.{class_in, IsLineNumber, LeadsOut, Modifies, NoLineNumber, OpensKey, SentenceAt, StatesClause, StatesLine, StopsAt, StopsClause, StopsModifying, class_as, goto_form, is_line_number, line_in, then_form}
 use Rattle.basic_line.specs.declared.sentences.Class.{Class}
 use Rattle.basic_line.specs.declared.sentences.Class.TheVariants as class

@@ -17,8 +17,8 @@ use Rattle.basic_tree.proofs.FormSteps.{key_opened, run_made}
 use Rattle.basic_tree.proofs.FormWords.{key_is_same}
 use Rattle.basic_tree.proofs.LineSteps as steps
 use Rattle.basic_tree.specs.SpellingStatements.{wants_else}
-use Rattle.basic_stmt.specs.declared.read.Read.{Read}
-use Rattle.basic_stmt.specs.Reading.{Makes, Halts}
+use Rattle.statement_parts.specs.declared.read.Read.{Read}
+use Rattle.statement_parts.specs.Reading.{Makes, Halts}
 use Rattle.basic_line.specs.Structure.{Modifies, ModifiesAll, NoModifier, StopsModifying, key_as, kind_in, kind_of, modifier_form}
 use Rattle.basic_line.specs.declared.modifiers.Modifying.{Modifying as Kind}
 use Rattle.basic_line.specs.declared.modifiers.Modifying.TheVariants as kind

@@ -26,8 +26,8 @@ use Rattle.basic_tree.proofs.MachineSteps.{run_do}
 use Rattle.basic_tree.proofs.LineSteps as steps
 use Rattle.basic_tree.proofs.LinePlaces.{line_read, line_wrong, line_stops, line_deep}
 use Rattle.basic_tree.proofs.LineReads.{made_line, reads_lines}
-use Rattle.basic_stmt.specs.Reading.{Makes, Halts, IsPlaced}
-use Rattle.basic_stmt.specs.Families.{MakesPlain, HaltsPlain}
+use Rattle.statement_parts.specs.Reading.{Makes, Halts, IsPlaced}
+use Rattle.basic_stmt.specs.Plain.{MakesPlain, HaltsPlain}
 use Rattle.basic_line.specs.Structure.{IsPlace, LineEnds, LineSoFar, LineStops, Nothing, SentenceAt, StatesLine, StopsAt, in_list}
 use Rattle.basic_line.specs.declared.sentences.Class.{Class}
 use Rattle.basic_line.specs.declared.sentences.Class.TheVariants as class

@@ -20,8 +20,8 @@ use Rattle.basic_tree.specs.MachineSentences as sentences
 use Rattle.basic_tree.specs.MachineSentences.{Sentence, modifier_of, sentence_of}
 use Rattle.basic_tree.specs.MachineJudge.{line_symbols, line_values}
 use Rattle.basic_tree.specs.MachineRun.{Halt, run}
-use Rattle.basic_stmt.specs.Reading.{halt_at, Behind, From, IsPlaced, Leads, Makes, Halts}
-use Rattle.basic_stmt.specs.declared.read.Read.{Read}
+use Rattle.statement_parts.specs.Reading.{halt_at, Behind, From, IsPlaced, Leads, Makes, Halts}
+use Rattle.statement_parts.specs.declared.read.Read.{Read}
 use Rattle.basic_line.specs.declared.choices.Stated.{Stated as ReadStatement}
 use Rattle.basic_line.specs.declared.choices.ClauseRead.{ClauseRead}
 use Rattle.basic_line.specs.declared.choices.Otherwise.{Otherwise}

@@ -7,15 +7,16 @@ ghost use Rattle.basic_tree.specs.Trees.{IfThen, IfGoto, StatementClause};
 ghost use Rattle.basic_tree.specs.TreeViews.{tree_of};
 ghost use Rattle.basic_tree.specs.StatementViews.{statement_of, clause_of};
 ghost use Rattle.basic_tree.specs.MachineSentences.{if_form};
-ghost use Rattle.basic_stmt.specs.Reading.{SkipsKey};
+ghost use Rattle.statement_parts.specs.Reading.{SkipsKey};
 ghost use Rattle.basic_line.specs.Structure.{IsLineNumber, NoLineNumber, OpensKey, SentenceAt, StatesClauseIn, StatesElse, StatesIf, StatesSimple, StatesThen, else_tree, goto_form, line_in};
 ghost use Rattle.basic_line.specs.declared.sentences.Class.TheVariants.{Simple};
 
 use crate::modifiers::modifiers;
 use crate::sentences::{Class, class_at};
 use basic_expr::{Failure, Word, Words, next_is_key};
-use basic_stmt::{Read, expression, plain_at, take_key};
+use basic_stmt::plain_at;
 use basic_tree::{Clause, Expr, Keyword, Statement, Want};
+use statement_parts::{Read, expression, take_key};
 use std::alloc::Global;
 
 /// A statement, whether an ELSE behind it would be its own, and the place behind it.

@@ -9,9 +9,10 @@ use crate::choices::{if_at, simple_at};
 use crate::sentences::{Class, class_at};
 use basic_expr::{Failure, MOST_LEVELS, Words, next_is_sign};
 use basic_scanner::{Tokens, scan};
-use basic_stmt::{Read, plain_at};
+use basic_stmt::plain_at;
 use basic_tree::{Line, Refusal, Sign, Statement};
 use basic_values::{LINE_LENGTH, Trouble};
+use statement_parts::Read;
 use std::alloc::Global;
 
 /// The statement of a class that begins at a place of the line, and the place behind it.

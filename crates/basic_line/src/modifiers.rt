@@ -12,8 +12,8 @@ ghost use Rattle.basic_line.specs.declared.modifiers.Modifying.TheVariants.{For}
 ghost use Rattle.basic_line.specs.Structure.{MakesModifier, ModifiesAll, NoModifier, key_as, kind_in, kind_of};
 
 use basic_expr::{Failure, Word, Words};
-use basic_stmt::{Read, expression, range};
 use basic_tree::{Keyword, Modifier, Statement, Want};
+use statement_parts::{Read, expression, range};
 use std::alloc::Global;
 
 /// Which modifier a word begins.

@@ -20,8 +20,8 @@ abbrev pub items_at : ℕ → List ℕ → List Lexeme
 items_at start line = items_from start [] None (drop start line)
 
 -- the tokens grew by these
-abbrev pub Grew : List Token → List Token → List Lexeme → Type 0
-Grew old new more = lexemes new ≡ lexemes old ++ more
+abbrev pub Appended : List Token → List Token → List Lexeme → Type 0
+Appended old new more = lexemes new ≡ lexemes old ++ more
 
 -- the token of this sort and of so many bytes of the line from its start on
 abbrev pub token_at : TokenKind → ℕ → ℕ → List ℕ → Lexeme

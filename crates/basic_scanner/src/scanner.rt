@@ -5,7 +5,7 @@ ghost use Rattle.arrayvec.specs.ArrayVec.{array_vec_len};
 ghost use Rattle.basic_tree.specs.Tokens.{quote_after, cuts, tokens_of, front_of};
 ghost use Rattle.basic_tree.specs.TokenLaws.{LiesIn, AreCut};
 ghost use Rattle.basic_scanner.specs.Lexemes.{lexeme_of, lexemes};
-ghost use Rattle.basic_scanner.specs.Scan.{Grew, item_and_more, items_at, token_at};
+ghost use Rattle.basic_scanner.specs.Scan.{Appended, item_and_more, items_at, token_at};
 
 use crate::front::{front_of, is_quote};
 use arrayvec::ArrayVec;
@@ -119,7 +119,7 @@ fn push<'a>(
     requires short { length line.now ≤ LINE_LENGTH }
     requires room { array_vec_len tokens.now < LINE_LENGTH }
     ensures tokens { let one = token_at kind start len line.entry.now in
-        Grew tokens.old.items tokens.new.items (one ∷ []) }
+        Appended tokens.old.items tokens.new.items (one ∷ []) }
     ensures count { array_vec_len tokens.new ≡ array_vec_len tokens.old + 1 }
 {
     tokens.push(Token {
@@ -134,7 +134,7 @@ fn push_items<'a>(tokens: &mut ArrayVec<Token<'a>, LINE_LENGTH>, line: &'a [u8],
     requires within { from ≤ length line.now }
     requires short { length line.now ≤ LINE_LENGTH }
     requires room { array_vec_len tokens.now < from }
-    ensures { Grew tokens.old.items tokens.new.items (items_at from line.entry.now) }
+    ensures { Appended tokens.old.items tokens.new.items (items_at from line.entry.now) }
 {
     let mut start = from;
     'items: loop {

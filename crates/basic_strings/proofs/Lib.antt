@@ -1,4 +1,5 @@
 mod GiveBackLemmas
 mod LeastLemmas
 mod PlaceLemmas
+pub mod SearchLemmas
 mod SizeLemmas

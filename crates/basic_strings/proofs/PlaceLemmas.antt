@@ -1,9 +1,7 @@
 -- The first place at which a text stands in another.
-use Rattle.std.proofs.Common.{◌≡◌, ℕ, suc, ◌+◌, ◌-◌, ◌<◌, ◌≤◌, Bool, true, false, cond, List, [], ◌∷◌, length, take, drop, Some, None, ℤ, pos, negsuc, refl, sym, ap, ◌∙◌, inl, inr, arith}
-use Rattle.std.specs.Prelude.{unwrap_or, bytes_eq}
+use Rattle.std.proofs.Common.{◌≡◌, ℕ, suc, ◌+◌, ◌-◌, ◌<◌, ◌≤◌, Bool, true, false, cond, List, length, Some, None, ℤ, pos, negsuc, sym, ap, ◌∙◌, arith}
+use Rattle.std.specs.Prelude.{unwrap_or}
 use Rattle.std.specs.List.{find, range_with_len}
-use Rattle.std.proofs.lemmas.Bool.{cases_lt}
-use Rattle.std.proofs.lemmas.List.{drop_all, take_rest}
 use Rattle.basic_strings.specs.Cuts.{place_given}
 use Rattle.basic_strings.specs.Places.{stands_at, places_from, place_of}
 
@@ -22,24 +20,6 @@ pub find-behind : (P : ℕ → Bool) (place : ℕ) (text : List ℕ) → length 
 find-behind P place text past =
     let count : length text + 2 - place ≡ 0 = omega arith in
     ap (λ k. find P (range_with_len place k)) count
-
--- a text with bytes does not stand behind the last byte
-stands-end : (text sought : List ℕ) (before : ℕ) → 0 < length sought → length text ≤ before → stands_at text sought (before + 1) ≡ false
-stands-end text [] before some past = absurd (omega (arith, some))
-stands-end text (x ∷ xs) before some past =
-    let at : length text ≤ before + 1 - 1 = omega arith in
-    ap (λ rest. bytes_eq (x ∷ xs) (take (length (x ∷ xs)) rest)) (drop_all (before + 1 - 1) text at)
-
-pub find-end : (text sought : List ℕ) (before : ℕ) → 0 < length sought → length text ≤ before → find (stands_at text sought) (places_from (before + 1) text) ≡ None
-find-end text sought before some past =
-    let P = stands_at text sought in
-    elim (cases_lt (length text) before) [
-      | inl beyond ↦ find-behind P (before + 1) text (omega arith)
-      | inr last ↦
-          find-first P (before + 1) text (omega arith)
-          ∙ ap (λ b. cond b (Some (before + 1)) (find P (places_from (before + 1 + 1) text))) (stands-end text sought before some past)
-          ∙ find-behind P (before + 1 + 1) text (omega arith)
-    ]
 
 -- the places from the given one on, once those before are tried
 abbrev pub NothingBefore : ℤ → List ℕ → List ℕ → ℕ → Type 0
@@ -67,14 +47,3 @@ place_after from text sought before tried within other =
 pub no_place : (from : ℤ) (text sought : List ℕ) (before : ℕ) → NothingBefore from text sought before → find (stands_at text sought) (places_from (before + 1) text) ≡ None → place_of from text sought ≡ pos 0
 unfolding place_of
 no_place from text sought before tried none = ap (λ o. pos (unwrap_or o 0)) (sym tried ∙ none)
-
--- an empty text stands everywhere
-pub stands-empty : (text sought : List ℕ) (place : ℕ) → length sought ≡ 0 → stands_at text sought place ≡ true
-stands-empty text [] place empty = refl
-stands-empty text (x ∷ xs) place empty = absurd (omega (arith, empty))
-
-pub stands-starts : (text sought : List ℕ) (before : ℕ) (b : Bool) → b ≡ bytes_eq sought (take (length sought) (take (length text - before) (drop before text))) → stands_at text sought (before + 1) ≡ b
-stands-starts text sought before b e =
-    let same : before + 1 - 1 ≡ before = omega arith in
-    ap (λ k. bytes_eq sought (take (length sought) (drop k text))) same
-    ∙ ap (λ rest. bytes_eq sought (take (length sought) rest)) (sym (take_rest text before)) ∙ sym e

@@ -5,26 +5,21 @@ ghost use Rattle.basic_strings.specs.Places.{place_of};
 
 use crate::cuts::bytes_before;
 use basic_values::{Int, MOST_BYTES};
+use memchr::memmem;
 
 /// The least place from `n` on where `b` stands in `a`, or 0. An empty `b` stands at each place to
-/// the one behind the last byte. The manual's INSTR.
+/// the one behind the last byte. The manual's INSTR. The search is linear in both texts.
 pub fn instr(n: Int, a: &[u8], b: &[u8]) -> Int
     requires text { length a.now ≤ MOST_BYTES }
     requires sought { length b.now ≤ MOST_BYTES }
     ensures { result ≡ place_of n a.now b.now }
 {
     let start = bytes_before(n);
-    if b.is_empty() {
-        return Int::new(if start <= a.len() {
-            start as i16 + 1
-        } else {
-            0
-        });
+    if start > a.len() {
+        return Int::new(0);
     }
-    for before in start..a.len() {
-        if a[before..].starts_with(b) {
-            return Int::new(before as i16 + 1);
-        }
+    match memmem::find(&a[start..], b) {
+        Some(before) => Int::new((start + before) as i16 + 1),
+        None => Int::new(0),
     }
-    Int::new(0)
 }

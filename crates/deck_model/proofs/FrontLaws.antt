@@ -21,8 +21,8 @@ use Rattle.deck_model.specs.Files.{text_of, FitsText, file_entry, has_file, bloc
 use Rattle.deck_model.specs.Deck as model
 use Rattle.deck_model.specs.Deck.{Deck, IsDeck, IsTerminal, IsKeyLine, has_terminal}
 use Rattle.deck_model.specs.Forms.{Form, Heading, Disk, Account, File, Terminal, Keys, End, AccountTexts, FileTexts, line_of, is_numeral_or_none, is_name, is_formed}
-use Rattle.deck_model.specs.Spelling.{quota_told, texts_of, account_line, extension_of, file_texts, file_lines, key_line, terminal_lines, group_lines, IsQuota, IsDeckIn}
-use Rattle.deck_model.specs.Fronts.{Front, Nothing, Versioned, InAccounts, InFile, InTerminal, with_account, with_file, with_text, with_terminal, with_keys, bare_deck, front_lines, IsFront, MayTell, May, quota_from, entry_of, new_file, new_terminal, adds}
+use Rattle.deck_model.specs.Spelling.{quota_told, texts_of, account_line, extension_of, file_texts, file_lines, key_line, terminal_lines, group_lines, IsQuota}
+use Rattle.deck_model.specs.Fronts.{Front, Nothing, Versioned, InAccounts, InFile, InTerminal, with_account, with_file, with_text, with_terminal, with_keys, bare_deck, front_lines, IsDeckIn, IsFront, MayTell, May, quota_from, entry_of, new_file, new_terminal, adds}
 use Rattle.deck_model.specs.Refusals.{is_quota, is_in_range, is_extension, is_file_in_range, passes_quota, first_cause, account_causes, file_causes, text_causes, terminal_causes, causes, shape_cause, HasForm, IsRefused}
 use Rattle.deck_model.specs.Reading.{form_at, unless_refused, behind_form, behind_line}
 use Rattle.basic_values.proofs.CutLaws.{and_left, and_right, and_both, same_bytes}

@@ -14,8 +14,8 @@ use Rattle.deck_model.specs.Deck as model
 use Rattle.deck_model.specs.Deck.{Deck, IsDeck, IsKeyLine, AreTerminals}
 use Rattle.deck_model.specs.Lines.{whole_lines, cut_line}
 use Rattle.deck_model.specs.Forms.{Form, Heading, Disk, Account, File, Terminal, Keys, End, line_of, is_name}
-use Rattle.deck_model.specs.Spelling.{texts_of, account_line, file_texts, file_lines, key_line, terminal_lines, group_lines, deck_lines, IsQuota, IsDeckIn, Spelled}
-use Rattle.deck_model.specs.Fronts.{Front, Nothing, Versioned, InAccounts, InFile, InTerminal, Whole, with_file, with_terminal, front_lines, IsFront, May, new_file, new_terminal, adds}
+use Rattle.deck_model.specs.Spelling.{texts_of, account_line, file_texts, file_lines, key_line, terminal_lines, group_lines, deck_lines, IsQuota, Spelled}
+use Rattle.deck_model.specs.Fronts.{Front, Nothing, Versioned, InAccounts, InFile, InTerminal, Whole, with_file, with_terminal, front_lines, IsDeckIn, IsFront, May, new_file, new_terminal, adds}
 use Rattle.deck_model.specs.Refusals.{first_cause, file_causes, causes, StopsAt, Refused}
 use Rattle.deck_model.specs.Reading.{behind_line, Verdict, Spells, Refuses, at_end, onwards, reading, verdict}
 use Rattle.basic_values.proofs.CutLaws.{and_right}
@@ -321,7 +321,7 @@ pub spelled_told : (bytes : List ℕ) (deck : Deck) → Spelled bytes deck → v
 unfolding reading
 spelled_told bytes deck s =
     let lines = deck_lines s.version deck in
-    verdict_behind bytes (Whole s.version deck) [] s.is_deck (s.lines_are ∙ sym (append-nil lines))
+    verdict_behind bytes (Whole s.version deck) [] (record { is_deck = s.is_deck; quotas = s.quotas }) (s.lines_are ∙ sym (append-nil lines))
     ∙ ap (λ (cut : List ℕ). at_end (Whole s.version deck) (length lines + 1) cut) s.ends
 
 stops_told : (front : Front) (number : ℕ) (rest : List (List ℕ)) (cut : List ℕ) (why : DeckCause) → StopsAt front rest cut why → reading front number rest cut ≡ Refuses number why
@@ -388,7 +388,7 @@ verdict_so bytes v e = subst (IsSo (whole_lines bytes) (cut_line bytes)) e (read
 pub told_spelled : (bytes : List ℕ) (deck : Deck) → verdict bytes ≡ Spells deck → Spelled bytes deck
 told_spelled bytes deck e =
     let so = verdict_so bytes (Spells deck) e in
-    record { version = so.0; is_deck = so.1; lines_are = so.2; ends = so.3 }
+    record { version = so.0; is_deck = so.1.is_deck; quotas = so.1.quotas; lines_are = so.2; ends = so.3 }
 
 pub told_refused : (bytes : List ℕ) (line : ℕ) (why : DeckCause) → verdict bytes ≡ Refuses line why → Refused bytes line why
 told_refused bytes line why e =

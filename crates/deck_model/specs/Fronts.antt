@@ -5,9 +5,9 @@ use Rattle.monitor_calls.specs.declared.volumes.AccountEntry.{AccountEntry}
 use Rattle.deck_model.specs.declared.versions.Version.{Version}
 use Rattle.deck_model.specs.declared.versions.Version.TheVariants.{One, Two}
 use Rattle.deck_model.specs.Deck as model
-use Rattle.deck_model.specs.Deck.{Deck}
+use Rattle.deck_model.specs.Deck.{Deck, IsDeck}
 use Rattle.deck_model.specs.Forms.{Form, Heading, Disk, Account, File, Terminal, Keys, End, AccountTexts, FileTexts, line_of}
-use Rattle.deck_model.specs.Spelling.{group_lines, file_lines, terminal_lines, deck_lines, IsDeckIn}
+use Rattle.deck_model.specs.Spelling.{group_lines, file_lines, terminal_lines, deck_lines, AreQuotas}
 
 -- No line; the line of the version, which each front behind it keeps; the disk and the accounts; the groups of a deck that has no
 -- terminal yet, and the last file, whose text may go on; the groups of a deck and the last terminal,
@@ -63,6 +63,11 @@ front_lines (InAccounts version deck) = group_lines version deck
 front_lines (InFile version deck file) = group_lines version deck ++ file_lines file
 front_lines (InTerminal version deck terminal) = group_lines version deck ++ terminal_lines terminal
 front_lines (Whole version deck) = deck_lines version deck
+
+-- a deck that can be run, and whose quotas the version can tell
+pub record IsDeckIn (version : Version) (deck : Deck) : Type 0 where
+  pub is_deck : IsDeck deck
+  pub quotas : AreQuotas version deck
 
 -- the lines of the front begin a deck that can be run
 abbrev pub IsFront : Front → Type 0

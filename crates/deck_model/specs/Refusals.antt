@@ -114,13 +114,13 @@ abbrev pub IsUnformed : Front → List ℕ → DeckCause → Type 0
 IsUnformed front line why = ((form : Form) → HasForm front line form → ⊥) × (why ≡ shape_cause front)
 
 -- it has a form, for which a cause applies
-abbrev pub IsWrong : Front → List ℕ → DeckCause → Type 0
-IsWrong front line why =
+abbrev pub IsFaulty : Front → List ℕ → DeckCause → Type 0
+IsFaulty front line why =
     (form : Form) × HasForm front line form × (first_cause (causes front form) ≡ Some why)
 
 -- no deck can have the line behind this front, for this cause
 abbrev pub IsRefused : Front → List ℕ → DeckCause → Type 0
-IsRefused front line why = IsUnformed front line why ⊎ IsWrong front line why
+IsRefused front line why = IsUnformed front line why ⊎ IsFaulty front line why
 
 -- THE REFUSED LINE
 

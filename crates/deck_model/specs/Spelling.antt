@@ -75,15 +75,14 @@ abbrev pub IsQuota : Version → ℕ → ℕ → Type 0
 IsQuota One blocks quota = quota ≡ blocks
 IsQuota Two blocks quota = Unit {0}
 
--- a deck that can be run, and whose quotas the version can tell
-pub record IsDeckIn (version : Version) (deck : Deck) : Type 0 where
-  pub is_deck : IsDeck deck
-  pub quotas :
-      AllByRecursion (λ (entry : AccountEntry). IsQuota version deck.blocks entry.quota) deck.accounts
+abbrev pub AreQuotas : Version → Deck → Type 0
+AreQuotas version deck =
+    AllByRecursion (λ (entry : AccountEntry). IsQuota version deck.blocks entry.quota) deck.accounts
 
 -- the lines of the bytes are those of the deck in some version, and nothing stands behind them
 pub record Spelled (bytes : List ℕ) (deck : Deck) : Type 0 where
   pub version : Version
-  pub is_deck : IsDeckIn version deck
+  pub is_deck : IsDeck deck
+  pub quotas : AreQuotas version deck
   pub lines_are : whole_lines bytes ≡ deck_lines version deck
   pub ends : cut_line bytes ≡ []

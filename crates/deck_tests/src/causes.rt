@@ -6,183 +6,270 @@ use deck_reader::read_deck;
 use std::alloc::Global;
 use std::test::Fail;
 
-/// The line and the cause for which bytes are refused.
-fn refusal(alloc: Global, bytes: &[u8]) -> Result<(u32, DeckCause), Fail> {
+/// Lines of a deck, the line at which it is refused, and the cause.
+type Row = (&'static [u8], u32, DeckCause);
+
+/// The line and the cause for which bytes are refused; none where they are a deck, or too long for
+/// these tests.
+fn refusal(alloc: Global, bytes: &[u8]) -> Option<(u32, DeckCause)> {
     if bytes.len() > 4096 {
-        return Err("a deck that is too long for these tests")?;
+        return None;
     }
     match read_deck(alloc, bytes) {
-        Err(Trouble::Refused(fault)) => Ok((fault.line, fault.cause)),
-        Err(Trouble::NoMemory) => Err("no memory")?,
-        Ok(_) => Err("it is a deck")?,
+        Err(Trouble::Refused(fault)) => Some((fault.line, fault.cause)),
+        _ => None,
     }
 }
 
+/// The refusal of a front and these lines behind it.
+fn refusal_behind(
+    alloc: Global,
+    front: &[u8],
+    lines: &[u8],
+) -> Result<Option<(u32, DeckCause)>, Fail> {
+    let mut deck = front.to_vec(alloc)?;
+    deck.extend_from_slice(lines)?;
+    Ok(refusal(alloc, deck.as_slice()))
+}
+
+/// The place of the first row that is refused otherwise, each with this front.
+fn first_wrong(alloc: Global, front: &[u8], rows: &[Row]) -> Result<Option<usize>, Fail> {
+    for (place, (lines, line, cause)) in rows.iter().enumerate() {
+        if refusal_behind(alloc, front, lines)? != Some((*line, *cause)) {
+            return Ok(Some(place));
+        }
+    }
+    Ok(None)
+}
+
+static DECKS: [Row; 27] = [
+    (b"", 1, DeckCause::Cut),
+    (b"RSTS-DECK 1", 1, DeckCause::Cut),
+    (b"RSTS-DECK 1\n", 2, DeckCause::Cut),
+    (b"RSTS-DECK 1\nDISK 8\nEND", 3, DeckCause::Cut),
+    (b"RSTS-DECK 1\nDISK 8\nEND\nX", 4, DeckCause::Cut),
+    (b"RSTS-DECK 9\n", 1, DeckCause::Version),
+    (b"RSTS-DECK 3\n", 1, DeckCause::Version),
+    (b"RSTS-DECK 2 \n", 1, DeckCause::Version),
+    (b"\n", 1, DeckCause::Version),
+    (b"RSTS-DECK 1\nDISK 007\n", 2, DeckCause::Shape),
+    (b"RSTS-DECK 1\nDISK  8\n", 2, DeckCause::Shape),
+    (b"RSTS-DECK 1\nDISK 0\n", 2, DeckCause::Range),
+    (b"RSTS-DECK 1\nDISK 16385\n", 2, DeckCause::Range),
+    (
+        b"RSTS-DECK 1\nDISK 100000000000000000000000000000\n",
+        2,
+        DeckCause::Range,
+    ),
+    (
+        b"RSTS-DECK 1\nDISK 8\nACCOUNT 0,5 DEMO 100\n",
+        3,
+        DeckCause::Range,
+    ),
+    (
+        b"RSTS-DECK 1\nDISK 8\nACCOUNT 100,255 DEMO 100\n",
+        3,
+        DeckCause::Range,
+    ),
+    (
+        b"RSTS-DECK 1\nDISK 8\nACCOUNT 100,5  100\n",
+        3,
+        DeckCause::Range,
+    ),
+    (
+        b"RSTS-DECK 1\nDISK 8\nACCOUNT 100,5 demo 100\n",
+        3,
+        DeckCause::Shape,
+    ),
+    (
+        b"RSTS-DECK 1\nDISK 8\nACCOUNT 100,5 DEMO 100 1\n",
+        3,
+        DeckCause::Shape,
+    ),
+    (
+        b"RSTS-DECK 1\nDISK 8\nACCOUNT 100,5 DEMO 100\nACCOUNT 100,5 OTHER 9\n",
+        4,
+        DeckCause::Double,
+    ),
+    (
+        b"RSTS-DECK 1\nDISK 8\nFILE [100,5]A<60> 1\n",
+        3,
+        DeckCause::Owner,
+    ),
+    (
+        b"RSTS-DECK 1\nDISK 8\nTERMINAL T23456789\n",
+        3,
+        DeckCause::Range,
+    ),
+    (
+        b"RSTS-DECK 1\nDISK 8\nTERMINAL T1\nTERMINAL T1\n",
+        4,
+        DeckCause::Double,
+    ),
+    (
+        b"RSTS-DECK 1\nDISK 8\nTERMINAL T1\nACCOUNT 1,2 A 1\n",
+        4,
+        DeckCause::Shape,
+    ),
+    (b"RSTS-DECK 1\nDISK 8\n>KEYS\n", 3, DeckCause::Shape),
+    (b"RSTS-DECK 1\nDISK 8\n\nEND\n", 3, DeckCause::Shape),
+    (b"RSTS-DECK 1\nDISK 8\nEND\nX\n", 4, DeckCause::Shape),
+];
+
 #[test]
 fn each_cause_stands_at_its_line(rt: HostRuntime) -> Result<(), Fail> {
-    let rows: [(&[u8], u32, DeckCause); 24] = [
-        (b"", 1, DeckCause::Cut),
-        (b"RSTS-DECK 1", 1, DeckCause::Cut),
-        (b"RSTS-DECK 1\n", 2, DeckCause::Cut),
-        (b"RSTS-DECK 1\nDISK 8\nEND", 3, DeckCause::Cut),
-        (b"RSTS-DECK 1\nDISK 8\nEND\nX", 4, DeckCause::Cut),
-        (b"RSTS-DECK 9\n", 1, DeckCause::Version),
-        (b"\n", 1, DeckCause::Version),
-        (b"RSTS-DECK 1\nDISK 007\n", 2, DeckCause::Shape),
-        (b"RSTS-DECK 1\nDISK  8\n", 2, DeckCause::Shape),
-        (b"RSTS-DECK 1\nDISK 0\n", 2, DeckCause::Range),
-        (b"RSTS-DECK 1\nDISK 16385\n", 2, DeckCause::Range),
-        (
-            b"RSTS-DECK 1\nDISK 100000000000000000000000000000\n",
-            2,
-            DeckCause::Range,
-        ),
-        (
-            b"RSTS-DECK 1\nDISK 8\nACCOUNT 0,5 DEMO 100\n",
-            3,
-            DeckCause::Range,
-        ),
-        (
-            b"RSTS-DECK 1\nDISK 8\nACCOUNT 100,255 DEMO 100\n",
-            3,
-            DeckCause::Range,
-        ),
-        (
-            b"RSTS-DECK 1\nDISK 8\nACCOUNT 100,5  100\n",
-            3,
-            DeckCause::Range,
-        ),
-        (
-            b"RSTS-DECK 1\nDISK 8\nACCOUNT 100,5 demo 100\n",
-            3,
-            DeckCause::Shape,
-        ),
-        (
-            b"RSTS-DECK 1\nDISK 8\nACCOUNT 100,5 DEMO 100\nACCOUNT 100,5 OTHER 9\n",
-            4,
-            DeckCause::Double,
-        ),
-        (
-            b"RSTS-DECK 1\nDISK 8\nFILE [100,5]A<60> 1\n",
-            3,
-            DeckCause::Owner,
-        ),
-        (
-            b"RSTS-DECK 1\nDISK 8\nTERMINAL T23456789\n",
-            3,
-            DeckCause::Range,
-        ),
-        (
-            b"RSTS-DECK 1\nDISK 8\nTERMINAL T1\nTERMINAL T1\n",
-            4,
-            DeckCause::Double,
-        ),
-        (
-            b"RSTS-DECK 1\nDISK 8\nTERMINAL T1\nACCOUNT 1,2 A 1\n",
-            4,
-            DeckCause::Shape,
-        ),
-        (b"RSTS-DECK 1\nDISK 8\n>KEYS\n", 3, DeckCause::Shape),
-        (b"RSTS-DECK 1\nDISK 8\n\nEND\n", 3, DeckCause::Shape),
-        (b"RSTS-DECK 1\nDISK 8\nEND\nX\n", 4, DeckCause::Shape),
-    ];
-    for (bytes, line, cause) in rows {
-        assert_eq!(rt; refusal(rt.alloc(), bytes)?, (line, cause));
-    }
+    let wrong = first_wrong(rt.alloc(), b"", &DECKS)?;
+    assert_eq!(rt; wrong, None);
+    Ok(())
+}
+
+static QUOTAS: [Row; 10] = [
+    (
+        b"ACCOUNT 100,5 DEMO 100 1\nFILE [100,5]A<60> 2\n",
+        4,
+        DeckCause::Space,
+    ),
+    (b"ACCOUNT 100,5 DEMO 100\n", 3, DeckCause::Shape),
+    (b"ACCOUNT 100,5 DEMO 100 16385\n", 3, DeckCause::Range),
+    (b"ACCOUNT 100,5 DEMO 100 01\n", 3, DeckCause::Shape),
+    (b"ACCOUNT 100,5 DEMO 100 \n", 3, DeckCause::Shape),
+    (b"ACCOUNT 100,5 DEMO 100 1 1\n", 3, DeckCause::Shape),
+    (b"ACCOUNT 100,5 DEMO 16385 1\n", 3, DeckCause::Range),
+    (
+        b"ACCOUNT 100,5 DEMO 100 0\nFILE [100,5]A<60> 0\nFILE [100,5]B<60> 1\n",
+        5,
+        DeckCause::Space,
+    ),
+    (
+        b"ACCOUNT 100,5 A 9 1\nACCOUNT 1,2 B 9 1\nFILE [100,5]A<60> 1\nFILE [1,2]A<60> 2\n",
+        6,
+        DeckCause::Space,
+    ),
+    (
+        b"ACCOUNT 100,5 DEMO 100 1\nFILE [100,6]A<60> 2\n",
+        4,
+        DeckCause::Owner,
+    ),
+];
+
+#[test]
+fn each_cause_of_a_quota_stands_at_its_line(rt: HostRuntime) -> Result<(), Fail> {
+    let wrong = first_wrong(rt.alloc(), b"RSTS-DECK 2\nDISK 8\n", &QUOTAS)?;
+    assert_eq!(rt; wrong, None);
     Ok(())
 }
 
 /// A disk of two blocks and an account.
 const FRONT: &[u8] = b"RSTS-DECK 1\nDISK 2\nACCOUNT 100,5 DEMO 9\n";
 
+static FILES: [Row; 20] = [
+    (b"FILE [100,5]A<60>1\n", 4, DeckCause::Shape),
+    (b"FILE [100,5]A 1\n", 4, DeckCause::Shape),
+    (b"FILE [100,5]a<60> 1\n", 4, DeckCause::Shape),
+    (b"FILE [100,5]A.B.C<60> 1\n", 4, DeckCause::Shape),
+    (b"FILE [100,5]A<060> 1\n", 4, DeckCause::Shape),
+    (b"FILE [100,5]A.<60> 1\n", 4, DeckCause::Range),
+    (b"FILE [100,5].B<60> 1\n", 4, DeckCause::Range),
+    (b"FILE [100,5]ABCDEFG<60> 1\n", 4, DeckCause::Range),
+    (b"FILE [100,5]A.ABCD<60> 1\n", 4, DeckCause::Range),
+    (b"FILE [255,5]A<60> 1\n", 4, DeckCause::Range),
+    (b"FILE [100,5]A<64> 1\n", 4, DeckCause::Range),
+    (b"FILE [100,5]A<60> 16385\n", 4, DeckCause::Range),
+    (b"FILE [100,6]A<60> 9\n", 4, DeckCause::Owner),
+    (b"FILE [100,5]A<60> 3\n", 4, DeckCause::Space),
+    (
+        b"FILE [100,5]A<60> 1\nFILE [100,5]A.B<60> 2\n",
+        5,
+        DeckCause::Space,
+    ),
+    (
+        b"FILE [100,5]A<60> 1\nFILE [100,5]A<0> 9\n",
+        5,
+        DeckCause::Double,
+    ),
+    (b"FILE [100,5]A<60> 0\n>\n", 5, DeckCause::Space),
+    (b">\n", 4, DeckCause::Shape),
+    (
+        b"FILE [100,5]A<60> 1\nACCOUNT 1,2 A 1\n",
+        5,
+        DeckCause::Shape,
+    ),
+    (b"TERMINAL T1\nFILE [100,5]B<60> 1\n", 5, DeckCause::Shape),
+];
+
 #[test]
 fn each_cause_of_a_file_stands_at_its_line(rt: HostRuntime) -> Result<(), Fail> {
-    let rows: [(&[u8], u32, DeckCause); 20] = [
-        (b"FILE [100,5]A<60>1\n", 4, DeckCause::Shape),
-        (b"FILE [100,5]A 1\n", 4, DeckCause::Shape),
-        (b"FILE [100,5]a<60> 1\n", 4, DeckCause::Shape),
-        (b"FILE [100,5]A.B.C<60> 1\n", 4, DeckCause::Shape),
-        (b"FILE [100,5]A<060> 1\n", 4, DeckCause::Shape),
-        (b"FILE [100,5]A.<60> 1\n", 4, DeckCause::Range),
-        (b"FILE [100,5].B<60> 1\n", 4, DeckCause::Range),
-        (b"FILE [100,5]ABCDEFG<60> 1\n", 4, DeckCause::Range),
-        (b"FILE [100,5]A.ABCD<60> 1\n", 4, DeckCause::Range),
-        (b"FILE [255,5]A<60> 1\n", 4, DeckCause::Range),
-        (b"FILE [100,5]A<64> 1\n", 4, DeckCause::Range),
-        (b"FILE [100,5]A<60> 16385\n", 4, DeckCause::Range),
-        (b"FILE [100,6]A<60> 9\n", 4, DeckCause::Owner),
-        (b"FILE [100,5]A<60> 3\n", 4, DeckCause::Space),
-        (
-            b"FILE [100,5]A<60> 1\nFILE [100,5]A.B<60> 2\n",
-            5,
-            DeckCause::Space,
-        ),
-        (
-            b"FILE [100,5]A<60> 1\nFILE [100,5]A<0> 9\n",
-            5,
-            DeckCause::Double,
-        ),
-        (b"FILE [100,5]A<60> 0\n>\n", 5, DeckCause::Space),
-        (b">\n", 4, DeckCause::Shape),
-        (
-            b"FILE [100,5]A<60> 1\nACCOUNT 1,2 A 1\n",
-            5,
-            DeckCause::Shape,
-        ),
-        (b"TERMINAL T1\nFILE [100,5]B<60> 1\n", 5, DeckCause::Shape),
-    ];
-    for (lines, line, cause) in rows {
-        let mut deck = FRONT.to_vec(rt.alloc())?;
-        deck.extend_from_slice(lines)?;
-        assert_eq!(rt; refusal(rt.alloc(), deck.as_slice())?, (line, cause));
-    }
+    let wrong = first_wrong(rt.alloc(), FRONT, &FILES)?;
+    assert_eq!(rt; wrong, None);
     Ok(())
+}
+
+/// The refusal of a front, so many letters A behind it, and the end of a deck.
+fn refusal_of_long(
+    alloc: Global,
+    front: &[u8],
+    letters: usize,
+) -> Result<Option<(u32, DeckCause)>, Fail> {
+    let letters = vec![in alloc; b'A'; letters]?;
+    let mut deck = front.to_vec(alloc)?;
+    deck.extend_from_slice(&letters)?;
+    deck.extend_from_slice(b"\nEND\n")?;
+    Ok(refusal(alloc, deck.as_slice()))
 }
 
 #[test]
 fn a_text_of_511_bytes_is_beyond_one_block(rt: HostRuntime) -> Result<(), Fail> {
-    let alloc = rt.alloc();
-    let mut deck = FRONT.to_vec(alloc)?;
-    deck.extend_from_slice(b"FILE [100,5]A<60> 1\n>")?;
-    deck.resize(deck.len().saturating_add(511), b'A')?;
-    deck.extend_from_slice(b"\nEND\n")?;
-    assert_eq!(rt; refusal(alloc, deck.as_slice())?, (5, DeckCause::Space));
+    let front = b"RSTS-DECK 1\nDISK 2\nACCOUNT 100,5 DEMO 9\nFILE [100,5]A<60> 1\n>";
+    let found = refusal_of_long(rt.alloc(), front, 511)?;
+    assert_eq!(rt; found, Some((5, DeckCause::Space)));
     Ok(())
+}
+
+#[test]
+fn a_key_line_has_at_most_255_bytes(rt: HostRuntime) -> Result<(), Fail> {
+    let front = b"RSTS-DECK 1\nDISK 8\nTERMINAL T1\n>";
+    let found = refusal_of_long(rt.alloc(), front, 256)?;
+    assert_eq!(rt; found, Some((4, DeckCause::Range)));
+    Ok(())
+}
+
+/// How many bytes from the front on are not refused as cut in their last line.
+fn wrong_cut(alloc: Global, deck: &[u8]) -> Option<usize> {
+    let mut line = 1u32;
+    for (at, byte) in deck.iter().enumerate() {
+        if refusal(alloc, &deck[..at]) != Some((line, DeckCause::Cut)) {
+            return Some(at);
+        }
+        if *byte == b'\n' {
+            line = line.saturating_add(1);
+        }
+    }
+    None
 }
 
 #[test]
 fn a_deck_cut_behind_each_of_its_bytes_ends_early(rt: HostRuntime) -> Result<(), Fail> {
     let deck = b"RSTS-DECK 1\nDISK 2\nACCOUNT 100,5 DEMO 9\nFILE [100,5]A.B<60> 1\n>10 END\n\
 TERMINAL T1\n>A\nEND\n";
-    let mut line = 1u32;
-    for at in 0..deck.len() {
-        assert_eq!(rt; refusal(rt.alloc(), &deck[..at])?, (line, DeckCause::Cut));
-        if deck[at] == b'\n' {
-            line = line.saturating_add(1);
-        }
-    }
+    assert_eq!(rt; wrong_cut(rt.alloc(), deck), None);
     Ok(())
 }
 
-#[test]
-fn the_sixty_fourth_terminal_has_no_room(rt: HostRuntime) -> Result<(), Fail> {
-    let alloc = rt.alloc();
+/// A deck of so many terminals.
+fn deck_of_terminals(alloc: Global, count: u32) -> Result<Vec<u8>, Fail> {
     let mut deck = b"RSTS-DECK 1\nDISK 8\n".to_vec(alloc)?;
-    for k in 0..64 {
+    for k in 0..count {
         let line = format!(in alloc; "TERMINAL T{k}\n")?;
         deck.extend_from_slice(line.as_bytes())?;
     }
     deck.extend_from_slice(b"END\n")?;
-    assert_eq!(rt; refusal(alloc, deck.as_slice())?, (66, DeckCause::Space));
-    Ok(())
+    Ok(deck)
 }
 
 #[test]
-fn a_key_line_has_at_most_255_bytes(rt: HostRuntime) -> Result<(), Fail> {
-    let alloc = rt.alloc();
-    let mut deck = b"RSTS-DECK 1\nDISK 8\nTERMINAL T1\n>".to_vec(alloc)?;
-    deck.resize(deck.len().saturating_add(256), b'A')?;
-    deck.extend_from_slice(b"\nEND\n")?;
-    assert_eq!(rt; refusal(alloc, deck.as_slice())?, (4, DeckCause::Range));
+fn the_sixty_fourth_terminal_has_no_room(rt: HostRuntime) -> Result<(), Fail> {
+    let deck = deck_of_terminals(rt.alloc(), 64)?;
+    let found = refusal(rt.alloc(), deck.as_slice());
+    assert_eq!(rt; found, Some((66, DeckCause::Space)));
     Ok(())
 }

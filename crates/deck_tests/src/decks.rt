@@ -1,44 +1,103 @@
-//! Decks that are read.
+//! Decks that are read, told again as texts.
 
-use deck_reader::read_deck;
-use monitor_calls::Account;
+use deck_reader::{Deck, Terminal, read_deck};
+use monitor_calls::{AccountEntry, FileEntry, Page};
+use std::alloc::Global;
 use std::test::Fail;
+
+/// What the bytes spell: a line for the disk, for each account, file, terminal and key line.
+fn told(alloc: Global, bytes: &[u8]) -> Result<Vec<u8>, Fail> {
+    if bytes.len() > 4096 {
+        return Err("a deck that is too long for these tests")?;
+    }
+    match read_deck(alloc, bytes) {
+        Ok(deck) => deck_told(alloc, &deck),
+        Err(_) => Err("it is no deck")?,
+    }
+}
+
+fn deck_told(alloc: Global, deck: &Deck) -> Result<Vec<u8>, Fail> {
+    let head = format!(in alloc; "{} blocks\n", deck.volume.blocks)?;
+    let mut out = head.as_bytes().to_vec(alloc)?;
+    push_accounts(&mut out, alloc, deck.volume.accounts.as_slice())?;
+    push_files(&mut out, alloc, deck.volume.files.as_slice())?;
+    push_terminals(&mut out, deck.terminals.as_slice())?;
+    Ok(out)
+}
+
+fn push_accounts(out: &mut Vec<u8>, alloc: Global, entries: &[AccountEntry]) -> Result<(), Fail> {
+    for entry in entries {
+        let (project, programmer) = (entry.account.project, entry.account.programmer);
+        let (limit, quota) = (entry.limit, entry.quota);
+        let numbers = format!(in alloc; "{project},{programmer} {limit} {quota} ")?;
+        out.extend_from_slice(numbers.as_bytes())?;
+        out.extend_from_slice(entry.password.as_bytes())?;
+        out.push(b'\n')?;
+    }
+    Ok(())
+}
+
+fn push_files(out: &mut Vec<u8>, alloc: Global, files: &[FileEntry]) -> Result<(), Fail> {
+    for file in files {
+        push_file(out, alloc, file)?;
+    }
+    Ok(())
+}
+
+fn push_file(out: &mut Vec<u8>, alloc: Global, file: &FileEntry) -> Result<(), Fail> {
+    let (project, programmer) = (file.name.owner.project, file.name.owner.programmer);
+    let numbers = format!(in alloc; "{project},{programmer} {} ", file.code)?;
+    out.extend_from_slice(numbers.as_bytes())?;
+    out.extend_from_slice(file.name.stem.as_bytes())?;
+    out.push(b'.')?;
+    out.extend_from_slice(file.name.extension.as_bytes())?;
+    out.push(b'\n')?;
+    for page in file.pages.as_slice() {
+        push_page(out, page)?;
+    }
+    Ok(())
+}
+
+/// The bytes of a page up to the zeros at its end, and a star.
+fn push_page(out: &mut Vec<u8>, page: &Page) -> Result<(), Fail> {
+    let zeros = page.as_bytes().iter().rev().take_while(|byte| **byte == 0);
+    let kept = 512usize.saturating_sub(zeros.count());
+    for byte in page.as_bytes().iter().take(kept) {
+        out.push(*byte)?;
+    }
+    out.push(b'*')?;
+    Ok(())
+}
+
+fn push_terminals(out: &mut Vec<u8>, terminals: &[Terminal]) -> Result<(), Fail> {
+    for terminal in terminals {
+        out.extend_from_slice(terminal.name.as_bytes())?;
+        out.push(b'\n')?;
+        for key in terminal.keys.as_slice() {
+            out.push(b'>')?;
+            out.extend_from_slice(key.as_bytes())?;
+            out.push(b'\n')?;
+        }
+    }
+    Ok(())
+}
 
 const DECK: &[u8] = b"RSTS-DECK 1\r\nDISK 100\nACCOUNT 1,2 PW3 50\nACCOUNT 254,0 A 16384\n\
 TERMINAL T1\n>HELLO 1,2\n>\nTERMINAL T2345678\n>A\r\r\nEND\n";
 
 #[test]
 fn a_deck_is_read(rt: HostRuntime) -> Result<(), Fail> {
-    let deck = read_deck(rt.alloc(), DECK)?;
-    assert_eq!(rt; deck.volume.blocks, 100);
-    assert_eq!(rt; deck.volume.accounts.len(), 2);
-    let entry = deck.volume.accounts[0];
-    assert_eq!(rt;
-        entry.account,
-        Account {
-            project: 1,
-            programmer: 2
-        }
-    );
-    assert_eq!(rt; entry.password.as_bytes(), b"PW3".as_slice());
-    assert_eq!(rt; entry.limit, 50);
-    assert_eq!(rt; deck.terminals.len(), 2);
-    let terminal = &deck.terminals[0];
-    assert_eq!(rt; terminal.name.as_bytes(), b"T1".as_slice());
-    assert_eq!(rt; terminal.keys.len(), 2);
-    assert_eq!(rt; terminal.keys[0].as_bytes(), b"HELLO 1,2".as_slice());
-    assert_eq!(rt; terminal.keys[1].as_bytes(), b"".as_slice());
-    let last = &deck.terminals[1];
-    assert_eq!(rt; last.keys.len(), 1);
-    assert_eq!(rt; last.keys[0].as_bytes(), b"A\r".as_slice());
+    let want =
+        b"100 blocks\n1,2 50 100 PW3\n254,0 16384 100 A\nT1\n>HELLO 1,2\n>\nT2345678\n>A\r\n";
+    let found = told(rt.alloc(), DECK)?;
+    assert_eq!(rt; found.as_slice(), want.as_slice());
     Ok(())
 }
 
 #[test]
 fn a_deck_without_accounts_and_terminals_is_read(rt: HostRuntime) -> Result<(), Fail> {
-    let deck = read_deck(rt.alloc(), b"RSTS-DECK 1\nDISK 1\nEND\n")?;
-    assert_eq!(rt; deck.volume.accounts.len(), 0);
-    assert_eq!(rt; deck.terminals.len(), 0);
+    let found = told(rt.alloc(), b"RSTS-DECK 1\nDISK 1\nEND\n")?;
+    assert_eq!(rt; found.as_slice(), b"1 blocks\n".as_slice());
     Ok(())
 }
 
@@ -47,28 +106,29 @@ const FILES: &[u8] = b"RSTS-DECK 1\nDISK 3\nACCOUNT 100,5 DEMO 9\nFILE [100,5]SU
 
 #[test]
 fn files_are_read_with_their_texts(rt: HostRuntime) -> Result<(), Fail> {
-    let deck = read_deck(rt.alloc(), FILES)?;
-    let files = deck.volume.files.as_slice();
-    assert_eq!(rt; files.len(), 2);
-    let name = files[0].name;
-    assert_eq!(rt; name.owner, deck.volume.accounts[0].account);
-    assert_eq!(rt; name.stem.as_bytes(), b"SUM".as_slice());
-    assert_eq!(rt; name.extension.as_bytes(), b"BAS".as_slice());
-    assert_eq!(rt; files[0].code, 40);
-    assert_eq!(rt; files[1].name.extension.as_bytes(), b"".as_slice());
-    assert_eq!(rt; files[1].pages.as_slice().len(), 0);
+    let want = b"3 blocks\n100,5 9 3 DEMO\n100,5 40 SUM.BAS\n10 PRINT 1%\r\n\r\n**100,5 0 B.\n";
+    let found = told(rt.alloc(), FILES)?;
+    assert_eq!(rt; found.as_slice(), want.as_slice());
     Ok(())
 }
 
+/// The first page has zeros behind the text, and the second nothing else.
 #[test]
 fn zeros_stand_behind_the_text_of_a_file(rt: HostRuntime) -> Result<(), Fail> {
-    let deck = read_deck(rt.alloc(), FILES)?;
-    let files = deck.volume.files.as_slice();
-    assert_eq!(rt; files.len(), 2);
-    let pages = files[0].pages.as_slice();
-    assert_eq!(rt; pages.len(), 2);
-    let first = pages[0].as_bytes();
-    assert_eq!(rt; &first[..16], b"10 PRINT 1%\r\n\r\n\0".as_slice());
-    assert_eq!(rt; pages[1].as_bytes().iter().all(|byte| *byte == 0), true);
+    let deck = b"RSTS-DECK 1\nDISK 2\nACCOUNT 1,2 A 9\nFILE [1,2]B<0> 2\n>10 END\nEND\n";
+    let want = b"2 blocks\n1,2 9 2 A\n1,2 0 B.\n10 END\r\n**";
+    let found = told(rt.alloc(), deck)?;
+    assert_eq!(rt; found.as_slice(), want.as_slice());
+    Ok(())
+}
+
+/// In version 2 an account has the quota that its line tells.
+#[test]
+fn quotas_are_read(rt: HostRuntime) -> Result<(), Fail> {
+    let deck = b"RSTS-DECK 2\nDISK 8\nACCOUNT 100,5 DEMO 9 1\nACCOUNT 1,2 A 1 16384\n\
+FILE [100,5]A<60> 1\nEND\n";
+    let want = b"8 blocks\n100,5 9 1 DEMO\n1,2 1 16384 A\n100,5 60 A.\n*";
+    let found = told(rt.alloc(), deck)?;
+    assert_eq!(rt; found.as_slice(), want.as_slice());
     Ok(())
 }

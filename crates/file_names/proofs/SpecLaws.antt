@@ -16,14 +16,14 @@ use Rattle.monitor_calls.specs.Names.{is_capital_or_digit}
 use Rattle.monitor_calls.specs.NameTexts.{account_text, extension_text, name_text}
 use Rattle.basic_values.proofs.CutLaws.{and_left, and_right}
 use Rattle.file_names.specs.declared.spec.Spec.{Spec}
-use Rattle.file_names.specs.Names.{Bracketed, Written, extension_written, IsPlace, IsExtension, is_extension, Spells, squeezed}
+use Rattle.file_names.specs.Names.{Bracketed, Written, extension_written, IsPlace, IsExtension, is_extension, IsSpecOf, squeezed}
 use Rattle.file_names.specs.Laws.{SpecIsOne, PrintedIsRead}
 use Rattle.file_names.specs.Reading.{spec_in}
 use Rattle.file_names.proofs.ReadingLaws.{spec_takes}
 use Rattle.file_names.proofs.FrontLemmas.{written_short, short_front}
 use Rattle.file_names.proofs.WritingLaws.{spec_again, kind_of}
 
-spelled_is_read : (own : Account) (default text : List ℕ) (spec : Spec) → Spells own default text spec → spec_in own default (squeezed text) ≡ Some spec
+spelled_is_read : (own : Account) (default text : List ℕ) (spec : Spec) → IsSpecOf own default text spec → spec_in own default (squeezed text) ≡ Some spec
 spelled_is_read own default text spec s =
     ap (spec_in own default) (sym s.says) ∙ spec_again own default s.written s.proper ∙ ap Some s.means
 
@@ -128,7 +128,7 @@ printed_is_read own default name good none =
 
 -- ---- what is read of the front is what the text says
 
-pub front_spells : (own : Account) (default text : List ℕ) (spec : Spec) → spec_in own default (take 32 (squeezed text)) ≡ Some spec → Spells own default text spec
+pub front_spells : (own : Account) (default text : List ℕ) (spec : Spec) → spec_in own default (take 32 (squeezed text)) ≡ Some spec → IsSpecOf own default text spec
 front_spells own default text spec e =
     let t = spec_takes own default (take 32 (squeezed text)) spec e in
     let few : length (take 32 (squeezed text)) ≤ 27 = subst (λ (s : List ℕ). length s ≤ 27) t.says (written_short t.written t.proper) in
@@ -139,7 +139,7 @@ front_spells own default text spec e =
       means = t.means;
     }
 
-pub front_refuses : (own : Account) (default text : List ℕ) → spec_in own default (take 32 (squeezed text)) ≡ None → (spec : Spec) → Spells own default text spec → ⊥
+pub front_refuses : (own : Account) (default text : List ℕ) → spec_in own default (take 32 (squeezed text)) ≡ None → (spec : Spec) → IsSpecOf own default text spec → ⊥
 front_refuses own default text e spec s =
     let few : length (squeezed text) ≤ 27 = subst (λ (t : List ℕ). length t ≤ 27) s.says (written_short s.written s.proper) in
     let whole : take 32 (squeezed text) ≡ squeezed text = take_all 32 (squeezed text) (omega arith) in

@@ -5,12 +5,12 @@ use Rattle.monitor_calls.specs.declared.files.FileName.{FileName}
 use Rattle.monitor_calls.specs.Names.{is_password}
 use Rattle.monitor_calls.specs.NameTexts.{name_text}
 use Rattle.file_names.specs.declared.spec.Spec.{Spec}
-use Rattle.file_names.specs.Names.{Spells, is_extension}
+use Rattle.file_names.specs.Names.{IsSpecOf, is_extension}
 
 -- a text says one specification at the most
 abbrev pub SpecIsOne : Type 0
 SpecIsOne = (own : Account) (default text : List ℕ) (a b : Spec)
-    → Spells own default text a → Spells own default text b → a ≡ b
+    → IsSpecOf own default text a → IsSpecOf own default text b → a ≡ b
 
 -- a name that a specification can have
 pub record IsSpecName (name : FileName) : Type 0 where
@@ -24,4 +24,4 @@ pub record IsSpecName (name : FileName) : Type 0 where
 abbrev pub PrintedIsRead : Type 0
 PrintedIsRead = (own : Account) (default : List ℕ) (name : FileName) → IsSpecName name
     → (name.extension ≡ [] → default ≡ [])
-    → Spells own default (name_text name) (record { name = name; code = None })
+    → IsSpecOf own default (name_text name) (record { name = name; code = None })

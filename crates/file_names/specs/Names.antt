@@ -101,7 +101,7 @@ spec_of own default w = record {
 }
 
 -- the text says it, whose blanks are dropped and letters raised first
-pub record Spells (own : Account) (default text : List ℕ) (spec : Spec) : Type 0 where
+pub record IsSpecOf (own : Account) (default text : List ℕ) (spec : Spec) : Type 0 where
   pub written : Written
   pub proper : IsWritten written
   pub says : written_text written ≡ squeezed text

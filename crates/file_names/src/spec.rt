@@ -2,7 +2,7 @@
 
 ghost use Rattle.std.specs.Prelude.{◌≡◌, if◌then◌else◌, Some, None, take, IfOk, IfErr};
 ghost use Rattle.basic_values.specs.Cuts.{Finds};
-ghost use Rattle.file_names.specs.Names.{Spells, squeezed, is_extension, has_device, names_device, refusal_of};
+ghost use Rattle.file_names.specs.Names.{IsSpecOf, squeezed, is_extension, has_device, names_device, refusal_of};
 ghost use Rattle.file_names.specs.Reading.{without_device, bracketed_in, owner_in, closed_code, code_in, stem_in, extension_in, spec_in};
 ghost use Rattle.file_names.specs.declared.spec.Spec.{Spec as TheSpec};
 
@@ -32,9 +32,9 @@ const FRONT: usize = 32;
 /// Blanks are dropped, and letters raised. A text that names another device is error 8, any other
 /// that is no specification error 2.
 pub fn parse_spec(text: &[u8], own: Account, extension: &Short) -> Result<Spec, Fault>
-    ensures read { IfOk result (λ spec. Spells own extension.now text.now spec) }
+    ensures read { IfOk result (λ spec. IsSpecOf own extension.now text.now spec) }
     ensures refused { IfErr result (λ fault. (fault ≡ refusal_of text.now)
-        × ((spec : TheSpec) → Spells own extension.now text.now spec → ⊥)) }
+        × ((spec : TheSpec) → IsSpecOf own extension.now text.now spec → ⊥)) }
 {
     let front = front_of(text);
     match spec_in(own, extension, front.as_slice()) {

@@ -1,7 +1,7 @@
 -- Which reply fits which request, worked out.
-use Rattle.std.proofs.Common.{◌≡◌, ℕ, Bool, true, false, List, [], ◌∷◌, refl, Some, None, replicate}
+use Rattle.std.proofs.Common.{◌≡◌, ℕ, true, false, List, [], refl, replicate}
 use Rattle.monitor_calls.specs.declared.names.Account.{Account}
-use Rattle.monitor_calls.specs.declared.calls.Request.TheVariants.{Login, Logout, Get, Put, GetRecord, PutRecord, Receive, Tick, Assign, Print, Status}
+use Rattle.monitor_calls.specs.declared.calls.Request.TheVariants.{Logout, Get, Put, GetRecord, PutRecord, Receive, Tick, Assign, Print, Status}
 use Rattle.monitor_calls.specs.declared.calls.Reply.TheVariants.{Done, Block, Record, Message, State, Failed, Expired}
 use Rattle.job_model.specs.Asking.{fits, counts_as}
 

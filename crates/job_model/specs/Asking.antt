@@ -1,5 +1,5 @@
 -- Asking: a request is made, and it goes on by what the reply counts as.
-use Rattle.std.specs.Prelude.{ℕ, ◌+◌, ◌-◌, Bool, true, false, not, ◌&&◌, nat_lt, nat_le, List, length, if◌then◌else◌}
+use Rattle.std.specs.Prelude.{ℕ, ◌+◌, ◌-◌, Bool, true, false, not, ◌&&◌, nat_lt, nat_le, length, if◌then◌else◌}
 use Rattle.basic_values.specs.declared.limits.TheConstants.{LONGEST_MESSAGE, MOST_BLOCKS, MOST_CALLS, MOST_JOBS}
 use Rattle.monitor_calls.specs.declared.calls.Request.{Request}
 use Rattle.monitor_calls.specs.declared.calls.Request.TheVariants.{Login, Logout, OpenFile, CloseFile, Get, Put, GetRecord, PutRecord, Unlock, Kill, Rename, Directory, Declare, Remove, Send, Receive, Sleep, Tick, Assign, Deassign, OpenPrinter, Print, ClosePrinter, Status}
@@ -12,35 +12,35 @@ use Rattle.job_model.specs.declared.replies.TheConstants.{LAST_ERROR}
 
 -- WHAT ANSWERS A REQUEST that is neither refused nor the last call of its job
 
-pub data Answer : Type 0 where
+pub data AnswerKind : Type 0 where
   -- Done, where this holds
-  ByDone : Bool → Answer
-  ByOpened : Answer
+  ByDone : Bool → AnswerKind
+  ByOpened : AnswerKind
   -- a block, where this holds
-  ByBlock : Bool → Answer
+  ByBlock : Bool → AnswerKind
   -- a record from this block on, of so many pages at the most
-  ByRecord : ℕ → ℕ → Answer
-  ByName : Answer
-  ByMessage : Answer
-  ByState : Answer
+  ByRecord : ℕ → ℕ → AnswerKind
+  ByName : AnswerKind
+  ByMessage : AnswerKind
+  ByState : AnswerKind
 
 -- whether a disk can have the block; and so many blocks from this one on
-abbrev pub is_block : ℕ → Bool
-is_block block = is_between 1 MOST_BLOCKS block
+abbrev pub can_be_block : ℕ → Bool
+can_be_block block = is_between 1 MOST_BLOCKS block
 
-abbrev pub are_blocks : ℕ → ℕ → Bool
-are_blocks block count = nat_le 1 block && nat_le (block + count - 1) MOST_BLOCKS
+abbrev pub can_be_blocks : ℕ → ℕ → Bool
+can_be_blocks block count = nat_le 1 block && nat_le (block + count - 1) MOST_BLOCKS
 
 -- a writing is done only where a disk can have the blocks
-abbrev pub answer_to : Request → Answer
+abbrev pub answer_to : Request → AnswerKind
 answer_to (Login account password) = ByDone true
 answer_to Logout = ByDone true
 answer_to (OpenFile channel name kind update code) = ByOpened
 answer_to (CloseFile channel) = ByDone true
-answer_to (Get channel block) = ByBlock (is_block block)
-answer_to (Put channel block page) = ByDone (is_block block)
+answer_to (Get channel block) = ByBlock (can_be_block block)
+answer_to (Put channel block page) = ByDone (can_be_block block)
 answer_to (GetRecord channel block count) = ByRecord block count
-answer_to (PutRecord channel block pages) = ByDone (are_blocks block (length pages))
+answer_to (PutRecord channel block pages) = ByDone (can_be_blocks block (length pages))
 answer_to (Unlock channel) = ByDone true
 answer_to (Kill name) = ByDone true
 answer_to (Rename old new code) = ByDone true
@@ -59,15 +59,15 @@ answer_to ClosePrinter = ByDone true
 answer_to Status = ByState
 
 -- whether these can be the pages of a record that was read from this block on
-abbrev pub is_record_of : ℕ → ℕ → ℕ → Bool
-is_record_of block most count = is_between 1 most count && are_blocks block count
+abbrev pub can_be_record : ℕ → ℕ → ℕ → Bool
+can_be_record block most count = is_between 1 most count && can_be_blocks block count
 
 -- jobs are numbered from 0, and a job makes only so many calls
-abbrev pub is_answer : Answer → Reply → Bool
+abbrev pub is_answer : AnswerKind → Reply → Bool
 is_answer (ByDone can_be) Done = can_be
 is_answer ByOpened (Opened blocks read write) = true
 is_answer (ByBlock can_be) (Block page) = can_be
-is_answer (ByRecord block most) (Record pages) = is_record_of block most (length pages)
+is_answer (ByRecord block most) (Record pages) = can_be_record block most (length pages)
 is_answer ByName (Name name code blocks) = true
 is_answer ByMessage (Message job account text) =
     nat_lt job MOST_JOBS && nat_le (length text) LONGEST_MESSAGE

@@ -37,8 +37,8 @@ abbrev pub asks_for : {A : Type 0} → (Reply → ReplyAct A) → Request → Re
 asks_for by request = ask request tt then λ reply _. by reply
 
 -- what is done on no part of a state leaves the state as it is
-abbrev pub nowhere : {S : Type 0} → Place S Unit
-nowhere = record { part = λ s. tt; with_part = λ s none. s }
+abbrev pub no_part : {S : Type 0} → Place S Unit
+no_part = record { part = λ s. tt; with_part = λ s none. s }
 
 -- WHAT THE CALLS COMPUTE OF IT: the same as what it counts as
 

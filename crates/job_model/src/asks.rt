@@ -2,7 +2,7 @@
 
 ghost use Rattle.std.specs.Prelude.{◌≡◌, true, length, IfOk, OnOk};
 ghost use Rattle.monitor_calls.specs.declared.calls.Request.TheVariants as request;
-ghost use Rattle.job_model.specs.Asking.{is_block, is_record_of};
+ghost use Rattle.job_model.specs.Asking.{can_be_block, can_be_record};
 ghost use Rattle.job_model.specs.Follow.{Follows, answered_by};
 ghost use Rattle.job_model.specs.Play as play;
 ghost use Rattle.job_model.specs.Replies.{asks_for, done_by, opened_by, block_by, pages_by, IsDoneOnly};
@@ -62,7 +62,7 @@ pub fn ask_block<P: Port>(
 ) -> Result<Page, Stop>
     ensures follows { (clock : play.Clock) → Follows P.who P.log port.old port.new clock clock
         (asks_for block_by (request.Get channel block)) (answered_by result tt) }
-    ensures could { OnOk result (is_block block ≡ true) }
+    ensures could { OnOk result (can_be_block block ≡ true) }
 {
     let reply = port.ask(alloc, Request::Get { channel, block })?;
     block_by(reply, block)
@@ -78,7 +78,7 @@ pub fn ask_record<P: Port>(
 ) -> Result<Series<Page>, Stop>
     ensures follows { (clock : play.Clock) → Follows P.who P.log port.old port.new clock clock
         (asks_for pages_by (request.GetRecord channel block count)) (answered_by result tt) }
-    ensures could { IfOk result (λ pages. is_record_of block count (length pages) ≡ true) }
+    ensures could { IfOk result (λ pages. can_be_record block count (length pages) ≡ true) }
 {
     let request = Request::GetRecord {
         channel,

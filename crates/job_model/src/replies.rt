@@ -5,7 +5,7 @@ ghost use Rattle.basic_values.specs.declared.failures.Stop.TheVariants as stop;
 ghost use Rattle.monitor_calls.specs.declared.files.FileName.{FileName as TheName};
 ghost use Rattle.monitor_calls.specs.declared.files.OpenKind.{OpenKind as Kind};
 ghost use Rattle.monitor_calls.specs.declared.calls.Request.TheVariants as request;
-ghost use Rattle.job_model.specs.Asking.{counts_as, is_block, are_blocks, is_record_of, is_error};
+ghost use Rattle.job_model.specs.Asking.{counts_as, can_be_block, can_be_blocks, can_be_record, is_error};
 ghost use Rattle.job_model.specs.Follow.{answered_by};
 ghost use Rattle.job_model.specs.Replies.{done_by, opened_by, block_by, pages_by, taken_as};
 
@@ -45,11 +45,11 @@ pub fn opened_by(reply: &Reply) -> Result<u16, Stop>
 pub fn block_by(reply: Reply, block: u16) -> Result<Page, Stop>
     ensures answer { (channel : ℕ) → answered_by result tt
         ≡ Some (block_by (counts_as (request.Get channel block) reply)) }
-    ensures could { OnOk result (is_block block ≡ true) }
+    ensures could { OnOk result (can_be_block block ≡ true) }
 {
     match reply {
         Reply::Block(page) => {
-            if is_block(block) {
+            if can_be_block(block) {
                 Ok(page)
             } else {
                 Err(Stop::Expired)
@@ -64,11 +64,11 @@ pub fn block_by(reply: Reply, block: u16) -> Result<Page, Stop>
 pub fn pages_by(reply: Reply, block: u16, count: u8) -> Result<Series<Page>, Stop>
     ensures answer { (channel : ℕ) → answered_by result tt
         ≡ Some (pages_by (counts_as (request.GetRecord channel block count) reply)) }
-    ensures could { IfOk result (λ pages. is_record_of block count (length pages) ≡ true) }
+    ensures could { IfOk result (λ pages. can_be_record block count (length pages) ≡ true) }
 {
     match reply {
         Reply::Record(pages) => {
-            if is_record_of(block, count, pages.as_slice()) {
+            if can_be_record(block, count, pages.as_slice()) {
                 Ok(pages)
             } else {
                 Err(Stop::Expired)
@@ -98,23 +98,23 @@ pub fn is_error(fault: Fault) -> bool
 }
 
 /// Whether a disk can have the block.
-pub fn is_block(block: u16) -> bool
-    ensures { result ≡ is_block block }
+pub fn can_be_block(block: u16) -> bool
+    ensures { result ≡ can_be_block block }
 {
     (1..=MOST_BLOCKS).contains(&block)
 }
 
 /// Whether a disk can have so many blocks from this one on.
-pub fn are_blocks(block: u16, count: usize) -> bool
-    ensures { result ≡ are_blocks block count }
+pub fn can_be_blocks(block: u16, count: usize) -> bool
+    ensures { result ≡ can_be_blocks block count }
 {
     let last = MOST_BLOCKS as usize;
     1 <= block && count <= last && block as usize + count <= last + 1
 }
 
 /// Whether these can be the pages of a record that was read from this block on.
-fn is_record_of(block: u16, most: u8, pages: &[Page]) -> bool
-    ensures { result ≡ is_record_of block most (length pages.now) }
+fn can_be_record(block: u16, most: u8, pages: &[Page]) -> bool
+    ensures { result ≡ can_be_record block most (length pages.now) }
 {
-    (1..=most as usize).contains(&pages.len()) && are_blocks(block, pages.len())
+    (1..=most as usize).contains(&pages.len()) && can_be_blocks(block, pages.len())
 }

@@ -2,10 +2,9 @@
 
 use basic_expr::{Word, Words, parse_expr};
 use basic_scanner::scan;
-use basic_tree::{Cause, Keyword, Name, Refusal, Sign, Want};
+use basic_tree::{Cause, Expr, Keyword, Name, Refusal, Sign, Want};
 use basic_values::Trouble;
-use std::alloc::{AllocError, Global};
-use std::process::Abort;
+use std::alloc::Global;
 use std::test::Fail;
 
 const A_TEXT: Name = Name {
@@ -229,32 +228,48 @@ fn is_same(word: Word<'_>, wanted: Word<'_>) -> bool {
     }
 }
 
-/// The line has these words, and none behind them.
-fn has_words(rt: &impl Abort, alloc: Global, line: &[u8], wanted: &[Word<'_>]) {
-    assert!(rt; line.len() <= 255);
-    let Ok(tokens) = scan(line) else {
-        assert!(rt; false, "{line:?} is refused");
-        return;
-    };
-    let Ok(words) = Words::of(alloc, &tokens) else {
-        assert!(rt; false, "no memory");
-        return;
-    };
-    assert_eq!(rt; words.len(), wanted.len(), "{line:?}");
+/// The number of the first word that is another one; none where they are these and no more.
+fn first_other(words: &Words<'_>, wanted: &[Word<'_>]) -> Option<usize> {
+    if words.len() != wanted.len() || words.peek(wanted.len()).is_some() {
+        return Some(wanted.len());
+    }
     for (place, want) in wanted.iter().enumerate() {
         match words.peek(place) {
-            Some(word) => assert!(rt; is_same(word, *want), "{line:?}: {word:?}"),
-            None => assert!(rt; false, "{line:?} ends at {place}"),
+            Some(word) if is_same(word, *want) => {}
+            _ => return Some(place),
         }
     }
-    assert!(rt; words.peek(wanted.len()).is_none(), "{line:?}");
+    None
+}
+
+/// Whether a line has these words, and none behind them.
+fn has_words(alloc: Global, line: &[u8], wanted: &[Word<'_>]) -> bool {
+    if line.len() > 255 {
+        return false;
+    }
+    let Ok(tokens) = scan(line) else {
+        return false;
+    };
+    match Words::of(alloc, &tokens) {
+        Ok(words) => first_other(&words, wanted).is_none(),
+        Err(_) => false,
+    }
+}
+
+fn first_wrong_line(alloc: Global) -> Option<usize> {
+    for (place, (line, wanted)) in LINES.iter().enumerate() {
+        if !has_words(alloc, line, wanted) {
+            return Some(place);
+        }
+    }
+    None
 }
 
 #[test]
-fn lines_have_their_words(rt: HostRuntime) {
-    for (line, wanted) in LINES {
-        has_words(&rt, rt.alloc(), line, wanted);
-    }
+fn lines_have_their_words(rt: HostRuntime) -> Result<(), Fail> {
+    let wrong = first_wrong_line(rt.alloc());
+    assert_eq!(rt; wrong, None);
+    Ok(())
 }
 
 // Expressions
@@ -268,31 +283,29 @@ enum Answer {
     Failed,
 }
 
-fn parsed<R: Abort>(rt: &R, alloc: Global, line: &[u8], want: Want) -> Answer {
-    assert!(rt; line.len() <= 255, "a line is too long");
-    let tokens = match scan(line) {
-        Ok(tokens) => tokens,
-        Err(_) => return Answer::Failed,
-    };
-    match parse_expr(alloc, &tokens, 0, want) {
-        Ok((_, end)) => Answer::Read(end),
-        Err(
-            Trouble::Refused(
-                Refusal {
-                    place,
-                    cause: Cause::Syntax,
-                },
-            ),
-        ) => Answer::Syntax(place),
-        Err(
-            Trouble::Refused(
-                Refusal {
-                    place,
-                    cause: Cause::TooDeep,
-                },
-            ),
-        ) => Answer::TooDeep(place),
+fn parsed(alloc: Global, line: &[u8], want: Want) -> Answer {
+    if line.len() > 255 {
+        return Answer::Failed;
+    }
+    match scan(line) {
+        Ok(tokens) => answered(parse_expr(alloc, &tokens, 0, want)),
         Err(_) => Answer::Failed,
+    }
+}
+
+fn answered(answer: Result<(Expr, u16), Trouble<Refusal>>) -> Answer {
+    match answer {
+        Ok((_, end)) => Answer::Read(end),
+        Err(Trouble::Refused(refusal)) => refused(refusal),
+        Err(Trouble::NoMemory) => Answer::Failed,
+    }
+}
+
+fn refused(refusal: Refusal) -> Answer {
+    match refusal.cause {
+        Cause::Syntax => Answer::Syntax(refusal.place),
+        Cause::TooDeep => Answer::TooDeep(refusal.place),
+        _ => Answer::Failed,
     }
 }
 
@@ -324,34 +337,33 @@ static EXPRESSIONS: [(&[u8], Want, Answer); 24] = [
     (b"AND", Want::Either, Answer::Syntax(0)),
 ];
 
-#[test]
-fn expressions_are_read_or_refused(rt: HostRuntime) {
-    for (line, want, answer) in &EXPRESSIONS {
-        let found = parsed(&rt, rt.alloc(), line, *want);
-        assert_eq!(rt; (line, found), (line, *answer));
+fn first_wrong_expression(alloc: Global) -> Option<usize> {
+    for (place, (line, want, answer)) in EXPRESSIONS.iter().enumerate() {
+        if parsed(alloc, line, *want) != *answer {
+            return Some(place);
+        }
     }
+    None
 }
 
-fn signs(alloc: Global, count: usize) -> Result<Vec<u8>, AllocError> {
-    let mut line = Vec::new(alloc);
-    for _ in 0..count {
-        line.push(b'-')?;
-    }
+#[test]
+fn expressions_are_read_or_refused(rt: HostRuntime) -> Result<(), Fail> {
+    let wrong = first_wrong_expression(rt.alloc());
+    assert_eq!(rt; wrong, None);
+    Ok(())
+}
+
+/// The answer to a number behind so many signs.
+fn behind_signs(alloc: Global, count: usize) -> Result<Answer, Fail> {
+    let mut line = vec![in alloc; b'-'; count]?;
     line.push(b'1')?;
-    Ok(line)
+    Ok(parsed(alloc, &line, Want::Number))
 }
 
 #[test]
 fn the_65th_level_is_refused(rt: HostRuntime) -> Result<(), Fail> {
-    let line = signs(rt.alloc(), 64)?;
-    assert_eq!(rt;
-        parsed(&rt, rt.alloc(), &line, Want::Number),
-        Answer::Read(65)
-    );
-    let line = signs(rt.alloc(), 65)?;
-    assert_eq!(rt;
-        parsed(&rt, rt.alloc(), &line, Want::Number),
-        Answer::TooDeep(64)
-    );
+    let deepest = behind_signs(rt.alloc(), 64)?;
+    let deeper = behind_signs(rt.alloc(), 65)?;
+    assert_eq!(rt; (deepest, deeper), (Answer::Read(65), Answer::TooDeep(64)));
     Ok(())
 }

@@ -2,10 +2,9 @@
 
 use basic_line::parse_line;
 use basic_scanner::scan;
-use basic_tree::{Cause, Refusal};
+use basic_tree::{Cause, Line, Refusal};
 use basic_values::Trouble;
 use std::alloc::{AllocError, Global};
-use std::process::Abort;
 use std::test::Fail;
 
 /// What a line is answered. Places are numbers of tokens, from 0.
@@ -17,6 +16,8 @@ enum Answer {
     /// A refusal of the scanner, at this byte.
     Unscanned(u16),
     NoMemory,
+    /// It has more bytes than a line has.
+    NoLine,
 }
 
 /// A line and what it is answered.
@@ -30,22 +31,32 @@ fn refused(refusal: Refusal) -> Answer {
     }
 }
 
-fn answer_of<R: Abort>(rt: &R, alloc: Global, line: &[u8]) -> Answer {
-    assert!(rt; line.len() <= 255, "a line is too long");
+fn answer_of(alloc: Global, line: &[u8]) -> Answer {
+    if line.len() > 255 {
+        return Answer::NoLine;
+    }
     match scan(line) {
+        Ok(tokens) => parsed(parse_line(alloc, &tokens)),
         Err(refusal) => refused(refusal),
-        Ok(tokens) => match parse_line(alloc, &tokens) {
-            Ok(_) => Answer::Tree,
-            Err(Trouble::Refused(refusal)) => refused(refusal),
-            Err(Trouble::NoMemory) => Answer::NoMemory,
-        },
     }
 }
 
-fn check<R: Abort>(rt: &R, alloc: Global, rows: &[Row]) {
-    for (line, answer) in rows {
-        assert_eq!(rt; (line, answer_of(rt, alloc, line)), (line, *answer));
+fn parsed(answer: Result<Line, Trouble<Refusal>>) -> Answer {
+    match answer {
+        Ok(_) => Answer::Tree,
+        Err(Trouble::Refused(refusal)) => refused(refusal),
+        Err(Trouble::NoMemory) => Answer::NoMemory,
     }
+}
+
+/// The place of the first row that is answered otherwise.
+fn first_wrong(alloc: Global, rows: &[Row]) -> Option<usize> {
+    for (place, (line, answer)) in rows.iter().enumerate() {
+        if answer_of(alloc, line) != *answer {
+            return Some(place);
+        }
+    }
+    None
 }
 
 static ASSIGNMENTS: [Row; 21] = [
@@ -340,17 +351,32 @@ static MET_FIRST: [Row; 6] = [
     (b"print 2 + 3%", Answer::Tree),
 ];
 
+/// The tables of rows, in this order.
+static TABLES: [&[Row]; 8] = [
+    &MET_FIRST,
+    &ASSIGNMENTS,
+    &PRINTING,
+    &JUMPS,
+    &FILES,
+    &HEADS,
+    &CHOICES,
+    &EXPRESSIONS,
+];
+
+/// The table and the row of the first line that is answered otherwise.
+fn first_wrong_table(alloc: Global) -> Option<(usize, usize)> {
+    for (table, rows) in TABLES.iter().enumerate() {
+        if let Some(place) = first_wrong(alloc, rows) {
+            return Some((table, place));
+        }
+    }
+    None
+}
+
 #[test]
 fn lines_have_a_tree_or_are_refused(rt: HostRuntime) -> Result<(), Fail> {
-    let alloc = rt.alloc();
-    check(&rt, alloc, &MET_FIRST);
-    check(&rt, alloc, &ASSIGNMENTS);
-    check(&rt, alloc, &PRINTING);
-    check(&rt, alloc, &JUMPS);
-    check(&rt, alloc, &FILES);
-    check(&rt, alloc, &HEADS);
-    check(&rt, alloc, &CHOICES);
-    check(&rt, alloc, &EXPRESSIONS);
+    let wrong = first_wrong_table(rt.alloc());
+    assert_eq!(rt; wrong, None);
     Ok(())
 }
 
@@ -440,24 +466,29 @@ fn joined(alloc: Global, parts: &[&[u8]]) -> Result<Vec<u8>, AllocError> {
     Ok(bytes)
 }
 
+/// The place of the first word that is answered otherwise behind a value.
+fn first_wrong_word(
+    alloc: Global,
+    words: &[&[u8]],
+    answer: Answer,
+) -> Result<Option<usize>, AllocError> {
+    for (place, word) in words.iter().enumerate() {
+        let line = joined(alloc, &[b"PRINT 1% ".as_slice(), *word])?;
+        if answer_of(alloc, &line) != answer {
+            return Ok(Some(place));
+        }
+    }
+    Ok(None)
+}
+
 #[test]
 fn words_stand_behind_a_value_or_not(rt: HostRuntime) -> Result<(), Fail> {
-    let alloc = rt.alloc();
-    for word in &WORDS {
-        let line = joined(alloc, &[b"PRINT 1% ".as_slice(), *word])?;
-        assert_eq!(rt;
-            (word, answer_of(&rt, alloc, &line)),
-            (word, Answer::Syntax(2))
-        );
-    }
-    for word in &GOING_ON {
-        let line = joined(alloc, &[b"PRINT 1% ".as_slice(), *word])?;
-        assert_eq!(rt;
-            (word, answer_of(&rt, alloc, &line)),
-            (word, Answer::Syntax(3))
-        );
-    }
-    assert_eq!(rt; answer_of(&rt, alloc, b"PRINT 1% REM STOP"), Answer::Tree);
+    let wrong = first_wrong_word(rt.alloc(), &WORDS, Answer::Syntax(2))?;
+    assert_eq!(rt; wrong, None);
+    let wrong = first_wrong_word(rt.alloc(), &GOING_ON, Answer::Syntax(3))?;
+    assert_eq!(rt; wrong, None);
+    let remark = answer_of(rt.alloc(), b"PRINT 1% REM STOP");
+    assert_eq!(rt; remark, Answer::Tree);
     Ok(())
 }
 
@@ -491,7 +522,7 @@ type Nest = (
     Answer,
 );
 
-static NESTS: [Nest; 14] = [
+static NESTS: [Nest; 15] = [
     (b"PRINT", b"(", b"1", b")", 64, Answer::Tree),
     (b"PRINT", b"(", b"1", b")", 65, Answer::TooDeep(65)),
     (b"PRINT", b"-", b"1", b"", 64, Answer::Tree),
@@ -520,20 +551,27 @@ static NESTS: [Nest; 14] = [
     (b"STOPIF1IF1IF", b"(", b"1", b")", 61, Answer::Tree),
     (b"STOPIF1IF1IF", b"(", b"1", b")", 62, Answer::TooDeep(67)),
     (b"PRINT", b"(", b")", b")", 65, Answer::TooDeep(65)),
+    // what is wrong before the level that is too deep is told
+    (b"PRINT 1 1", b"(", b"1", b")", 65, Answer::Syntax(2)),
 ];
+
+fn nest_answer(alloc: Global, nest: &Nest) -> Result<Answer, AllocError> {
+    let line = nested(alloc, nest.0, nest.1, nest.4, nest.2, nest.3)?;
+    Ok(answer_of(alloc, &line))
+}
+
+fn first_wrong_nest(alloc: Global) -> Result<Option<usize>, AllocError> {
+    for (place, nest) in NESTS.iter().enumerate() {
+        if nest_answer(alloc, nest)? != nest.5 {
+            return Ok(Some(place));
+        }
+    }
+    Ok(None)
+}
 
 #[test]
 fn the_65th_level_is_refused(rt: HostRuntime) -> Result<(), Fail> {
-    let alloc = rt.alloc();
-    for (front, part, middle, end, levels, answer) in &NESTS {
-        let line = nested(alloc, front, part, *levels, middle, end)?;
-        assert_eq!(rt;
-            (front, part, answer_of(&rt, alloc, &line)),
-            (front, part, *answer)
-        );
-    }
-    // what is wrong before the level that is too deep is told
-    let line = nested(alloc, b"PRINT 1 1", b"(", 65, b"1", b")")?;
-    assert_eq!(rt; answer_of(&rt, alloc, &line), Answer::Syntax(2));
+    let wrong = first_wrong_nest(rt.alloc())?;
+    assert_eq!(rt; wrong, None);
     Ok(())
 }

@@ -1,9 +1,8 @@
 //! Lines and their tokens.
 
-use basic_scanner::{keyword_of, literal_value, scan, sign_of};
+use basic_scanner::{Token, Tokens, keyword_of, literal_value, scan, sign_of};
 use basic_tree::{Cause, Keyword, Sign, TokenKind};
-use std::alloc::Global;
-use std::process::Abort;
+use std::alloc::{AllocError, Global};
 use std::test::Fail;
 
 const K: TokenKind = TokenKind::Keyword;
@@ -21,9 +20,9 @@ const D: TokenKind = TokenKind::DataItem;
 const S: TokenKind = TokenKind::Sign;
 
 /// A token that is wanted: its sort, its start and its bytes.
-type Wanted = (TokenKind, u16, &'static [u8]);
+type Wanted<'a> = (TokenKind, u16, &'a [u8]);
 
-static TAKEN: [(&[u8], &[Wanted]); 60] = [
+static TAKEN: [(&[u8], &[Wanted<'static>]); 60] = [
     (b"", &[]),
     (b" \x09 ", &[]),
     (
@@ -324,93 +323,162 @@ static WORDS: [&[u8]; 84] = [
     b"ZER",
 ];
 
-/// The line has these tokens.
-fn is_taken(rt: &impl Abort, line: &[u8], wanted: &[Wanted]) {
-    assert!(rt; line.len() <= 255);
-    match scan(line) {
-        Ok(tokens) => {
-            assert_eq!(rt; tokens.len() as usize, wanted.len(), "{line:?}");
-            for k in 0..tokens.len() {
-                let token = tokens.token(k);
-                assert!(rt; (k as usize) < wanted.len());
-                let (kind, start, bytes) = wanted[k as usize];
-                assert_eq!(rt; token.kind, kind, "{line:?}");
-                assert_eq!(rt; token.start, start, "{line:?}");
-                assert_eq!(rt; token.bytes, bytes, "{line:?}");
-            }
+/// Whether a token is the wanted one.
+fn is_token(token: Token<'_>, wanted: &Wanted<'_>) -> bool {
+    token.kind == wanted.0 && token.start == wanted.1 && token.bytes == wanted.2
+}
+
+/// The number of the first token that is another one; none where they are these and no more.
+fn first_other(tokens: &Tokens<'_>, wanted: &[Wanted<'_>]) -> Option<usize> {
+    if tokens.len() as usize != wanted.len() {
+        return Some(wanted.len());
+    }
+    for place in 0..tokens.len() {
+        let token = tokens.token(place);
+        match wanted.get(place as usize) {
+            Some(want) if is_token(token, want) => {}
+            _ => return Some(place as usize),
         }
-        Err(_) => assert!(rt; false, "{line:?} is refused"),
+    }
+    None
+}
+
+/// Whether a line has these tokens and no more.
+fn is_taken(line: &[u8], wanted: &[Wanted<'_>]) -> bool {
+    if line.len() > 255 {
+        return false;
+    }
+    match scan(line) {
+        Ok(tokens) => first_other(&tokens, wanted).is_none(),
+        Err(_) => false,
     }
 }
 
-/// The line is refused there.
-fn is_refused(rt: &impl Abort, line: &[u8], place: u16, cause: Cause) {
-    assert!(rt; line.len() <= 255);
+/// Whether a line is refused there.
+fn is_refused(line: &[u8], place: u16, cause: Cause) -> bool {
+    if line.len() > 255 {
+        return false;
+    }
     match scan(line) {
-        Ok(_) => assert!(rt; false, "{line:?} is taken"),
-        Err(refusal) => {
-            assert_eq!(rt; refusal.place, place, "{line:?}");
-            assert_eq!(rt; refusal.cause, cause, "{line:?}");
+        Ok(_) => false,
+        Err(refusal) => refusal.place == place && refusal.cause == cause,
+    }
+}
+
+fn first_not_taken() -> Option<usize> {
+    for (place, (line, wanted)) in TAKEN.iter().enumerate() {
+        if !is_taken(line, wanted) {
+            return Some(place);
         }
     }
+    None
+}
+
+fn first_not_refused() -> Option<usize> {
+    for (row, (line, place, cause)) in REFUSED.iter().enumerate() {
+        if !is_refused(line, *place, *cause) {
+            return Some(row);
+        }
+    }
+    None
 }
 
 #[test]
-fn lines_have_their_tokens_or_are_refused(rt: HostRuntime) {
-    for (line, wanted) in TAKEN {
-        is_taken(&rt, line, wanted);
-    }
-    for (line, place, cause) in REFUSED {
-        is_refused(&rt, line, place, cause);
-    }
+fn lines_have_their_tokens_or_are_refused(rt: HostRuntime) -> Result<(), Fail> {
+    let wrong = (first_not_taken(), first_not_refused());
+    assert_eq!(rt; wrong, (None, None));
+    Ok(())
 }
 
 /// The word with these bytes behind it.
-fn beside(alloc: Global, word: &[u8], behind: &[u8]) -> Result<Vec<u8>, std::alloc::AllocError> {
+fn beside(alloc: Global, word: &[u8], behind: &[u8]) -> Result<Vec<u8>, AllocError> {
     let mut line = Vec::new(alloc);
     line.extend_from_slice(word)?;
     line.extend_from_slice(behind)?;
     Ok(line)
 }
 
+/// Whether a word ends where a name or a number stands behind it.
+fn ends_before(
+    alloc: Global,
+    word: &[u8],
+    kind: TokenKind,
+    behind: &[u8],
+) -> Result<bool, AllocError> {
+    let line = beside(alloc, word, behind)?;
+    Ok(is_taken(&line, &[(K, 0, word), (kind, end_of(word), behind)]))
+}
+
+/// Whether a byte behind a word is refused.
+fn is_stray_behind(alloc: Global, word: &[u8], behind: &[u8]) -> Result<bool, AllocError> {
+    let line = beside(alloc, word, behind)?;
+    Ok(is_refused(&line, end_of(word), Cause::StrayByte))
+}
+
+/// The length of a word, of which none has as many as 20 bytes.
+fn end_of(word: &[u8]) -> u16 {
+    word.len().min(20) as u16
+}
+
+fn ends(alloc: Global, word: &[u8]) -> Result<bool, AllocError> {
+    Ok(
+        ends_before(alloc, word, V, b"Q%")?
+            && ends_before(alloc, word, L, b"7")?
+            && is_stray_behind(alloc, word, b"%")?
+            && is_stray_behind(alloc, word, b"$")?,
+    )
+}
+
+fn first_wrong_word(alloc: Global) -> Result<Option<usize>, AllocError> {
+    for (place, word) in WORDS.iter().enumerate() {
+        if !ends(alloc, word)? {
+            return Ok(Some(place));
+        }
+    }
+    Ok(None)
+}
+
 #[test]
 fn keywords_end_where_another_byte_begins(rt: HostRuntime) -> Result<(), Fail> {
-    for word in WORDS {
-        assert!(rt; word.len() < 20);
-        let end = word.len() as u16;
-        let letter = beside(rt.alloc(), word, b"Q%")?;
-        is_taken(&rt, &letter, &[(K, 0, word), (V, end, b"Q%")]);
-        let digit = beside(rt.alloc(), word, b"7")?;
-        is_taken(&rt, &digit, &[(K, 0, word), (L, end, b"7")]);
-        let percent = beside(rt.alloc(), word, b"%")?;
-        is_refused(&rt, &percent, end, Cause::StrayByte);
-        let dollar = beside(rt.alloc(), word, b"$")?;
-        is_refused(&rt, &dollar, end, Cause::StrayByte);
-    }
+    let wrong = first_wrong_word(rt.alloc())?;
+    assert_eq!(rt; wrong, None);
     Ok(())
+}
+
+/// How many tokens a line has, where it is a line.
+fn count(line: &[u8]) -> Option<u16> {
+    if line.len() > 255 {
+        return None;
+    }
+    match scan(line) {
+        Ok(tokens) => Some(tokens.len()),
+        Err(_) => None,
+    }
 }
 
 #[test]
 fn long_lines_and_words(rt: HostRuntime) -> Result<(), Fail> {
     let zeros = vec![in rt.alloc(); b'0'; 255]?;
-    assert_eq!(rt; zeros.len(), 255);
-    match scan(&zeros) {
-        Ok(tokens) => assert_eq!(rt; tokens.len(), 1),
-        Err(_) => assert!(rt; false, "255 digits"),
-    }
+    assert_eq!(rt; count(&zeros), Some(1));
     let commas = vec![in rt.alloc(); b','; 251]?;
-    let data = beside(rt.alloc(), b"DATA", &commas)?;
-    assert_eq!(rt; data.len(), 255);
-    match scan(&data) {
-        Ok(tokens) => assert_eq!(rt; tokens.len(), 253),
-        Err(_) => assert!(rt; false, "252 items"),
-    }
-    assert_eq!(rt; keyword_of(b"left$"), Some(Keyword::Left));
-    assert_eq!(rt; keyword_of(b"LEF"), None);
-    assert_eq!(rt; sign_of(b"**"), Some(Sign::DoubleStar));
-    assert_eq!(rt; sign_of(b"!"), None);
-    assert_eq!(rt; literal_value(b"0012%"), 12);
-    assert_eq!(rt; literal_value(b"99999"), 32768);
-    assert_eq!(rt; literal_value(b"%"), 0);
+    let items = beside(rt.alloc(), b"DATA", &commas)?;
+    assert_eq!(rt; (items.len(), count(&items)), (255, Some(253)));
+    Ok(())
+}
+
+/// Whether words, signs and literals are known by themselves.
+fn are_known() -> bool {
+    keyword_of(b"left$") == Some(Keyword::Left)
+        && keyword_of(b"LEF") == None
+        && sign_of(b"**") == Some(Sign::DoubleStar)
+        && sign_of(b"!") == None
+        && literal_value(b"0012%") == 12
+        && literal_value(b"99999") == 32768
+        && literal_value(b"%") == 0
+}
+
+#[test]
+fn words_signs_and_literals_are_known(rt: HostRuntime) -> Result<(), Fail> {
+    assert!(rt; are_known());
     Ok(())
 }

@@ -8,202 +8,402 @@ use basic_values::{Fault, Halt, Int, Text, Trouble};
 use std::alloc::{AllocError, Global};
 use std::test::Fail;
 
-/// Whether a call gave this text.
-fn gives(made: Result<Text, Trouble<Halt>>, bytes: &[u8]) -> bool {
-    match made {
+/// A function that gives a text, with its arguments.
+#[derive(Clone, Copy)]
+enum Made<'a> {
+    Left(&'a [u8], i16),
+    Right(&'a [u8], i16),
+    Mid(&'a [u8], i16, i16),
+    Num1(i16),
+    Num(i16),
+    /// The two bytes of a number.
+    Pair(i16),
+    Chr(i16),
+    Space(i16),
+    /// So many times the byte of a number.
+    Repeated(i16, i16),
+    Xlate(&'a [u8], &'a [u8]),
+}
+
+use Made::{Chr, Left, Mid, Num, Num1, Pair, Repeated, Right, Space, Xlate};
+
+type Answer = Result<Text, Trouble<Halt>>;
+
+fn called(alloc: Global, call: Made<'_>) -> Answer {
+    match call {
+        Left(text, n) => left(alloc, text, Int::new(n)),
+        Right(text, n) => right(alloc, text, Int::new(n)),
+        Mid(text, n, m) => mid(alloc, text, Int::new(n), Int::new(m)),
+        Num1(n) => num1(alloc, Int::new(n)),
+        Num(n) => num(alloc, Int::new(n)),
+        Pair(n) => text_of(alloc, Int::new(n)),
+        Chr(n) => chr(alloc, Int::new(n)),
+        Space(n) => space(alloc, Int::new(n)),
+        Repeated(n, byte) => string(alloc, Int::new(n), Int::new(byte)),
+        Xlate(text, table) => xlate(alloc, text, table),
+    }
+}
+
+/// Whether a call gives this text.
+fn gives(alloc: Global, call: Made<'_>, bytes: &[u8]) -> bool {
+    match called(alloc, call) {
         Ok(text) => text.as_bytes() == bytes,
         Err(_) => false,
     }
 }
 
-/// Whether a call refused a text as too long.
-fn is_too_long(made: Result<Text, Trouble<Halt>>) -> bool {
-    match made {
-        Ok(_) => false,
-        Err(trouble) => trouble == Trouble::Refused(Halt::TooLong),
-    }
+fn is_too_long(alloc: Global, call: Made<'_>) -> bool {
+    matches!(called(alloc, call), Err(Trouble::Refused(Halt::TooLong)))
 }
 
-/// So many letters A.
-fn letters(alloc: Global, count: usize) -> Result<Vec<u8>, AllocError> {
-    vec![in alloc; b'A'; count]
+/// A call, and the text that it gives.
+type Row = (Made<'static>, &'static [u8]);
+
+fn first_wrong(alloc: Global, rows: &[Row]) -> Option<usize> {
+    for (place, (call, bytes)) in rows.iter().enumerate() {
+        if !gives(alloc, *call, bytes) {
+            return Some(place);
+        }
+    }
+    None
+}
+
+const LOW: i16 = -32768;
+
+static PARTS: [Row; 46] = [
+    (Left(b"ABCDE", 2), b"AB"),
+    (Left(b"ABCDE", 4), b"ABCD"),
+    (Left(b"ABCDE", 5), b"ABCDE"),
+    (Left(b"ABCDE", 6), b"ABCDE"),
+    (Left(b"ABCDE", 1), b"A"),
+    (Left(b"ABCDE", 0), b""),
+    (Left(b"ABCDE", -1), b""),
+    (Left(b"ABCDE", LOW), b""),
+    (Left(b"ABCDE", 32767), b"ABCDE"),
+    (Right(b"ABCDE", 2), b"BCDE"),
+    (Right(b"ABCDE", 4), b"DE"),
+    (Right(b"ABCDE", 5), b"E"),
+    (Right(b"ABCDE", 6), b""),
+    (Right(b"ABCDE", 1), b"ABCDE"),
+    (Right(b"ABCDE", 0), b"ABCDE"),
+    (Right(b"ABCDE", -1), b"ABCDE"),
+    (Right(b"ABCDE", LOW), b"ABCDE"),
+    (Right(b"ABCDE", 32767), b""),
+    (Mid(b"ABCDE", 2, 2), b"BC"),
+    (Mid(b"ABCDE", 4, 4), b"DE"),
+    (Mid(b"ABCDE", 5, 5), b"E"),
+    (Mid(b"ABCDE", 6, 6), b""),
+    (Mid(b"ABCDE", 1, 1), b"A"),
+    (Mid(b"ABCDE", 0, 0), b""),
+    (Mid(b"ABCDE", -1, -1), b""),
+    (Mid(b"ABCDE", LOW, LOW), b""),
+    (Mid(b"ABCDE", 32767, 32767), b""),
+    (Mid(b"ABCDE", 2, 3), b"BCD"),
+    (Left(b"", 2), b""),
+    (Left(b"", 4), b""),
+    (Left(b"", 5), b""),
+    (Left(b"", 6), b""),
+    (Left(b"", 1), b""),
+    (Left(b"", 0), b""),
+    (Left(b"", -1), b""),
+    (Left(b"", LOW), b""),
+    (Left(b"", 32767), b""),
+    (Right(b"", 2), b""),
+    (Right(b"", 4), b""),
+    (Right(b"", 5), b""),
+    (Right(b"", 6), b""),
+    (Right(b"", 1), b""),
+    (Right(b"", 0), b""),
+    (Right(b"", -1), b""),
+    (Right(b"", LOW), b""),
+    (Right(b"", 32767), b""),
+];
+
+#[test]
+fn parts_by_length_and_place(rt: HostRuntime) -> Result<(), Fail> {
+    let wrong = first_wrong(rt.alloc(), &PARTS);
+    assert_eq!(rt; wrong, None);
+    Ok(())
+}
+
+/// From where on a text is searched, the text, what is sought, and its place.
+static PLACES: [(i16, &[u8], &[u8], i16); 14] = [
+    (1, b"ABCABC", b"BC", 2),
+    (2, b"ABCABC", b"BC", 2),
+    (3, b"ABCABC", b"BC", 5),
+    (6, b"ABCABC", b"BC", 0),
+    (-5, b"ABCABC", b"A", 1),
+    (0, b"ABCABC", b"ABCABC", 1),
+    (1, b"ABCABC", b"ABCABCA", 0),
+    (1, b"", b"", 1),
+    (2, b"", b"", 0),
+    (1, b"", b"A", 0),
+    (7, b"ABCABC", b"", 7),
+    (8, b"ABCABC", b"", 0),
+    (LOW, b"ABCABC", b"", 1),
+    (32767, b"ABCABC", b"C", 0),
+];
+
+/// The place of a short text in another.
+fn place_in(from: i16, a: &[u8], b: &[u8]) -> Option<i16> {
+    if a.len() > 9 || b.len() > 9 {
+        return None;
+    }
+    Some(instr(Int::new(from), a, b).value())
+}
+
+fn first_wrong_place() -> Option<usize> {
+    for (place, (from, a, b, found)) in PLACES.iter().enumerate() {
+        if place_in(*from, a, b) != Some(*found) {
+            return Some(place);
+        }
+    }
+    None
 }
 
 #[test]
-fn parts_by_length_and_place(rt: HostRuntime) {
-    let alloc = rt.alloc();
-    let text = b"ABCDE".as_slice();
-    let rows = [
-        (2, b"AB".as_slice(), b"BCDE".as_slice(), b"BC".as_slice()),
-        (4, b"ABCD", b"DE", b"DE"),
-        (5, b"ABCDE", b"E", b"E"),
-        (6, b"ABCDE", b"", b""),
-        (1, b"A", b"ABCDE", b"A"),
-        (0, b"", b"ABCDE", b""),
-        (-1, b"", b"ABCDE", b""),
-        (-32768, b"", b"ABCDE", b""),
-        (32767, b"ABCDE", b"", b""),
-    ];
-    for (n, first, rest, middle) in rows {
-        let n = Int::new(n);
-        assert!(rt; gives(left(alloc, text, n), first), "left {n:?}");
-        assert!(rt; gives(right(alloc, text, n), rest), "right {n:?}");
-        assert!(rt; gives(mid(alloc, text, n, n), middle), "mid {n:?}");
-        assert!(rt; gives(left(alloc, b"", n), b""));
-        assert!(rt; gives(right(alloc, b"", n), b""));
+fn places_of_texts(rt: HostRuntime) -> Result<(), Fail> {
+    let wrong = first_wrong_place();
+    assert_eq!(rt; wrong, None);
+    Ok(())
+}
+
+static NUMBERS: [Row; 15] = [
+    (Num1(0), b"0"),
+    (Num1(258), b"258"),
+    (Num1(-1), b"-1"),
+    (Num1(32767), b"32767"),
+    (Num1(LOW), b"-32768"),
+    (Num(0), b" 0 "),
+    (Num(258), b" 258 "),
+    (Num(-1), b"-1 "),
+    (Num(32767), b" 32767 "),
+    (Num(LOW), b"-32768 "),
+    (Pair(0), &[0, 0]),
+    (Pair(258), &[1, 2]),
+    (Pair(-1), &[255, 255]),
+    (Pair(32767), &[127, 255]),
+    (Pair(LOW), &[128, 0]),
+];
+
+/// A number as its shortest text, as it is printed and as two bytes, its size and its sign.
+type Back = (i16, &'static [u8], &'static [u8], [u8; 2], i16, i16);
+
+static BACK: [Back; 5] = [
+    (0, b"0", b" 0 ", [0, 0], 0, 0),
+    (258, b"258", b" 258 ", [1, 2], 258, 1),
+    (-1, b"-1", b"-1 ", [255, 255], 1, -1),
+    (32767, b"32767", b" 32767 ", [127, 255], 32767, 1),
+    (LOW, b"-32768", b"-32768 ", [128, 0], LOW, -1),
+];
+
+/// Whether the texts of a number give it back.
+fn gives_back(row: &Back) -> bool {
+    let found = (value(row.1), value(row.2), item(row.1));
+    found == (Ok(row.0), Ok(row.0), Ok(row.0)) && number_of(&row.3).value() == row.0
+}
+
+/// Whether a number has these digits, this size and this sign.
+fn has_size(row: &Back) -> bool {
+    let number = Int::new(row.0);
+    let has_digits = digits(number).as_slice() == row.1;
+    has_digits && abs(number).value() == row.4 && sgn(number).value() == row.5
+}
+
+fn first_wrong_back() -> Option<usize> {
+    for (place, row) in BACK.iter().enumerate() {
+        if !gives_back(row) || !has_size(row) {
+            return Some(place);
+        }
     }
-    assert!(rt; gives(mid(alloc, text, Int::new(2), Int::new(3)), b"BCD"));
+    None
+}
+
+/// Bytes of another length than two, and their number.
+static OTHER_PAIRS: [(&[u8], i16); 3] = [(b"", 0), (b"\x01", 256), (b"\x01\x02\x03", 258)];
+
+fn first_wrong_pair() -> Option<usize> {
+    for (place, (bytes, number)) in OTHER_PAIRS.iter().enumerate() {
+        if number_of(bytes).value() != *number {
+            return Some(place);
+        }
+    }
+    None
 }
 
 #[test]
-fn places_of_texts(rt: HostRuntime) {
-    let rows = [
-        (1, b"ABCABC".as_slice(), b"BC".as_slice(), 2),
-        (2, b"ABCABC", b"BC", 2),
-        (3, b"ABCABC", b"BC", 5),
-        (6, b"ABCABC", b"BC", 0),
-        (-5, b"ABCABC", b"A", 1),
-        (0, b"ABCABC", b"ABCABC", 1),
-        (1, b"ABCABC", b"ABCABCA", 0),
-        (1, b"", b"", 1),
-        (2, b"", b"", 0),
-        (1, b"", b"A", 0),
-        (7, b"ABCABC", b"", 7),
-        (8, b"ABCABC", b"", 0),
-        (-32768, b"ABCABC", b"", 1),
-        (32767, b"ABCABC", b"C", 0),
-    ];
-    for (n, a, b, place) in rows {
-        assert_eq!(rt; instr(Int::new(n), a, b).value(), place, "from {n}");
+fn numbers_as_texts_and_back(rt: HostRuntime) -> Result<(), Fail> {
+    let wrong = first_wrong(rt.alloc(), &NUMBERS);
+    assert_eq!(rt; wrong, None);
+    let wrong = (first_wrong_back(), first_wrong_pair());
+    assert_eq!(rt; wrong, (None, None));
+    Ok(())
+}
+
+/// A number, or the number of the error.
+type Value = Result<i16, u8>;
+
+fn value_of(answer: Result<Int, Fault>) -> Value {
+    match answer {
+        Ok(number) => Ok(number.value()),
+        Err(fault) => Err(fault.number()),
     }
 }
 
-#[test]
-fn numbers_as_texts_and_back(rt: HostRuntime) {
-    let alloc = rt.alloc();
-    let rows = [
-        (0, b"0".as_slice(), b" 0 ".as_slice(), [0, 0], 0, 0),
-        (258, b"258", b" 258 ", [1, 2], 258, 1),
-        (-1, b"-1", b"-1 ", [255, 255], 1, -1),
-        (32767, b"32767", b" 32767 ", [127, 255], 32767, 1),
-        (-32768, b"-32768", b"-32768 ", [128, 0], -32768, -1),
-    ];
-    for (value, shortest, printed, pair, size, sign) in rows {
-        let n = Int::new(value);
-        assert_eq!(rt; digits(n).as_slice(), shortest);
-        assert!(rt; gives(num1(alloc, n), shortest));
-        assert!(rt; gives(num(alloc, n), printed));
-        assert!(rt; gives(text_of(alloc, n), &pair));
-        assert_eq!(rt; number_of(&pair), n);
-        assert_eq!(rt; val(shortest), Ok(n));
-        assert_eq!(rt; val(printed), Ok(n));
-        assert_eq!(rt; item_number(shortest), Ok(n));
-        assert_eq!(rt; abs(n).value(), size);
-        assert_eq!(rt; sgn(n).value(), sign);
+/// What VAL makes of a text.
+fn value(bytes: &[u8]) -> Value {
+    value_of(val(bytes))
+}
+
+/// What READ and INPUT make of it.
+fn item(bytes: &[u8]) -> Value {
+    value_of(item_number(bytes))
+}
+
+/// A text, what VAL makes of it, and what READ and INPUT do.
+static SPELLED: [(&[u8], Value, Value); 21] = [
+    (b"12", Ok(12), Ok(12)),
+    (b"+12", Ok(12), Ok(12)),
+    (b"-0", Ok(0), Ok(0)),
+    (b"00000000000000000012", Ok(12), Ok(12)),
+    (b"-32768", Ok(LOW), Ok(LOW)),
+    (b"32768", Err(51), Err(51)),
+    (b"-32769", Err(51), Err(51)),
+    (b"99999999999999999999", Err(51), Err(51)),
+    (b"12%", Err(52), Ok(12)),
+    (b"12%%", Err(52), Err(50)),
+    (b" \t12 \t", Ok(12), Err(50)),
+    (b"1 2", Err(52), Err(50)),
+    (b"- 1", Err(52), Err(50)),
+    (b"1-", Err(52), Err(50)),
+    (b"--1", Err(52), Err(50)),
+    (b"+", Err(52), Err(50)),
+    (b"%", Err(52), Err(50)),
+    (b"", Err(52), Err(50)),
+    (b"  ", Err(52), Err(50)),
+    (b"1.5", Err(52), Err(50)),
+    (b"99999999999999999999X", Err(52), Err(50)),
+];
+
+fn first_wrong_spelling() -> Option<usize> {
+    for (place, (bytes, as_value, as_item)) in SPELLED.iter().enumerate() {
+        if value(bytes) != *as_value || item(bytes) != *as_item {
+            return Some(place);
+        }
     }
-    for (bytes, number) in [(b"".as_slice(), 0), (b"\x01", 256), (b"\x01\x02\x03", 258)] {
-        assert_eq!(rt; number_of(bytes).value(), number);
-    }
+    None
 }
 
 #[test]
-fn texts_that_spell_numbers(rt: HostRuntime) {
-    let number = |value: i16| Ok(Int::new(value));
-    let error = |fault: u8| Err(Fault::new(fault));
-    let rows = [
-        (b"12".as_slice(), number(12), number(12)),
-        (b"+12", number(12), number(12)),
-        (b"-0", number(0), number(0)),
-        (b"00000000000000000012", number(12), number(12)),
-        (b"-32768", number(-32768), number(-32768)),
-        (b"32768", error(51), error(51)),
-        (b"-32769", error(51), error(51)),
-        (b"99999999999999999999", error(51), error(51)),
-        (b"12%", error(52), number(12)),
-        (b"12%%", error(52), error(50)),
-        (b" \t12 \t", number(12), error(50)),
-        (b"1 2", error(52), error(50)),
-        (b"- 1", error(52), error(50)),
-        (b"1-", error(52), error(50)),
-        (b"--1", error(52), error(50)),
-        (b"+", error(52), error(50)),
-        (b"%", error(52), error(50)),
-        (b"", error(52), error(50)),
-        (b"  ", error(52), error(50)),
-        (b"1.5", error(52), error(50)),
-        (b"99999999999999999999X", error(52), error(50)),
-    ];
-    for (bytes, value, item) in rows {
-        assert_eq!(rt; val(bytes), value);
-        assert_eq!(rt; item_number(bytes), item);
+fn texts_that_spell_numbers(rt: HostRuntime) -> Result<(), Fail> {
+    let wrong = first_wrong_spelling();
+    assert_eq!(rt; wrong, None);
+    Ok(())
+}
+
+static BYTES: [Row; 28] = [
+    (Chr(65), &[65]),
+    (Chr(0), &[0]),
+    (Chr(256), &[0]),
+    (Chr(255), &[255]),
+    (Chr(-1), &[255]),
+    (Chr(LOW), &[0]),
+    (Chr(32767), &[255]),
+    (Repeated(2, 65), &[65, 65]),
+    (Repeated(2, 0), &[0, 0]),
+    (Repeated(2, 256), &[0, 0]),
+    (Repeated(2, 255), &[255, 255]),
+    (Repeated(2, -1), &[255, 255]),
+    (Repeated(2, LOW), &[0, 0]),
+    (Repeated(2, 32767), &[255, 255]),
+    (Space(3), b"   "),
+    (Space(0), b""),
+    (Space(-1), b""),
+    (Space(LOW), b""),
+    (Repeated(3, 32), b"   "),
+    (Repeated(0, 32), b""),
+    (Repeated(-1, 32), b""),
+    (Repeated(LOW, 32), b""),
+    (Xlate(b"", b"\x00X\x00Y"), b""),
+    (Xlate(b"\x01\x03\x01", b"\x00X\x00Y"), b"XYX"),
+    (Xlate(b"\x00\x01\x02\x04\xff", b"\x00X\x00Y"), b"X"),
+    (Xlate(b"", b""), b""),
+    (Xlate(b"\x01\x03\x01", b""), b""),
+    (Xlate(b"\x00\x01\x02\x04\xff", b""), b""),
+];
+
+/// A text, and the number of its first byte.
+static FIRSTS: [(&[u8], i16); 3] = [(b"", 0), (b"A", 65), (b"\xffA", 255)];
+
+fn first_wrong_first() -> Option<usize> {
+    for (place, (bytes, first)) in FIRSTS.iter().enumerate() {
+        if ascii(bytes).value() != *first {
+            return Some(place);
+        }
     }
+    None
 }
 
 #[test]
-fn bytes_once_and_many_times(rt: HostRuntime) {
-    let alloc = rt.alloc();
-    for (n, byte) in [
-        (65, 65),
-        (0, 0),
-        (256, 0),
-        (255, 255),
-        (-1, 255),
-        (-32768, 0),
-        (32767, 255),
-    ] {
-        let n = Int::new(n);
-        assert!(rt; gives(chr(alloc, n), &[byte]));
-        assert!(rt; gives(string(alloc, Int::new(2), n), &[byte, byte]));
+fn bytes_once_and_many_times(rt: HostRuntime) -> Result<(), Fail> {
+    let wrong = (first_wrong(rt.alloc(), &BYTES), first_wrong_first());
+    assert_eq!(rt; wrong, (None, None));
+    Ok(())
+}
+
+/// So many times a byte.
+fn times(alloc: Global, byte: u8, count: usize) -> Result<Vec<u8>, AllocError> {
+    vec![in alloc; byte; count]
+}
+
+/// Whether a text of so many letters A is given whole by each function that can.
+fn gives_whole(alloc: Global, text: &[u8], count: i16) -> bool {
+    let translated = if count > 65 { text } else { b"" };
+    gives(alloc, Left(text, count), text)
+        && gives(alloc, Right(text, 1), text)
+        && gives(alloc, Mid(text, 1, count), text)
+        && gives(alloc, Repeated(count, 65), text)
+        && gives(alloc, Xlate(text, text), translated)
+}
+
+/// The length of a text, and the place of nothing at its end.
+fn length_and_end(text: &[u8], count: i16) -> Option<(i16, i16)> {
+    if text.len() > 32767 {
+        return None;
     }
-    for (bytes, first) in [(b"".as_slice(), 0), (b"A", 65), (b"\xffA", 255)] {
-        assert_eq!(rt; ascii(bytes).value(), first);
-    }
-    for (n, spaces) in [(3, b"   ".as_slice()), (0, b""), (-1, b""), (-32768, b"")] {
-        assert!(rt; gives(space(alloc, Int::new(n)), spaces));
-        assert!(rt; gives(string(alloc, Int::new(n), Int::new(32)), spaces));
-    }
-    let table = b"\x00X\x00Y".as_slice();
-    for (text, kept) in [
-        (b"".as_slice(), b"".as_slice()),
-        (b"\x01\x03\x01", b"XYX"),
-        (b"\x00\x01\x02\x04\xff", b"X"),
-    ] {
-        assert!(rt; gives(xlate(alloc, text, table), kept));
-        assert!(rt; gives(xlate(alloc, text, b""), b""));
-    }
+    let end = instr(Int::new(count), text, b"").value();
+    Some((len(text).value(), end))
+}
+
+fn is_whole(alloc: Global, length: usize, count: i16) -> Result<bool, Fail> {
+    let text = times(alloc, b'A', length)?;
+    let spaces = times(alloc, b' ', length)?;
+    let end = if count == 0 { 1 } else { count };
+    Ok(
+        gives_whole(alloc, &text, count)
+            && gives(alloc, Space(count), &spaces)
+            && length_and_end(&text, count) == Some((count, end)),
+    )
+}
+
+/// A text of 32,768 bytes is none, and may be cut to one.
+fn is_beyond(alloc: Global) -> Result<bool, Fail> {
+    let long = times(alloc, b'A', 32768)?;
+    let text = long.as_slice();
+    Ok(
+        is_too_long(alloc, Right(text, 1))
+            && is_too_long(alloc, Xlate(text, text))
+            && gives(alloc, Right(text, 32767), b"AA"),
+    )
 }
 
 #[test]
 fn texts_of_every_length(rt: HostRuntime) -> Result<(), Fail> {
-    let alloc = rt.alloc();
     for (length, count) in [(0, 0), (1, 1), (32766, 32766), (32767, 32767)] {
-        let bytes = letters(alloc, length)?;
-        let text = bytes.as_slice();
-        let count = Int::new(count);
-        let one = Int::new(1);
-        if text.len() <= 32767 {
-            assert_eq!(rt; len(text), count);
-            assert_eq!(rt;
-                instr(count, text, b"").value(),
-                if length == 0 { 1 } else { count.value() }
-            );
-        }
-        assert!(rt; gives(left(alloc, text, count), text));
-        assert!(rt; gives(right(alloc, text, one), text));
-        assert!(rt; gives(mid(alloc, text, one, count), text));
-        assert!(rt; gives(string(alloc, count, Int::new(65)), text));
-        assert!(rt;
-            gives(
-                xlate(alloc, text, text),
-                if length > 65 { text } else { b"" }
-            )
-        );
-        assert!(rt; gives(space(alloc, count), &vec![in alloc; b' '; length]?));
+        let is_whole = is_whole(rt.alloc(), length, count)?;
+        assert!(rt; is_whole, "{length} bytes");
     }
-    let long = letters(alloc, 32768)?;
-    let text = long.as_slice();
-    assert!(rt; is_too_long(right(alloc, text, Int::new(1))));
-    assert!(rt; is_too_long(xlate(alloc, text, text)));
-    assert!(rt; gives(right(alloc, text, Int::new(32767)), b"AA"));
+    let is_beyond = is_beyond(rt.alloc())?;
+    assert!(rt; is_beyond);
     Ok(())
 }

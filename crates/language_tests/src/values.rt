@@ -9,85 +9,222 @@ use std::alloc::{AllocError, Global};
 use std::cmp::Ordering;
 use std::test::Fail;
 
-#[test]
-fn sums_wrap_and_are_printed(rt: HostRuntime) -> Result<(), Fail> {
-    let rows = [
-        (2, 3, 5, b" 5 ".as_slice()),
-        (32767, 1, -32768, b"-32768 ".as_slice()),
-        (-7, 7, 0, b" 0 ".as_slice()),
-        (-32768, -1, 32767, b" 32767 ".as_slice()),
-    ];
-    for (a, b, sum, text) in rows {
-        let result = Int::new(a).add(Int::new(b));
-        assert_eq!(rt; result.value(), sum);
-        assert_eq!(rt; result.printed().as_slice(), text);
+/// Two numbers, their sum, and how it is printed.
+static SUMS: [(i16, i16, i16, &[u8]); 4] = [
+    (2, 3, 5, b" 5 "),
+    (32767, 1, -32768, b"-32768 "),
+    (-7, 7, 0, b" 0 "),
+    (-32768, -1, 32767, b" 32767 "),
+];
+
+fn has_sum(a: i16, b: i16, sum: i16, text: &[u8]) -> bool {
+    let result = Int::new(a).add(Int::new(b));
+    result.value() == sum && result.printed().as_slice() == text
+}
+
+fn first_wrong_sum() -> Option<usize> {
+    for (place, (a, b, sum, text)) in SUMS.iter().enumerate() {
+        if !has_sum(*a, *b, *sum, text) {
+            return Some(place);
+        }
     }
-    Ok(())
+    None
 }
 
 #[test]
-fn operators_at_the_ends_of_their_range(rt: HostRuntime) {
-    let low = i16::MIN;
-    let high = i16::MAX;
-    let rows = [
-        (high, 2, 32765, -2, 1, 2),
-        (low, -1, -32767, low, 0, low),
-        (low, low, 0, 0, 0, low),
-        (-3, 3, -6, -9, -27, 1),
-        (-1, -1, 0, 1, -1, -1),
-        (-1, low, 32767, low, 1, low),
-        (2, -1, 3, -2, 0, 2),
-        (0, -1, 1, 0, 0, 0),
-        (0, 0, 0, 0, 1, 0),
-        (2, 15, -13, 30, low, 2),
-        (2, 16, -14, 32, 0, 0),
-    ];
-    for (a, b, difference, product, power, and) in rows {
-        let left = Int::new(a);
-        let right = Int::new(b);
-        assert_eq!(rt; left.sub(right).value(), difference, "{a} - {b}");
-        assert_eq!(rt; left.mul(right).value(), product, "{a} * {b}");
-        assert_eq!(rt; left.power(right).value(), power, "{a} ^ {b}");
-        assert_eq!(rt; left.and(right).value(), and, "{a} AND {b}");
+fn sums_wrap_and_are_printed(rt: HostRuntime) -> Result<(), Fail> {
+    let wrong = first_wrong_sum();
+    assert_eq!(rt; wrong, None);
+    Ok(())
+}
+
+const LOW: i16 = -32768;
+
+const HIGH: i16 = 32767;
+
+/// An operator of two numbers.
+#[derive(Clone, Copy)]
+enum Operator {
+    Minus,
+    Times,
+    Divided,
+    Power,
+    And,
+    Or,
+    Xor,
+    Eqv,
+    Imp,
+}
+
+use Operator::{And, Divided, Eqv, Imp, Minus, Or, Power, Times, Xor};
+
+/// The value of an operation; none where it divides by 0.
+fn value_of(operator: Operator, a: i16, b: i16) -> Option<i16> {
+    let (left, right) = (Int::new(a), Int::new(b));
+    match operator {
+        Minus => Some(left.sub(right).value()),
+        Times => Some(left.mul(right).value()),
+        Divided => quotient(left, right),
+        Power => Some(left.power(right).value()),
+        And => Some(left.and(right).value()),
+        Or => Some(left.or(right).value()),
+        Xor => Some(left.xor(right).value()),
+        Eqv => Some(left.eqv(right).value()),
+        Imp => Some(left.imp(right).value()),
     }
-    for (a, b, quotient) in [
-        (-7, 2, -3),
-        (7, -2, -3),
-        (-7, -2, 3),
-        (low, -1, low),
-        (low, 2, -16384),
-    ] {
-        assert_eq!(rt;
-            Int::new(a).div(Int::new(b)),
-            Ok(Int::new(quotient)),
-            "{a} / {b}"
-        );
+}
+
+fn quotient(left: Int, right: Int) -> Option<i16> {
+    match left.div(right) {
+        Ok(number) => Some(number.value()),
+        Err(_) => None,
     }
-    assert_eq!(rt; Int::new(low).div(Int::new(0)), Err(Fault::new(61)));
-    for (a, neg, not, swap) in [
-        (258, -258, -259, 513),
-        (0, 0, -1, 0),
-        (low, low, high, 128),
-        (high, -32767, low, -129),
-        (-2, 2, 1, -257),
-    ] {
-        assert_eq!(rt; Int::new(a).neg().value(), neg, "-{a}");
-        assert_eq!(rt; Int::new(a).not().value(), not, "NOT {a}");
-        assert_eq!(rt; Int::new(a).swap().value(), swap, "SWAP {a}");
+}
+
+/// An operator, two numbers, and the value.
+static OPERATIONS: [(Operator, i16, i16, Option<i16>); 66] = [
+    (Minus, HIGH, 2, Some(32765)),
+    (Minus, LOW, -1, Some(-32767)),
+    (Minus, LOW, LOW, Some(0)),
+    (Minus, -3, 3, Some(-6)),
+    (Minus, -1, -1, Some(0)),
+    (Minus, -1, LOW, Some(32767)),
+    (Minus, 2, -1, Some(3)),
+    (Minus, 0, -1, Some(1)),
+    (Minus, 0, 0, Some(0)),
+    (Minus, 2, 15, Some(-13)),
+    (Minus, 2, 16, Some(-14)),
+    (Times, HIGH, 2, Some(-2)),
+    (Times, LOW, -1, Some(LOW)),
+    (Times, LOW, LOW, Some(0)),
+    (Times, -3, 3, Some(-9)),
+    (Times, -1, -1, Some(1)),
+    (Times, -1, LOW, Some(LOW)),
+    (Times, 2, -1, Some(-2)),
+    (Times, 0, -1, Some(0)),
+    (Times, 0, 0, Some(0)),
+    (Times, 2, 15, Some(30)),
+    (Times, 2, 16, Some(32)),
+    (Power, HIGH, 2, Some(1)),
+    (Power, LOW, -1, Some(0)),
+    (Power, LOW, LOW, Some(0)),
+    (Power, -3, 3, Some(-27)),
+    (Power, -1, -1, Some(-1)),
+    (Power, -1, LOW, Some(1)),
+    (Power, 2, -1, Some(0)),
+    (Power, 0, -1, Some(0)),
+    (Power, 0, 0, Some(1)),
+    (Power, 2, 15, Some(LOW)),
+    (Power, 2, 16, Some(0)),
+    (And, HIGH, 2, Some(2)),
+    (And, LOW, -1, Some(LOW)),
+    (And, LOW, LOW, Some(LOW)),
+    (And, -3, 3, Some(1)),
+    (And, -1, -1, Some(-1)),
+    (And, -1, LOW, Some(LOW)),
+    (And, 2, -1, Some(2)),
+    (And, 0, -1, Some(0)),
+    (And, 0, 0, Some(0)),
+    (And, 2, 15, Some(2)),
+    (And, 2, 16, Some(0)),
+    (Divided, -7, 2, Some(-3)),
+    (Divided, 7, -2, Some(-3)),
+    (Divided, -7, -2, Some(3)),
+    (Divided, LOW, -1, Some(LOW)),
+    (Divided, LOW, 2, Some(-16384)),
+    (Divided, LOW, 0, None),
+    (Or, 3, 5, Some(7)),
+    (Or, 0, -1, Some(-1)),
+    (Or, -1, 0, Some(-1)),
+    (Or, LOW, HIGH, Some(-1)),
+    (Xor, 3, 5, Some(6)),
+    (Xor, 0, -1, Some(-1)),
+    (Xor, -1, 0, Some(-1)),
+    (Xor, LOW, HIGH, Some(-1)),
+    (Eqv, 3, 5, Some(-7)),
+    (Eqv, 0, -1, Some(0)),
+    (Eqv, -1, 0, Some(0)),
+    (Eqv, LOW, HIGH, Some(0)),
+    (Imp, 3, 5, Some(-3)),
+    (Imp, 0, -1, Some(-1)),
+    (Imp, -1, 0, Some(0)),
+    (Imp, LOW, HIGH, Some(HIGH)),
+];
+
+fn first_wrong_operation() -> Option<usize> {
+    for (place, (operator, a, b, value)) in OPERATIONS.iter().enumerate() {
+        if value_of(*operator, *a, *b) != *value {
+            return Some(place);
+        }
     }
-    for (a, b, or, xor, eqv, imp) in [
-        (3, 5, 7, 6, -7, -3),
-        (0, -1, -1, -1, 0, -1),
-        (-1, 0, -1, -1, 0, 0),
-        (low, high, -1, -1, 0, high),
-    ] {
-        let left = Int::new(a);
-        let right = Int::new(b);
-        assert_eq!(rt; left.or(right).value(), or, "{a} OR {b}");
-        assert_eq!(rt; left.xor(right).value(), xor, "{a} XOR {b}");
-        assert_eq!(rt; left.eqv(right).value(), eqv, "{a} EQV {b}");
-        assert_eq!(rt; left.imp(right).value(), imp, "{a} IMP {b}");
+    None
+}
+
+/// A number, and what NEG, NOT and SWAP make of it.
+static TURNED: [(i16, i16, i16, i16); 5] = [
+    (258, -258, -259, 513),
+    (0, 0, -1, 0),
+    (LOW, LOW, HIGH, 128),
+    (HIGH, -32767, LOW, -129),
+    (-2, 2, 1, -257),
+];
+
+fn turned(a: i16) -> (i16, i16, i16) {
+    let number = Int::new(a);
+    (
+        number.neg().value(),
+        number.not().value(),
+        number.swap().value(),
+    )
+}
+
+fn first_wrong_turn() -> Option<usize> {
+    for (place, (a, neg, not, swap)) in TURNED.iter().enumerate() {
+        if turned(*a) != (*neg, *not, *swap) {
+            return Some(place);
+        }
     }
+    None
+}
+
+#[test]
+fn operators_at_the_ends_of_their_range(rt: HostRuntime) -> Result<(), Fail> {
+    let wrong = (first_wrong_operation(), first_wrong_turn());
+    assert_eq!(rt; wrong, (None, None));
+    let refused = Int::new(LOW).div(Int::new(0));
+    assert_eq!(rt; refused, Err(Fault::new(61)));
+    Ok(())
+}
+
+/// Two texts, their order, and whether they are the same to the last byte.
+static COMPARED: [(&[u8], &[u8], Ordering, bool); 7] = [
+    (b"AB", b"AB  ", Ordering::Equal, false),
+    (b"AB", b"AB", Ordering::Equal, true),
+    (b"", b"   ", Ordering::Equal, false),
+    (b"", b"\x1f", Ordering::Greater, false),
+    (b"AB", b"AB\x00", Ordering::Greater, false),
+    (b"AB", b"AB!", Ordering::Less, false),
+    (b"B", b"AB", Ordering::Greater, false),
+];
+
+fn is_order(a: &[u8], b: &[u8], order: Ordering, same: bool) -> bool {
+    compare(a, b) == order && compare(b, a) == order.reverse() && identical(a, b) == same
+}
+
+fn first_wrong_order() -> Option<usize> {
+    for (place, (a, b, order, same)) in COMPARED.iter().enumerate() {
+        if !is_order(a, b, *order, *same) {
+            return Some(place);
+        }
+    }
+    None
+}
+
+#[test]
+fn texts_are_compared(rt: HostRuntime) -> Result<(), Fail> {
+    let wrong = first_wrong_order();
+    assert_eq!(rt; wrong, None);
+    Ok(())
 }
 
 /// So many spaces.
@@ -95,152 +232,191 @@ fn spaces(alloc: Global, count: usize) -> Result<Vec<u8>, AllocError> {
     vec![in alloc; b' '; count]
 }
 
-#[test]
-fn texts_are_compared(rt: HostRuntime) {
-    let rows = [
-        (b"AB".as_slice(), b"AB  ".as_slice(), Ordering::Equal, false),
-        (b"AB", b"AB", Ordering::Equal, true),
-        (b"", b"   ", Ordering::Equal, false),
-        (b"", b"\x1f", Ordering::Greater, false),
-        (b"AB", b"AB\x00", Ordering::Greater, false),
-        (b"AB", b"AB!", Ordering::Less, false),
-        (b"B", b"AB", Ordering::Greater, false),
-    ];
-    for (a, b, order, same) in rows {
-        assert_eq!(rt; compare(a, b), order);
-        assert_eq!(rt; compare(b, a), order.reverse());
-        assert_eq!(rt; identical(a, b), same);
+/// The lengths of two texts, and that of both as one; none where it is too long.
+static LENGTHS: [(usize, usize, Option<usize>); 8] = [
+    (0, 0, Some(0)),
+    (1, 0, Some(1)),
+    (1, 32765, Some(32766)),
+    (1, 32766, Some(32767)),
+    (32767, 0, Some(32767)),
+    (32767, 1, None),
+    (0, 32768, None),
+    (32768, 0, None),
+];
+
+/// The length of two texts as one; none where it is refused as too long.
+fn length_of_both(alloc: Global, first: usize, second: usize) -> Result<Option<usize>, Fail> {
+    let (a, b) = (spaces(alloc, first)?, spaces(alloc, second)?);
+    match concat(alloc, &a, &b) {
+        Ok(text) => Ok(Some(text.as_bytes().len())),
+        Err(Trouble::Refused(Halt::TooLong)) => Ok(None),
+        Err(_) => Err("another answer")?,
     }
+}
+
+fn first_wrong_length(alloc: Global) -> Result<Option<usize>, Fail> {
+    for (place, (first, second, length)) in LENGTHS.iter().enumerate() {
+        if length_of_both(alloc, *first, *second)? != *length {
+            return Ok(Some(place));
+        }
+    }
+    Ok(None)
 }
 
 #[test]
 fn texts_end_at_their_greatest_length(rt: HostRuntime) -> Result<(), Fail> {
-    let rows = [
-        (0, 0, Some(0)),
-        (1, 0, Some(1)),
-        (1, 32765, Some(32766)),
-        (1, 32766, Some(32767)),
-        (32767, 0, Some(32767)),
-        (32767, 1, None),
-        (0, 32768, None),
-        (32768, 0, None),
-    ];
-    for (first, second, length) in rows {
-        let a = spaces(rt.alloc(), first)?;
-        let b = spaces(rt.alloc(), second)?;
-        match (concat(rt.alloc(), &a, &b), length) {
-            (Ok(text), Some(length)) => assert_eq!(rt; text.as_bytes().len(), length),
-            (Ok(text), None) => assert!(rt; false, "{} bytes in a text", text.as_bytes().len()),
-            (Err(trouble), None) => assert_eq!(rt; trouble, Trouble::Refused(Halt::TooLong)),
-            (Err(_), Some(length)) => assert!(rt; false, "{length} bytes are no text"),
-        }
-    }
+    let wrong = first_wrong_length(rt.alloc())?;
+    assert_eq!(rt; wrong, None);
     let text = Text::of(rt.alloc(), b"AB").ok().ok_or("no text")?;
     assert_eq!(rt; text.as_bytes(), b"AB".as_slice());
     Ok(())
 }
 
-#[test]
-fn failures_have_their_words(rt: HostRuntime) {
-    let rows = [
-        (0, b"".as_slice()),
-        (1, b""),
-        (2, b"Illegal file name"),
-        (5, b"Can't find file or account"),
-        (18, b"Illegal SYS() usage"),
-        (52, b"Illegal number"),
-        (61, b"Division by 0"),
-        (63, b"FIELD overflows buffer"),
-        (64, b""),
-        (255, b""),
-    ];
-    for (number, text) in rows {
-        assert_eq!(rt; Fault::new(number).text(), text, "{number}");
+/// The number of an error, and its words.
+static FAULTS: [(u8, &[u8]); 10] = [
+    (0, b""),
+    (1, b""),
+    (2, b"Illegal file name"),
+    (5, b"Can't find file or account"),
+    (18, b"Illegal SYS() usage"),
+    (52, b"Illegal number"),
+    (61, b"Division by 0"),
+    (63, b"FIELD overflows buffer"),
+    (64, b""),
+    (255, b""),
+];
+
+/// What halts a program, and its words.
+static HALTS: [(Halt, &[u8]); 5] = [
+    (Halt::NoGosub, b"RETURN without GOSUB"),
+    (Halt::TooDeep, b"Nested too deep"),
+    (Halt::RoomFull, b"Maximum memory exceeded"),
+    (Halt::NoError, b"RESUME and no error"),
+    (Halt::TooLong, b"String too long"),
+];
+
+fn first_wrong_fault() -> Option<usize> {
+    for (place, (number, text)) in FAULTS.iter().enumerate() {
+        if Fault::new(*number).text() != *text {
+            return Some(place);
+        }
     }
-    let halts = [
-        (Halt::NoGosub, b"RETURN without GOSUB".as_slice()),
-        (Halt::TooDeep, b"Nested too deep"),
-        (Halt::RoomFull, b"Maximum memory exceeded"),
-        (Halt::NoError, b"RESUME and no error"),
-        (Halt::TooLong, b"String too long"),
-    ];
-    for (halt, text) in halts {
-        assert_eq!(rt; halt.text(), text);
+    None
+}
+
+fn first_wrong_halt() -> Option<usize> {
+    for (place, (halt, text)) in HALTS.iter().enumerate() {
+        if halt.text() != *text {
+            return Some(place);
+        }
     }
+    None
 }
 
 #[test]
-fn numbers_stand_in_their_range(rt: HostRuntime) {
-    let rows = [
-        (b"0".as_slice(), Some(0)),
-        (b"7", Some(7)),
-        (b"254", Some(254)),
-        (b"255", None),
-        (b"4294967297", None),
-        (b"007", None),
-        (b"00", None),
-        (b"", None),
-        (b"+7", None),
-        (b"-7", None),
-        (b" 7", None),
-        (b"7 ", None),
-        (b"7%", None),
-        (b"99999999999999999999", None),
-    ];
-    for (text, number) in rows {
-        assert_eq!(rt; number_between(0, 254, text), number, "{text:?}");
+fn failures_have_their_words(rt: HostRuntime) -> Result<(), Fail> {
+    let wrong = (first_wrong_fault(), first_wrong_halt());
+    assert_eq!(rt; wrong, (None, None));
+    Ok(())
+}
+
+/// The least and the greatest number, a text, and the number that it is.
+static NUMBERS: [(u32, u32, &[u8], Option<u32>); 17] = [
+    (0, 254, b"0", Some(0)),
+    (0, 254, b"7", Some(7)),
+    (0, 254, b"254", Some(254)),
+    (0, 254, b"255", None),
+    (0, 254, b"4294967297", None),
+    (0, 254, b"007", None),
+    (0, 254, b"00", None),
+    (0, 254, b"", None),
+    (0, 254, b"+7", None),
+    (0, 254, b"-7", None),
+    (0, 254, b" 7", None),
+    (0, 254, b"7 ", None),
+    (0, 254, b"7%", None),
+    (0, 254, b"99999999999999999999", None),
+    (3, 4294967295, b"2", None),
+    (3, 4294967295, b"3", Some(3)),
+    (3, 4294967295, b"4294967295", Some(4294967295)),
+];
+
+fn first_wrong_number() -> Option<usize> {
+    for (place, (least, most, text, number)) in NUMBERS.iter().enumerate() {
+        if number_between(*least, *most, text) != *number {
+            return Some(place);
+        }
     }
-    let edges = [
-        (b"2".as_slice(), None),
-        (b"3", Some(3)),
-        (b"4294967295", Some(4294967295)),
-    ];
-    for (text, number) in edges {
-        assert_eq!(rt; number_between(3, 4294967295, text), number, "{text:?}");
-    }
+    None
 }
 
 #[test]
-fn texts_begin_and_end_with_runs(rt: HostRuntime) {
-    let rows = [
-        (b"".as_slice(), 0, 0, 0, 0),
-        (b" \t A", 3, 0, 0, 0),
-        (b"GOTO 10 ", 0, 4, 0, 1),
-        (b"10 GOTO\t ", 0, 0, 2, 2),
-        (b"9", 0, 0, 1, 0),
-        (b" \t", 2, 0, 0, 2),
-        (b"z1", 0, 1, 0, 0),
-        (b"\n ", 0, 0, 0, 1),
-    ];
-    for (text, blanks, letters, digits, behind) in rows {
-        assert_eq!(rt; blanks_in_front(text), blanks, "{text:?}");
-        assert_eq!(rt; letters_in_front(text), letters, "{text:?}");
-        assert_eq!(rt; digits_in_front(text), digits, "{text:?}");
-        assert_eq!(rt; blanks_at_end(text), behind, "{text:?}");
-        assert_eq!(rt;
-            without_front_blanks(text).len(),
-            text.len() - blanks,
-            "{text:?}"
-        );
-        assert_eq!(rt;
-            without_end_blanks(text).len(),
-            text.len() - behind,
-            "{text:?}"
-        );
+fn numbers_stand_in_their_range(rt: HostRuntime) -> Result<(), Fail> {
+    let wrong = first_wrong_number();
+    assert_eq!(rt; wrong, None);
+    Ok(())
+}
+
+/// A text, the blanks, letters and digits in front of it, and the blanks at its end.
+static RUNS: [(&[u8], [usize; 4]); 8] = [
+    (b"", [0, 0, 0, 0]),
+    (b" \t A", [3, 0, 0, 0]),
+    (b"GOTO 10 ", [0, 4, 0, 1]),
+    (b"10 GOTO\t ", [0, 0, 2, 2]),
+    (b"9", [0, 0, 1, 0]),
+    (b" \t", [2, 0, 0, 2]),
+    (b"z1", [0, 1, 0, 0]),
+    (b"\n ", [0, 0, 0, 1]),
+];
+
+fn runs_of(text: &[u8]) -> [usize; 4] {
+    [
+        blanks_in_front(text),
+        letters_in_front(text),
+        digits_in_front(text),
+        blanks_at_end(text),
+    ]
+}
+
+/// How many bytes a text has without the blanks in front and without those at its end, taken from
+/// all of them.
+fn cut_off(text: &[u8]) -> (usize, usize) {
+    let front = text.len().saturating_sub(without_front_blanks(text).len());
+    (
+        front,
+        text.len().saturating_sub(without_end_blanks(text).len()),
+    )
+}
+
+fn first_wrong_run() -> Option<usize> {
+    for (place, (text, runs)) in RUNS.iter().enumerate() {
+        if runs_of(text) != *runs || cut_off(text) != (runs[0], runs[3]) {
+            return Some(place);
+        }
     }
+    None
+}
+
+#[test]
+fn texts_begin_and_end_with_runs(rt: HostRuntime) -> Result<(), Fail> {
+    let wrong = first_wrong_run();
+    assert_eq!(rt; wrong, None);
+    Ok(())
+}
+
+fn series_of(alloc: Global, numbers: &[u16]) -> Result<Series<u16>, Fail> {
+    let mut list = Vec::new(alloc);
+    for number in numbers {
+        list.push(*number)?;
+    }
+    Ok(Series::from_vec(list))
 }
 
 #[test]
 fn lists_are_given_back_in_order(rt: HostRuntime) -> Result<(), Fail> {
-    let mut lines = Vec::new(rt.alloc());
-    for line in [20u16, 10, 20] {
-        lines.push(line)?;
-    }
-    let series = Series::from_vec(lines);
+    let series = series_of(rt.alloc(), &[20, 10, 20])?;
     assert_eq!(rt; series.as_slice(), [20, 10, 20].as_slice());
-    assert_eq!(rt;
-        KeyLine::of(rt.alloc(), b"PRINT 1")?.as_bytes(),
-        b"PRINT 1".as_slice()
-    );
+    let line = KeyLine::of(rt.alloc(), b"PRINT 1")?;
+    assert_eq!(rt; line.as_bytes(), b"PRINT 1".as_slice());
     Ok(())
 }

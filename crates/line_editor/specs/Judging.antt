@@ -8,10 +8,10 @@ use Rattle.line_editor.specs.declared.text.EditRefusal.{EditRefusal}
 use Rattle.line_editor.specs.declared.text.EditRefusal.TheVariants.{Number, TooLong, Line, TooMany}
 use Rattle.line_editor.specs.Lines.{IsNumber, Fits, IsTreeOf}
 
-abbrev pub Judges : ℕ → List ℕ → Result Tree (Trouble EditRefusal) → Type 0
-Judges number rest (Ok tree) = IsNumber number × Fits number rest × IsTreeOf rest tree
-Judges number rest (Err (Refused Number)) = ¬ (IsNumber number)
-Judges number rest (Err (Refused TooLong)) = IsNumber number × ¬ (Fits number rest)
-Judges number rest (Err (Refused (Line refusal))) = IsNumber number × Fits number rest × Refuses rest refusal
-Judges number rest (Err (Refused TooMany)) = ⊥
-Judges number rest (Err NoMemory) = Unit {0}
+abbrev pub IsEditVerdict : ℕ → List ℕ → Result Tree (Trouble EditRefusal) → Type 0
+IsEditVerdict number rest (Ok tree) = IsNumber number × Fits number rest × IsTreeOf rest tree
+IsEditVerdict number rest (Err (Refused Number)) = ¬ (IsNumber number)
+IsEditVerdict number rest (Err (Refused TooLong)) = IsNumber number × ¬ (Fits number rest)
+IsEditVerdict number rest (Err (Refused (Line refusal))) = IsNumber number × Fits number rest × Refuses rest refusal
+IsEditVerdict number rest (Err (Refused TooMany)) = ⊥
+IsEditVerdict number rest (Err NoMemory) = Unit {0}

@@ -7,7 +7,7 @@ ghost use Rattle.std.specs.Ordering.{nat_cmp};
 ghost use Rattle.line_editor.specs.Edits.{Edits, Keeps, HasRoom, Deletes};
 ghost use Rattle.line_editor.specs.Lines.{stored, removed, is_within, within, without, listed, listing, IsNumber, IsProgram, IsProgramLine, IsTreeOf, AreTrees};
 ghost use Rattle.line_editor.specs.Seen.{AreWhole};
-ghost use Rattle.line_editor.specs.Judging.{Judges};
+ghost use Rattle.line_editor.specs.Judging.{IsEditVerdict};
 
 use basic_line::read_line;
 use basic_tree::{Line, Program, Refusal};
@@ -193,7 +193,7 @@ fn is_within(from: u16, to: u16, number: u16) -> bool
 
 /// The tree of a line that can be stored where there is room, or why it can't.
 fn judged(alloc: Global, number: u16, rest: &[u8]) -> Result<Line, Trouble<EditRefusal>>
-    ensures { Judges number rest.now result }
+    ensures { IsEditVerdict number rest.now result }
 {
     if !is_number(number) {
         return Err(Trouble::Refused(EditRefusal::Number));

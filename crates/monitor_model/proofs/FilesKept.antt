@@ -9,7 +9,7 @@ use Rattle.monitor_calls.specs.FileNames.{same_account, same_name}
 use Rattle.monitor_calls.specs.Volumes.{has_account}
 use Rattle.monitor_calls.proofs.FileNameLemmas.{same_name-true, same_name-false, cases_name, Decides-same_account}
 use Rattle.monitor_model.specs.declared.entries.ChannelEntry.{ChannelEntry}
-use Rattle.monitor_model.specs.Files.{File, size, size_at, size_for, file_at, is_file, the_file, blocks_of, blocks_owned, make, remove, replace, empty_file, renamed, written, AreApart}
+use Rattle.monitor_model.specs.Files.{File, size, size_for, file_at, is_file, the_file, blocks_of, blocks_owned, make, remove, replace, empty_file, renamed, written, AreApart}
 use Rattle.monitor_model.specs.Jobs.{channel_of, is_open_file}
 use Rattle.monitor_model.specs.State.{State, quota_of}
 use Rattle.monitor_model.specs.Answer.{free, left_to, lacks_room}

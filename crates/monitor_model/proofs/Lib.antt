@@ -26,9 +26,12 @@ pub mod PageLemmas
 mod PrinterCalls
 mod PrinterKept
 mod PrinterLemmas
+mod PrinterRows
 pub mod QueueLemmas
+mod QuotaRows
 mod ReceiversKept
 pub mod RecordLemmas
+mod RecordRows
 mod Refusing
 mod Rows
 mod SpanHolds

@@ -5,7 +5,7 @@ use Rattle.std.proofs.lemmas.Bool.{true≢false, not-false, and_parts, eqb-true}
 use Rattle.monitor_calls.specs.declared.names.Account.{Account}
 use Rattle.monitor_calls.specs.declared.calls.Entry.{Entry}
 use Rattle.monitor_calls.specs.declared.calls.Request.{Request}
-use Rattle.monitor_calls.specs.declared.calls.Request.TheVariants.{Logout, Assign, OpenPrinter, Print, ClosePrinter}
+use Rattle.monitor_calls.specs.declared.calls.Request.TheVariants.{Logout, Assign, OpenPrinter, Print}
 use Rattle.monitor_calls.specs.declared.calls.Reply.{Reply}
 use Rattle.monitor_calls.specs.declared.calls.Reply.TheVariants.{Done, Failed, Expired}
 use Rattle.monitor_model.specs.Jobs.{account_of}

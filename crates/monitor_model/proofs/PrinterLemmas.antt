@@ -1,5 +1,5 @@
 -- Who has the printer, and who prints, behind each change of it.
-use Rattle.std.proofs.Common.{◌≡◌, ◌≢◌, ℕ, ◌==◌, true, false, cond, refl, sym, ap, ◌∙◌, Some, None, eq-eqb}
+use Rattle.std.proofs.Common.{◌≡◌, ◌≢◌, ℕ, ◌==◌, true, false, cond, refl, sym, ◌∙◌, Some, None, eq-eqb}
 use Rattle.std.specs.Prelude.{◌&&◌}
 use Rattle.std.proofs.lemmas.Bool.{true≢false, not-false, and_parts, eqb-true}
 use Rattle.monitor_model.specs.Printing.{Printer, has_printer, is_anothers, is_assigned, is_printing, close_printer, free_printer}

@@ -145,18 +145,18 @@ module _ (name : FileName) where
 -- ROOM
 
 -- so many blocks more are free, and the quota of the owner leaves them
-abbrev pub HasRoom : State → FileName → ℕ → Type 0
-HasRoom s name last =
+abbrev pub IsRoomFor : State → FileName → ℕ → Type 0
+IsRoomFor s name last =
     (last - size_at s.files name ≤ free s) × (last - size_at s.files name ≤ left_to s name.owner)
 
 module _ (s : State) (name : FileName) (last : ℕ) where
-  pub room_there : lacks_room s name last ≡ false → HasRoom s name last
+  pub room_there : lacks_room s name last ≡ false → IsRoomFor s name last
   room_there e =
       let wanted = last - size_at s.files name in
       let parts = or_parts (nat_lt (free s) wanted) (nat_lt (left_to s name.owner) wanted) e in
       (ltb-false (free s) wanted parts.0, ltb-false (left_to s name.owner) wanted parts.1)
 
-  pub room_told : HasRoom s name last → lacks_room s name last ≡ false
+  pub room_told : IsRoomFor s name last → lacks_room s name last ≡ false
   room_told room =
       let wanted = last - size_at s.files name in
       or_from (nat_lt (free s) wanted) (nat_lt (left_to s name.owner) wanted) (le-ltb (free s) wanted room.0) (le-ltb (left_to s name.owner) wanted room.1)

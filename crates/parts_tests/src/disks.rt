@@ -1,99 +1,240 @@
 //! The disk: its files, their blocks and codes.
 
 use crate::names::file;
-use basic_values::{Fault, Trouble};
+use basic_values::{Fault, NoMemory, Trouble};
 use block_files::Disk;
 use monitor_calls::{FileName, Page};
 use std::alloc::Global;
 use std::test::Fail;
 
-fn page_of(alloc: Global, byte: u8) -> Result<Page, Fail> {
-    let mut page = Page::new(alloc).ok().ok_or("no page")?;
+/// What is done to a disk with the files MASTER and OTHER, and what is asked of it.
+#[derive(Clone, Copy)]
+enum Step {
+    /// A file is made with this code.
+    Create(Named, u8),
+    /// A block is filled with a byte.
+    Write(Named, u16, u8),
+    Read(Named, u16),
+    Remake(Named, u8),
+    Remove(Named),
+    Size(Named),
+    Code(Named),
+    /// Whether the disk tells where a block lies.
+    Place(Named, u16),
+}
+
+#[derive(Clone, Copy)]
+enum Named {
+    Master,
+    Other,
+}
+
+/// What a step tells.
+#[derive(Clone, Copy, PartialEq, Eq)]
+enum Told {
+    Done,
+    Refused(u8),
+    NoMemory,
+    /// The byte that a block is full of.
+    Full(u8),
+    /// A block has another byte too.
+    Mixed,
+    Number(u16),
+    /// There is none.
+    Nothing,
+    Is(bool),
+}
+
+/// A step, and what it tells.
+type Row = (Step, Told);
+
+/// A disk, and the names of its files.
+#[derive(Drop)]
+struct Files {
+    alloc: Global,
+    disk: Disk,
+    master: FileName,
+    other: FileName,
+}
+
+fn page_of(alloc: Global, byte: u8) -> Result<Page, NoMemory> {
+    let mut page = Page::new(alloc)?;
     page.fill(&[byte; 512]);
     Ok(page)
 }
 
-fn disk_with(alloc: Global, blocks: u16, names: &[FileName]) -> Result<Disk, Fail> {
-    let mut disk = Disk::new(alloc, blocks).ok().ok_or("no disk")?;
-    for name in names {
-        disk.create(*name, 60).ok().ok_or("not created")?;
+fn answered(answer: Result<(), Trouble<Fault>>) -> Told {
+    match answer {
+        Ok(()) => Told::Done,
+        Err(Trouble::Refused(fault)) => Told::Refused(fault.number()),
+        Err(Trouble::NoMemory) => Told::NoMemory,
     }
-    Ok(disk)
 }
 
-/// The byte that a block is full of; none where the block is refused or has another byte too.
-fn byte_of(alloc: Global, disk: &Disk, name: &FileName, block: u16) -> Result<Option<u8>, Fail> {
-    let mut page = page_of(alloc, 255)?;
-    if disk.read(name, block, &mut page).is_err() {
-        return Ok(None);
+impl Files {
+    fn new(alloc: Global, blocks: u16) -> Result<Files, Fail> {
+        Ok(Files {
+            alloc,
+            disk: Disk::new(alloc, blocks)?,
+            master: file(b"MASTER")?,
+            other: file(b"OTHER")?,
+        })
     }
+
+    fn name(&self, named: Named) -> FileName {
+        match named {
+            Named::Master => self.master,
+            Named::Other => self.other,
+        }
+    }
+
+    fn told_behind(&mut self, step: Step) -> Told {
+        match step {
+            Step::Create(named, code) => answered(self.disk.create(self.name(named), code)),
+            Step::Write(named, block, byte) => self.write(named, block, byte),
+            Step::Read(named, block) => self.read(named, block),
+            Step::Remake(named, code) => answered(self.disk.remake(&self.name(named), code)),
+            Step::Remove(named) => self.remove(named),
+            Step::Size(named) => number(self.disk.size(&self.name(named))),
+            Step::Code(named) => self.code(named),
+            Step::Place(named, block) => self.place(named, block),
+        }
+    }
+
+    fn write(&mut self, named: Named, block: u16, byte: u8) -> Told {
+        match page_of(self.alloc, byte) {
+            Ok(page) => answered(self.disk.write(&self.name(named), block, &page)),
+            Err(_) => Told::NoMemory,
+        }
+    }
+
+    fn read(&self, named: Named, block: u16) -> Told {
+        match page_of(self.alloc, 255) {
+            Ok(mut page) => match self.disk.read(&self.name(named), block, &mut page) {
+                Ok(()) => shown(&page),
+                Err(fault) => Told::Refused(fault.number()),
+            },
+            Err(_) => Told::NoMemory,
+        }
+    }
+
+    fn remove(&mut self, named: Named) -> Told {
+        match self.disk.remove(&self.name(named)) {
+            Ok(()) => Told::Done,
+            Err(fault) => Told::Refused(fault.number()),
+        }
+    }
+
+    fn code(&self, named: Named) -> Told {
+        match self.disk.code(&self.name(named)) {
+            Some(code) => Told::Number(code as u16),
+            None => Told::Nothing,
+        }
+    }
+
+    fn place(&self, named: Named, block: u16) -> Told {
+        Told::Is(self.disk.place(&self.name(named), block).is_some())
+    }
+}
+
+fn number(found: Option<u16>) -> Told {
+    match found {
+        Some(number) => Told::Number(number),
+        None => Told::Nothing,
+    }
+}
+
+fn shown(page: &Page) -> Told {
     let first = page.as_bytes()[0];
     let is_full = page.as_bytes().iter().all(|byte| *byte == first);
-    Ok(if is_full { Some(first) } else { None })
+    if is_full {
+        Told::Full(first)
+    } else {
+        Told::Mixed
+    }
 }
+
+/// The place of the first row that tells another thing, over a disk of so many blocks.
+fn first_wrong(alloc: Global, blocks: u16, rows: &[Row]) -> Result<Option<usize>, Fail> {
+    let mut files = Files::new(alloc, blocks)?;
+    for (place, (step, want)) in rows.iter().enumerate() {
+        if files.told_behind(*step) != *want {
+            return Ok(Some(place));
+        }
+    }
+    Ok(None)
+}
+
+static ZEROS: [Row; 22] = [
+    (Step::Create(Named::Master, 60), Told::Done),
+    (Step::Size(Named::Master), Told::Number(0)),
+    (Step::Write(Named::Master, 1, 1), Told::Done),
+    (Step::Size(Named::Master), Told::Number(1)),
+    (Step::Write(Named::Master, 2, 2), Told::Done),
+    (Step::Size(Named::Master), Told::Number(2)),
+    (Step::Write(Named::Master, 4, 4), Told::Done),
+    (Step::Size(Named::Master), Told::Number(4)),
+    (Step::Write(Named::Master, 2, 9), Told::Done),
+    (Step::Size(Named::Master), Told::Number(4)),
+    (Step::Read(Named::Master, 0), Told::Refused(11)),
+    (Step::Read(Named::Master, 1), Told::Full(1)),
+    (Step::Read(Named::Master, 2), Told::Full(9)),
+    (Step::Read(Named::Master, 3), Told::Full(0)),
+    (Step::Read(Named::Master, 4), Told::Full(4)),
+    (Step::Read(Named::Master, 5), Told::Refused(11)),
+    (Step::Place(Named::Master, 0), Told::Is(false)),
+    (Step::Place(Named::Master, 1), Told::Is(true)),
+    (Step::Place(Named::Master, 2), Told::Is(true)),
+    (Step::Place(Named::Master, 3), Told::Is(true)),
+    (Step::Place(Named::Master, 4), Told::Is(true)),
+    (Step::Place(Named::Master, 5), Told::Is(false)),
+];
 
 #[test]
 fn a_write_behind_the_end_leaves_zeros_between(rt: HostRuntime) -> Result<(), Fail> {
-    let alloc = rt.alloc();
-    let name = file(b"MASTER")?;
-    let mut disk = disk_with(alloc, 8, &[name])?;
-    assert_eq!(rt; disk.size(&name), Some(0));
-    for (block, byte, size) in [(1, 1, 1), (2, 2, 2), (4, 4, 4), (2, 9, 4)] {
-        assert_eq!(rt; disk.write(&name, block, &page_of(alloc, byte)?), Ok(()));
-        assert_eq!(rt; disk.size(&name), Some(size));
-    }
-    let found = [
-        (0, None),
-        (1, Some(1)),
-        (2, Some(9)),
-        (3, Some(0)),
-        (4, Some(4)),
-        (5, None),
-    ];
-    for (block, byte) in found {
-        assert_eq!(rt; byte_of(alloc, &disk, &name, block)?, byte);
-        assert_eq!(rt; disk.place(&name, block).is_some(), byte.is_some());
-    }
+    let wrong = first_wrong(rt.alloc(), 8, &ZEROS)?;
+    assert_eq!(rt; wrong, None);
     Ok(())
 }
+
+static REFUSALS: [Row; 11] = [
+    (Step::Create(Named::Master, 60), Told::Done),
+    (Step::Create(Named::Master, 0), Told::Refused(16)),
+    (Step::Write(Named::Other, 1, 7), Told::Refused(5)),
+    (Step::Write(Named::Master, 0, 7), Told::Refused(31)),
+    (Step::Write(Named::Master, 4, 7), Told::Refused(4)),
+    (Step::Remake(Named::Other, 0), Told::Refused(5)),
+    (Step::Remove(Named::Other), Told::Refused(5)),
+    (Step::Read(Named::Other, 1), Told::Refused(5)),
+    (Step::Read(Named::Master, 1), Told::Refused(11)),
+    (Step::Write(Named::Master, 3, 7), Told::Done),
+    (Step::Read(Named::Master, 4), Told::Refused(11)),
+];
 
 #[test]
 fn each_refusal_has_its_number(rt: HostRuntime) -> Result<(), Fail> {
-    let alloc = rt.alloc();
-    let name = file(b"MASTER")?;
-    let other = file(b"OTHER")?;
-    let page = page_of(alloc, 7)?;
-    let mut disk = disk_with(alloc, 3, &[name])?;
-    let refused = |number: u8| Err(Trouble::Refused(Fault::new(number)));
-    assert_eq!(rt; disk.create(name, 0), refused(16));
-    assert_eq!(rt; disk.write(&other, 1, &page), refused(5));
-    assert_eq!(rt; disk.write(&name, 0, &page), refused(31));
-    assert_eq!(rt; disk.write(&name, 4, &page), refused(4));
-    assert_eq!(rt; disk.remake(&other, 0), refused(5));
-    assert_eq!(rt; disk.remove(&other), Err(Fault::new(5)));
-    let mut blank = page_of(alloc, 1)?;
-    assert_eq!(rt; disk.read(&other, 1, &mut blank), Err(Fault::new(5)));
-    assert_eq!(rt; disk.read(&name, 1, &mut blank), Err(Fault::new(11)));
-    assert_eq!(rt; disk.write(&name, 3, &page), Ok(()));
-    assert_eq!(rt; disk.read(&name, 4, &mut blank), Err(Fault::new(11)));
+    let wrong = first_wrong(rt.alloc(), 3, &REFUSALS)?;
+    assert_eq!(rt; wrong, None);
     Ok(())
 }
 
+static REMOVED: [Row; 11] = [
+    (Step::Create(Named::Master, 60), Told::Done),
+    (Step::Create(Named::Other, 60), Told::Done),
+    (Step::Write(Named::Master, 3, 7), Told::Done),
+    (Step::Write(Named::Other, 1, 7), Told::Refused(4)),
+    (Step::Remove(Named::Master), Told::Done),
+    (Step::Write(Named::Other, 2, 7), Told::Done),
+    (Step::Read(Named::Other, 1), Told::Full(0)),
+    (Step::Remake(Named::Other, 40), Told::Done),
+    (Step::Size(Named::Other), Told::Number(0)),
+    (Step::Code(Named::Other), Told::Number(40)),
+    (Step::Write(Named::Other, 3, 7), Told::Done),
+];
+
 #[test]
 fn blocks_of_a_removed_file_are_free_again(rt: HostRuntime) -> Result<(), Fail> {
-    let alloc = rt.alloc();
-    let name = file(b"MASTER")?;
-    let other = file(b"OTHER")?;
-    let page = page_of(alloc, 7)?;
-    let full = Err(Trouble::Refused(Fault::new(4)));
-    let mut disk = disk_with(alloc, 3, &[name, other])?;
-    assert_eq!(rt; disk.write(&name, 3, &page), Ok(()));
-    assert_eq!(rt; disk.write(&other, 1, &page), full);
-    assert_eq!(rt; disk.remove(&name), Ok(()));
-    assert_eq!(rt; disk.write(&other, 2, &page), Ok(()));
-    assert_eq!(rt; byte_of(alloc, &disk, &other, 1)?, Some(0));
-    assert_eq!(rt; disk.remake(&other, 40), Ok(()));
-    assert_eq!(rt; (disk.size(&other), disk.code(&other)), (Some(0), Some(40)));
-    assert_eq!(rt; disk.write(&other, 3, &page), Ok(()));
+    let wrong = first_wrong(rt.alloc(), 3, &REMOVED)?;
+    assert_eq!(rt; wrong, None);
     Ok(())
 }

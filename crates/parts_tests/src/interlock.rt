@@ -72,7 +72,7 @@ impl Two {
         if job >= 2 || channel >= 13 || is_held(&self.holds, job, channel, &name, block) {
             return false;
         }
-        self.holds.hold(job, channel, name, block);
+        self.holds.hold(job, channel, name, block, 1);
         true
     }
 
@@ -93,20 +93,19 @@ impl Two {
     }
 
     fn has(&self, job: u32, channel: u8, file: Named, block: u16) -> bool {
-        if job >= 2 || channel >= 13 {
-            return false;
-        }
         let name = self.name(file);
         let by_block = self.holds.holder(&name, block) == Some((job, channel));
         match self.holds.held_by(job, channel) {
-            Some((held, at)) => by_block && held.is_same(&name) && at == block,
+            Some(run) => by_block
+                && run.name.is_same(&name)
+                && (run.block, run.count) == (block, 1),
             None => false,
         }
     }
 }
 
 /// Whether another channel holds the block.
-fn is_held(holds: &Holds, job: u32, channel: u8, name: &FileName, block: u16) -> bool
+pub(crate) fn is_held(holds: &Holds, job: u32, channel: u8, name: &FileName, block: u16) -> bool
     ensures { result ≡ is_held holds.now.held job channel name.now block }
 {
     match holds.holder(name, block) {

@@ -1,20 +1,43 @@
-//! Tests of the monitor's parts, by their public calls alone: accounts, protection, the disk, the
-//! message queues, the table of jobs, the interlock, and names of files.
+//! Tests of the parts that wholes are made of, by their public calls alone: of the monitor
+//! accounts, protection, the disk, the message queues, the table of jobs, the interlock, the printer, and names
+//! of files; of a job its memory, record fields, trap, terminal line, and the text of a program.
 #![tactic(auto)]
 
 #[cfg(test)]
+mod columns;
+#[cfg(test)]
 mod disks;
 #[cfg(test)]
+mod edits;
+#[cfg(test)]
+mod fields;
+#[cfg(test)]
+mod files;
+#[cfg(test)]
 mod interlock;
+#[cfg(test)]
+mod keys;
+#[cfg(test)]
+mod memory;
 #[cfg(test)]
 mod names;
 #[cfg(test)]
 mod passwords;
 #[cfg(test)]
+mod printers;
+#[cfg(test)]
 mod queues;
 #[cfg(test)]
+mod records;
+#[cfg(test)]
 mod rights;
+#[cfg(test)]
+mod room;
+#[cfg(test)]
+mod screens;
 #[cfg(test)]
 mod seats;
 #[cfg(test)]
 mod specs;
+#[cfg(test)]
+mod trap;

@@ -2,33 +2,76 @@
 
 use crate::names::{account, short};
 use accounts::AccountTable;
-use monitor_calls::AccountEntry;
+use monitor_calls::{Account, AccountEntry};
+use std::alloc::Global;
 use std::test::Fail;
+
+fn entry(
+    account: Account,
+    password: &[u8],
+    limit: u16,
+    quota: u16,
+) -> Result<AccountEntry, Fail> {
+    Ok(AccountEntry {
+        account,
+        password: short(password)?,
+        limit,
+        quota,
+    })
+}
+
+/// [100,5] with the password DEMO, and [1,2] with SYSTEM.
+fn table(alloc: Global) -> Result<AccountTable, Fail> {
+    let entries = [
+        entry(account(100, 5), b"DEMO", 16384, 16384)?,
+        entry(account(1, 2), b"SYSTEM", 1, 8)?,
+    ];
+    Ok(AccountTable::new(alloc, &entries)?)
+}
+
+/// An account; a password, where it is to be checked; and the limit that is told.
+type Row = (u8, u8, Option<&'static [u8]>, Option<u16>);
+
+static ROWS: [Row; 6] = [
+    (100, 5, None, Some(16384)),
+    (1, 2, None, Some(1)),
+    (5, 100, None, None),
+    (100, 5, Some(b"DEMO"), Some(16384)),
+    (1, 2, Some(b"DEMO"), None),
+    (2, 1, Some(b"DEMO"), None),
+];
+
+fn found(table: &AccountTable, row: &Row) -> Result<Option<u16>, Fail> {
+    let account = account(row.0, row.1);
+    match row.2 {
+        Some(password) => Ok(table.check(account, &short(password)?)),
+        None => Ok(table.find(account)),
+    }
+}
+
+fn first_wrong(alloc: Global, rows: &[Row]) -> Result<Option<usize>, Fail> {
+    let table = table(alloc)?;
+    for (place, row) in rows.iter().enumerate() {
+        if found(&table, row)? != row.3 {
+            return Ok(Some(place));
+        }
+    }
+    Ok(None)
+}
 
 #[test]
 fn an_account_is_found_by_its_numbers_and_checked_by_its_password(
     rt: HostRuntime,
 ) -> Result<(), Fail> {
-    let entries = [
-        AccountEntry {
-            account: account(100, 5),
-            password: short(b"DEMO")?,
-            limit: 16384,
-        },
-        AccountEntry {
-            account: account(1, 2),
-            password: short(b"SYSTEM")?,
-            limit: 1,
-        },
-    ];
-    let table = AccountTable::new(rt.alloc(), &entries)
-        .ok()
-        .ok_or("no memory")?;
-    assert_eq!(rt; table.find(account(100, 5)), Some(16384));
-    assert_eq!(rt; table.find(account(1, 2)), Some(1));
-    assert_eq!(rt; table.find(account(5, 100)), None);
-    assert_eq!(rt; table.check(account(100, 5), &short(b"DEMO")?), Some(16384));
-    assert_eq!(rt; table.check(account(1, 2), &short(b"DEMO")?), None);
-    assert_eq!(rt; table.check(account(2, 1), &short(b"DEMO")?), None);
+    let wrong = first_wrong(rt.alloc(), &ROWS)?;
+    assert_eq!(rt; wrong, None);
+    Ok(())
+}
+
+#[test]
+fn a_quota_is_told_and_0_where_there_is_no_account(rt: HostRuntime) -> Result<(), Fail> {
+    let table = table(rt.alloc())?;
+    assert_eq!(rt; table.quota(account(1, 2)), 8);
+    assert_eq!(rt; table.quota(account(5, 100)), 0);
     Ok(())
 }

@@ -1,39 +1,68 @@
 //! Protection codes.
 
 use crate::names::account;
+use monitor_calls::Account;
 use monitor_model::Right;
 use protection::allows;
+use std::test::Fail;
 
-#[test]
-fn each_bit_refuses_one_right_of_one_kind_of_caller(rt: HostRuntime) {
-    // The owner, another account of its project, an account of another project.
-    let callers = [account(10, 1), account(10, 2), account(20, 1)];
-    // What each code leaves: reading and writing, for each caller in turn.
-    let rows = [
-        (0, [(true, true), (true, true), (true, true)]),
-        (1, [(false, true), (true, true), (true, true)]),
-        (2, [(true, false), (true, true), (true, true)]),
-        (4, [(true, true), (false, true), (true, true)]),
-        (8, [(true, true), (true, false), (true, true)]),
-        (16, [(true, true), (true, true), (false, true)]),
-        (32, [(true, true), (true, true), (true, false)]),
-        (40, [(true, true), (true, false), (true, false)]),
-        (60, [(true, true), (false, false), (false, false)]),
-        (63, [(false, false), (false, false), (false, false)]),
-        (64, [(true, true), (true, true), (true, true)]),
-    ];
-    for (code, rights) in rows {
-        for (caller, (read, write)) in callers.iter().zip(rights) {
-            assert_eq!(rt; allows(*caller, account(10, 1), code, Right::Read), read);
-            assert_eq!(rt; allows(*caller, account(10, 1), code, Right::Write), write);
+/// A protection code, and what it leaves to a caller of the owner's account [10,1], of another
+/// account of its project, and of one of another project: reading and writing.
+type Row = (u8, [(bool, bool); 3]);
+
+static ROWS: [Row; 11] = [
+    (0, [(true, true), (true, true), (true, true)]),
+    (1, [(false, true), (true, true), (true, true)]),
+    (2, [(true, false), (true, true), (true, true)]),
+    (4, [(true, true), (false, true), (true, true)]),
+    (8, [(true, true), (true, false), (true, true)]),
+    (16, [(true, true), (true, true), (false, true)]),
+    (32, [(true, true), (true, true), (true, false)]),
+    (40, [(true, true), (true, false), (true, false)]),
+    (60, [(true, true), (false, false), (false, false)]),
+    (63, [(false, false), (false, false), (false, false)]),
+    (64, [(true, true), (true, true), (true, true)]),
+];
+
+/// Whether a caller may read and write a file of [10,1] with this code.
+fn rights(caller: Account, code: u8) -> (bool, bool) {
+    let owner = account(10, 1);
+    let read = allows(caller, owner, code, Right::Read);
+    (read, allows(caller, owner, code, Right::Write))
+}
+
+fn all_rights(code: u8) -> [(bool, bool); 3] {
+    [
+        rights(account(10, 1), code),
+        rights(account(10, 2), code),
+        rights(account(20, 1), code),
+    ]
+}
+
+fn first_wrong(rows: &[Row]) -> Option<usize> {
+    for (place, (code, rights)) in rows.iter().enumerate() {
+        if all_rights(*code) != *rights {
+            return Some(place);
         }
     }
+    None
 }
 
 #[test]
-fn project_1_passes_every_code(rt: HostRuntime) {
-    for code in [0, 60, 63] {
-        assert!(rt; allows(account(1, 2), account(10, 1), code, Right::Read));
-        assert!(rt; allows(account(1, 2), account(1, 2), code, Right::Write));
-    }
+fn each_bit_refuses_one_right_of_one_kind_of_caller(rt: HostRuntime) -> Result<(), Fail> {
+    let wrong = first_wrong(&ROWS);
+    assert_eq!(rt; wrong, None);
+    Ok(())
+}
+
+/// Whether project 1 may read and write another's file with this code, and write its own.
+fn passes(code: u8) -> bool {
+    let own = account(1, 2);
+    rights(own, code) == (true, true) && allows(own, own, code, Right::Write)
+}
+
+#[test]
+fn project_1_passes_every_code(rt: HostRuntime) -> Result<(), Fail> {
+    assert!(rt; passes(0) && passes(60) && passes(63));
+    Ok(())
 }

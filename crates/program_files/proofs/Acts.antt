@@ -1,5 +1,5 @@
 -- How what is asked of files is put together, and what is done at the ends of an act.
-use Rattle.std.proofs.Common.{◌≡◌, ◌⊎◌, inl, inr, ℕ, List, [], ◌∷◌, Option, Some, None, Result, Ok, Err, refl, sym, ap, subst}
+use Rattle.std.proofs.Common.{◌≡◌, ◌⊎◌, inl, inr, ℕ, List, [], ◌∷◌, Option, Some, Result, Ok, Err, refl, sym, ap, subst}
 use Rattle.std.specs.Option.{option_map}
 use Rattle.std.specs.Result.{IsErrAnd}
 use Rattle.basic_values.specs.declared.failures.Stop.{Stop}

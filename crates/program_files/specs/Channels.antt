@@ -3,7 +3,7 @@ use Rattle.std.specs.Prelude.{ℕ, false, List, Option}
 use Rattle.monitor_calls.specs.declared.files.FileName.{FileName}
 use Rattle.monitor_calls.specs.declared.files.OpenKind.{OpenKind}
 use Rattle.monitor_calls.specs.declared.calls.Request.TheVariants as request
-use Rattle.job_model.specs.Act.{Act, Gives, Breaks, Break, Faulted, ◌then◌}
+use Rattle.job_model.specs.Act.{Gives, Breaks, Break, Faulted, ◌then◌}
 use Rattle.job_model.specs.Ends.{at_ends}
 use Rattle.job_model.specs.Replies.{ReplyAct, asks_for, done_by, opened_by, block_by}
 use Rattle.program_files.specs.declared.channels.TheConstants.{CHANNEL}

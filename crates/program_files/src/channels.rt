@@ -1,14 +1,14 @@
 //! One request each through the channel of the command level, and what its reply comes to.
 
 ghost use Rattle.std.specs.Prelude.{◌≡◌, true, Err, OnOk};
-ghost use Rattle.job_model.specs.Asking.{is_block};
+ghost use Rattle.job_model.specs.Asking.{can_be_block};
 ghost use Rattle.job_model.specs.Follow.{Follows, answered_by};
 ghost use Rattle.job_model.specs.Play as play;
 ghost use Rattle.program_files.specs.Channels.{FileAct, opens, closes, gets, puts, kills, closed_behind};
 ghost use Rattle.program_files.specs.Taken.{first_stop};
 
 use basic_values::{Fault, Stop};
-use job_model::{ask_block, ask_done, ask_open, is_block};
+use job_model::{ask_block, ask_done, ask_open, can_be_block};
 use monitor_calls::{FileName, OpenKind, Page, Port, Request};
 use std::alloc::Global;
 
@@ -49,14 +49,14 @@ pub(crate) fn get<P: Port>(alloc: Global, port: &mut P, block: u16) -> Result<Pa
 pub(crate) fn put<P: Port>(alloc: Global, port: &mut P, block: u16, page: Page) -> Result<(), Stop>
     ensures follows { (clock : play.Clock) → Follows P.who P.log port.old port.new clock clock
         (puts block page) (answered_by result tt) }
-    ensures could { OnOk result (is_block block ≡ true) }
+    ensures could { OnOk result (can_be_block block ≡ true) }
 {
     let request = Request::Put {
         channel: CHANNEL,
         block,
         page,
     };
-    ask_done(alloc, port, request, is_block(block))
+    ask_done(alloc, port, request, can_be_block(block))
 }
 
 /// Takes a file away.

@@ -1,17 +1,30 @@
 //! The text of a history.
 
-ghost use Rattle.std.specs.Prelude.{◌≡◌, ◌<◌, [], ◌∷◌, ◌++◌, codes, OnOk};
+ghost use Rattle.std.specs.Prelude.{◌≡◌, ◌<◌, [], ◌∷◌, ◌++◌, codes, OnOk, OnErr};
+ghost use Rattle.std.specs.List.{flat_map};
 ghost use Rattle.std.specs.Fmt.{decimal};
-ghost use Rattle.deck_model.specs.Histories.{hex_sign, hex_text, hex_or_dash, account_digits, truth_text, number_or_dash, letters_or_dash, printed_name, kind_text, fields, request_text, reply_text, entry_line, entry_lines, history_text};
+ghost use Rattle.deck_model.specs.Histories.{hex_sign, hex_text, hex_or_dash, pages_text, account_digits, truth_text, number_or_dash, letters_or_dash, printed_name, kind_text, fields, request_text, reply_text, entry_line, entry_lines, history_text};
 
 use basic_values::NoMemory;
 use file_names::print;
 use itoa::Buffer;
-use monitor_calls::{Account, Entry, FileName, OpenKind, Reply, Request, Short};
+use monitor_calls::{Account, Entry, FileName, OpenKind, Page, Reply, Request, Short};
 
 /// Writes the text of a history behind what is there: `HISTORY` and the number of its entries, and
-/// a line for each. Each history has one text.
+/// a line for each. Each history has one text. Where memory runs out nothing is left, of what was there
+/// neither.
 pub fn push_history(out: &mut Vec<u8>, history: &[Entry]) -> Result<(), NoMemory>
+    ensures text { OnOk result (out.new.items ≡ out.old.items ++ history_text history.now) }
+    ensures memory { OnErr result (out.new.items ≡ []) }
+{
+    let pushed = push_text(out, history);
+    if pushed.is_err() {
+        out.clear();
+    }
+    pushed
+}
+
+fn push_text(out: &mut Vec<u8>, history: &[Entry]) -> Result<(), NoMemory>
     ensures { OnOk result (out.new.items ≡ out.old.items ++ history_text history.now) }
 {
     let mut buffer = Buffer::new();
@@ -74,6 +87,22 @@ fn push_request(out: &mut Vec<u8>, request: &Request) -> Result<(), NoMemory>
             push_place(out, b"PUT", *channel, *block)?;
             push_hex_or_dash(out, page.as_bytes())
         }
+        Request::GetRecord {
+            channel,
+            block,
+            count,
+        } => {
+            push_place(out, b"GETREC", *channel, *block)?;
+            push_number(out, u32::from(*count))
+        }
+        Request::PutRecord {
+            channel,
+            block,
+            pages,
+        } => {
+            push_place(out, b"PUTREC", *channel, *block)?;
+            push_pages(out, pages.as_slice())
+        }
         Request::Unlock { channel } => push_channel(out, b"UNLOCK", *channel),
         Request::Kill { name } => {
             out.extend_from_slice(b"KILL")?;
@@ -105,6 +134,14 @@ fn push_request(out: &mut Vec<u8>, request: &Request) -> Result<(), NoMemory>
             push_number(out, u32::from(*seconds))
         }
         Request::Tick => Ok(out.extend_from_slice(b"TICK")?),
+        Request::Assign => Ok(out.extend_from_slice(b"ASSIGN")?),
+        Request::Deassign => Ok(out.extend_from_slice(b"DEASSIGN")?),
+        Request::OpenPrinter => Ok(out.extend_from_slice(b"LPOPEN")?),
+        Request::Print { text } => {
+            out.extend_from_slice(b"LPPRINT")?;
+            push_hex_or_dash(out, text.as_bytes())
+        }
+        Request::ClosePrinter => Ok(out.extend_from_slice(b"LPCLOSE")?),
         Request::Status => Ok(out.extend_from_slice(b"STATUS")?),
     }
 }
@@ -127,6 +164,10 @@ fn push_reply(out: &mut Vec<u8>, reply: &Reply) -> Result<(), NoMemory>
         Reply::Block(page) => {
             out.extend_from_slice(b"BLOCK")?;
             push_hex_or_dash(out, page.as_bytes())
+        }
+        Reply::Record(pages) => {
+            out.extend_from_slice(b"RECORD")?;
+            push_pages(out, pages.as_slice())
         }
         Reply::Name { name, code, blocks } => {
             out.extend_from_slice(b"NAME")?;
@@ -287,6 +328,26 @@ fn push_hex_or_dash(out: &mut Vec<u8>, bytes: &[u8]) -> Result<(), NoMemory>
         [] => Ok(out.push(b'-')?),
         [..] => push_hex(out, bytes),
     }
+}
+
+/// The blocks of a record in one run; no blocks as a dash.
+fn push_pages(out: &mut Vec<u8>, pages: &[Page]) -> Result<(), NoMemory>
+    ensures { OnOk result (out.new.items ≡ out.old.items ++ codes " " ++ pages_text pages.now) }
+{
+    out.push(b' ')?;
+    match pages {
+        [] => Ok(out.push(b'-')?),
+        [..] => push_run(out, pages),
+    }
+}
+
+fn push_run(out: &mut Vec<u8>, pages: &[Page]) -> Result<(), NoMemory>
+    ensures { OnOk result (out.new.items ≡ out.old.items ++ flat_map hex_text pages.now) }
+{
+    for page in pages {
+        push_hex(out, page.as_bytes())?;
+    }
+    Ok(())
 }
 
 fn push_hex(out: &mut Vec<u8>, bytes: &[u8]) -> Result<(), NoMemory>

@@ -19,7 +19,7 @@ status_of NoMemory = 6
 
 abbrev pub cause_text : DeckCause → List ℕ
 cause_text Cut = codes "input ends early"
-cause_text Version = codes "not a version 1 deck"
+cause_text Version = codes "not a version 1 or 2 deck"
 cause_text Shape = codes "wrong form"
 cause_text Range = codes "number or text out of range"
 cause_text Double = codes "name given twice"

@@ -89,7 +89,7 @@ fn cause_text(cause: DeckCause) -> &'static [u8]
 {
     match cause {
         DeckCause::Cut => b"input ends early",
-        DeckCause::Version => b"not a version 1 deck",
+        DeckCause::Version => b"not a version 1 or 2 deck",
         DeckCause::Shape => b"wrong form",
         DeckCause::Range => b"number or text out of range",
         DeckCause::Double => b"name given twice",

@@ -2,7 +2,7 @@
 
 ghost use Rattle.std.specs.Prelude.{◌≡◌, ◌+◌, ◌<◌, ◌≤◌, ◌==◌, length, position, Err, IfSome};
 ghost use Rattle.std.specs.Prelude.{MatchOption, OnOk, OnErr};
-ghost use Rattle.rsts_io.specs.Ends.{Takes};
+ghost use Rattle.rsts_io.specs.Ends.{IsTaken};
 ghost use Rattle.rsts.specs.Streams.{ReadSo, TookNext, IsOverLimit, Written, BrokeOff};
 
 use rsts_io::{Gave, Sink, Source, Took};
@@ -74,7 +74,7 @@ fn read_through<S: Source>(
 fn take_some<S: Source>(source: &mut S, chunk: &mut [u8], most: usize) -> Took
     requires room { 0 < length chunk.old }
     requires some { 0 < most }
-    ensures told { Takes result chunk.new (S.state source.old) (S.state source.new) }
+    ensures told { IsTaken result chunk.new (S.state source.old) (S.state source.new) }
     ensures most { (S.state source.new).taken ≤ (S.state source.old).taken + most }
 {
     let most = chunk.len().min(most);

@@ -38,13 +38,13 @@ IsAtEnd left = IfSome left (λ bytes. bytes ≡ [])
 -- what a source's answer says of the buffer behind it, and of the source before and after: the
 -- bytes stand at the buffer's front; at its end nothing changes; a failure is counted, and nothing
 -- else changes
-abbrev pub Takes : Took → List ℕ → SourceState → SourceState → Type 0
-Takes (took.Bytes n) buffer old new =
+abbrev pub IsTaken : Took → List ℕ → SourceState → SourceState → Type 0
+IsTaken (took.Bytes n) buffer old new =
     (1 ≤ n) × (n ≤ length buffer) × AreNext (take n buffer) old.left new.left
     × (new.taken ≡ old.taken + n) × (new.faults ≡ old.faults)
-Takes took.End buffer old new =
+IsTaken took.End buffer old new =
     IsAtEnd old.left × (new.left ≡ old.left) × (new.taken ≡ old.taken) × (new.faults ≡ old.faults)
-Takes took.Failed buffer old new =
+IsTaken took.Failed buffer old new =
     (new.left ≡ old.left) × (new.taken ≡ old.taken) × Rose old.faults new.faults
 
 -- these bytes came behind what was given, where that is told

@@ -1,7 +1,7 @@
 //! The ends of the program: sources of bytes, sinks for bytes, and pacers.
 //!
 //! A source and a sink tell of themselves by their ghost `state`. `Source::take` and `Sink::give`
-//! carry the promise: `Takes` and `Accepts` say what each answer changes of it. Ends in memory tell
+//! carry the promise: `IsTaken` and `Accepts` say what each answer changes of it. Ends in memory tell
 //! their bytes; `MemorySource` and `MemorySink` fail where they are told, `PlainSource` never, and
 //! `PlainSink` where it is full. `StdSource` and `StdSink`, over any reader and writer, tell none.
 //! It stands on `basic_values`, for the want of memory.

@@ -1,7 +1,7 @@
 //! Sources and sinks in memory that fail the calls that they are told.
 
 ghost use Rattle.std.specs.Prelude.{◌≡◌, ℕ, ◌-◌, ◌<◌, ◌≤◌, ◌⊎◌, ◌↔◌, true, [], min, length, Some, IfOk};
-ghost use Rattle.rsts_io.specs.Ends.{raised, Takes, Accepts};
+ghost use Rattle.rsts_io.specs.Ends.{raised, IsTaken, Accepts};
 ghost use Rattle.rsts_io.specs.Memory.{sink_room, is_listed, feed_state, store_state};
 
 use crate::copies::{SINK_ROOM, copy_next, is_listed, keep_front};
@@ -64,7 +64,7 @@ impl Source for MemorySource {
 
     fn take(&mut self, buffer: &mut [u8]) -> Took
         requires { 0 < length buffer.old }
-        ensures told { Takes result buffer.new (feed_state self.old) (feed_state self.new) }
+        ensures told { IsTaken result buffer.new (feed_state self.old) (feed_state self.new) }
         ensures fails { (result ≡ Took.Failed)
             ↔ (is_listed self.new.calls self.old.failing ≡ true) }
         ensures fits { (n : ℕ) → result ≡ Took.Bytes n

@@ -1,7 +1,7 @@
 //! Sources and sinks in memory that never fail, but for a sink that is full.
 
 ghost use Rattle.std.specs.Prelude.{◌≡◌, ℕ, ◌+◌, ◌-◌, ◌<◌, ◌≤◌, ◌↔◌, [], min, length, Some, IfOk};
-ghost use Rattle.rsts_io.specs.Ends.{Takes, Accepts};
+ghost use Rattle.rsts_io.specs.Ends.{IsTaken, Accepts};
 ghost use Rattle.rsts_io.specs.Memory.{sink_room, plain_feed_state, plain_store_state};
 
 use crate::copies::{SINK_ROOM, copy_next, keep_front};
@@ -47,7 +47,7 @@ impl Source for PlainSource {
 
     fn take(&mut self, buffer: &mut [u8]) -> Took
         requires { 0 < length buffer.old }
-        ensures told { Takes result buffer.new
+        ensures told { IsTaken result buffer.new
             (plain_feed_state self.old) (plain_feed_state self.new) }
         ensures fits { (n : ℕ) → result ≡ Took.Bytes n
             → n ≡ min (length self.old.left) (length buffer.old) }

@@ -1,7 +1,7 @@
 //! Sources of bytes.
 
 ghost use Rattle.std.specs.Prelude.{◌<◌, length};
-ghost use Rattle.rsts_io.specs.Ends.{SourceState, Takes};
+ghost use Rattle.rsts_io.specs.Ends.{SourceState, IsTaken};
 
 /// What a source answers.
 #[derive(Clone, Copy, Debug, PartialEq, Eq)]
@@ -23,5 +23,5 @@ pub trait Source {
     /// Puts the next bytes into the buffer: at least one, unless it is at its end or fails.
     fn take(&mut self, buffer: &mut [u8]) -> Took
         requires { 0 < length buffer.old }
-        ensures { Takes result buffer.new (state self.old) (state self.new) };
+        ensures { IsTaken result buffer.new (state self.old) (state self.new) };
 }

@@ -2,7 +2,7 @@
 //! `read` and `written` say it of a reader and a writer whose bytes are known.
 
 ghost use Rattle.std.specs.Prelude.{◌≡◌, ◌<◌, length};
-ghost use Rattle.rsts_io.specs.Ends.{Takes, Accepts};
+ghost use Rattle.rsts_io.specs.Ends.{IsTaken, Accepts};
 ghost use Rattle.rsts_io.specs.Streams.{ReadSo, WrittenSo, untold_source, untold_sink};
 
 use crate::sink::{Gave, Sink};
@@ -36,7 +36,7 @@ impl<R: Read> Source for StdSource<R> {
 
     fn take(&mut self, buffer: &mut [u8]) -> Took
         requires { 0 < length buffer.old }
-        ensures told { Takes result buffer.new
+        ensures told { IsTaken result buffer.new
             (untold_source self.old.taken self.old.faults)
             (untold_source self.new.taken self.new.faults) }
         ensures read { ReadSo result buffer.new

@@ -123,10 +123,10 @@ fn bad_input_is_refused_and_nothing_is_written(rt: HostRuntime) -> Result<(), Fa
     let rows: [(&[u8], &[u64], u8, &str); 7] = [
         (b"", &[], 2, "deck line 1: input ends early"),
         (
-            b"RSTS-DECK 2\nDISK 8\nACCOUNT 100,5 DEMO 100\nTERMINAL T1\nEND\n",
+            b"RSTS-DECK 9\nDISK 8\nACCOUNT 100,5 DEMO 100\nTERMINAL T1\nEND\n",
             &[],
             2,
-            "deck line 1: not a version 1 deck",
+            "deck line 1: not a version 1 or 2 deck",
         ),
         (
             b"RSTS-DECK 1\nDISK 8\nACCOUNT 100,5 DEMO 100\nTERMINAL T1\nTERMINAL T1\nEND\n",

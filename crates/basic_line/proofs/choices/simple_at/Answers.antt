@@ -1,6 +1,6 @@
 use Rattle.std.proofs.Common.{rules, arith}
 use Rattle.basic_tree.specs.StatementViews.{statement_of}
-use Rattle.basic_stmt.proofs.Steps.{on_err}
+use Rattle.statement_parts.proofs.Steps.{on_err}
 use Rattle.basic_line.specs.Structure.{StatesSimple}
 use Rattle.basic_line.proofs.ClauseSteps.{simple_line, simple_clause, simple_line_stops, simple_clause_stops, modified_line_stops, modified_clause_stops, simple_closed}
 use Rattle.basic_line.proofs.choices.simple_at.Goals as goal

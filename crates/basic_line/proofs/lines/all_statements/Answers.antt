@@ -1,5 +1,5 @@
 use Rattle.std.proofs.Common.{rules}
-use Rattle.basic_stmt.proofs.Steps.{on_err}
+use Rattle.statement_parts.proofs.Steps.{on_err}
 use Rattle.basic_line.specs.Structure.{StatesAll}
 use Rattle.basic_line.proofs.ParsedLines.{line_stops_later}
 use Rattle.basic_line.proofs.lines.all_statements.Goals as goal

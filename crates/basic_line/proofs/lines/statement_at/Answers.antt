@@ -1,6 +1,6 @@
 use Rattle.std.proofs.Common.{rules}
 use Rattle.basic_tree.specs.SpellingWords.{most_levels}
-use Rattle.basic_stmt.proofs.Steps.{on_err}
+use Rattle.statement_parts.proofs.Steps.{on_err}
 use Rattle.basic_line.specs.Structure.{StatesOne}
 use Rattle.basic_line.proofs.ParsedLines.{head_refused}
 use Rattle.basic_line.proofs.lines.statement_at.Goals as goal

@@ -2,13 +2,13 @@ use Rattle.std.proofs.Common.{length, rules, ◌≡◌, ◌+◌, ◌≤◌, [], 
 use Rattle.std.proofs.lemmas.List.{nil_from_length}
 use Rattle.std.specs.Vec.Iter.{into_iter_items}
 use Rattle.std.proofs.lemmas.Bool.Decides.{nat_tests}
-use Rattle.job_model.specs.Asking.{is_block}
+use Rattle.job_model.specs.Asking.{can_be_block}
 use Rattle.job_model.proofs.Follows.{follows_to, follows_is}
 use Rattle.program_files.specs.Programs.{puts_from}
 use Rattle.program_files.proofs.Pages.{put_one, put_stopped}
 use Rattle.program_files.proofs.programs.put_pages.Goals as goal
 
-at_most : (block : ℕ) → is_block block ≡ true → block ≤ 16384
+at_most : (block : ℕ) → can_be_block block ≡ true → block ≤ 16384
 at_most block e = grind (arith, nat_tests)
 
 pub loop-page-init : goal.loop-page-init

@@ -1,0 +1,69 @@
+//! Keys in order.
+
+use basic_values::KeyLine;
+use std::alloc::Global;
+use std::test::Fail;
+use terminal_line::{Key, Keys};
+
+fn keys(alloc: Global, lines: &[&[u8]]) -> Result<Keys, Fail> {
+    let mut typed = Vec::new(alloc);
+    for line in lines {
+        if line.len() > 255 {
+            return Err("a line is too long")?;
+        }
+        typed.push(KeyLine::of(alloc, line)?)?;
+    }
+    Ok(Keys::new(alloc, &typed)?)
+}
+
+/// What the next key is: a line, CTRL Z or the end, and its bytes behind it.
+fn next(alloc: Global, keys: &mut Keys) -> Result<Vec<u8>, Fail> {
+    let mut told = Vec::new(alloc);
+    match keys.next() {
+        Key::Line(line) => {
+            told.push(b'>')?;
+            told.extend_from_slice(line.as_bytes())?;
+        }
+        Key::ControlZ => told.extend_from_slice(b"CTRL Z")?,
+        Key::End => told.extend_from_slice(b"END")?,
+    }
+    Ok(told)
+}
+
+fn first_wrong(alloc: Global, lines: &[&[u8]], wanted: &[&[u8]]) -> Result<Option<usize>, Fail> {
+    let mut keys = keys(alloc, lines)?;
+    for (place, bytes) in wanted.iter().enumerate() {
+        if next(alloc, &mut keys)?.as_slice() != *bytes {
+            return Ok(Some(place));
+        }
+    }
+    Ok(None)
+}
+
+static TYPED: [&[u8]; 5] = [b"RUN", b"^Z", b" ^Z", b"", b"^z"];
+
+static TOLD: [&[u8]; 8] = [
+    b">RUN", b"CTRL Z", b"> ^Z", b">", b">^z", b"END", b"END", b"END",
+];
+
+#[test]
+fn keys_come_in_order_and_then_the_end(rt: HostRuntime) -> Result<(), Fail> {
+    let wrong = first_wrong(rt.alloc(), &TYPED, &TOLD)?;
+    assert_eq!(rt; wrong, None);
+    let mut none = keys(rt.alloc(), &[])?;
+    assert!(rt; none.next_line().is_none());
+    Ok(())
+}
+
+#[test]
+fn a_key_line_is_taken_as_it_was_typed(rt: HostRuntime) -> Result<(), Fail> {
+    let mut keys = keys(rt.alloc(), &[b"^Z"])?;
+    let is_typed = match keys.next_line() {
+        Some(line) => line.as_bytes() == b"^Z".as_slice(),
+        None => false,
+    };
+    assert!(rt; is_typed);
+    let last = next(rt.alloc(), &mut keys)?;
+    assert_eq!(rt; last.as_slice(), b"END".as_slice());
+    Ok(())
+}

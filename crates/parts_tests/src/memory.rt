@@ -1,0 +1,334 @@
+//! Variables, arrays and calls.
+
+use basic_tree::{Name, Shape};
+use basic_values::{Halt, Int, Stop, Text, Trouble};
+use job_memory::Memory;
+use record_fields::Part;
+use std::alloc::Global;
+use std::test::Fail;
+
+pub(crate) fn number_name(letter: u8) -> Name {
+    Name {
+        letter,
+        digit: None,
+        text: false,
+    }
+}
+
+pub(crate) fn text_name(letter: u8) -> Name {
+    Name {
+        letter,
+        digit: None,
+        text: true,
+    }
+}
+
+/// What is done to a memory, and what is asked of it. Variables are named by their letter, and so
+/// are arrays. A text is so many times one byte.
+#[derive(Clone, Copy)]
+pub(crate) enum Step {
+    Number(u8),
+    SetNumber(u8, i16),
+    SetText(u8, u8, usize),
+    /// An array of numbers with these bounds.
+    Dim(u8, u16, Option<u16>),
+    DimTexts(u8, u16, Option<u16>),
+    NumberAt(u8, i16, Option<i16>),
+    SetNumberAt(u8, i16, Option<i16>, i16),
+    /// The first byte and the length of an element.
+    TextAt(u8, i16, Option<i16>),
+    SetTextAt(u8, i16, Option<i16>, u8, usize),
+    /// A text is lent from the whole buffer of channel 1.
+    Bind(u8),
+    /// A call with one parameter, a text.
+    EnterText(u8),
+    /// A call with two parameters, which are one text.
+    EnterTextTwice(u8),
+    /// A call with these numbers as its parameters.
+    Enter(&'static [u8]),
+    Leave,
+    Clear,
+}
+
+/// What a step tells.
+#[derive(Clone, Copy, PartialEq, Eq)]
+pub(crate) enum Told {
+    Done,
+    Is(i16),
+    /// The first byte and the length of a text.
+    Begins(u8, usize),
+    Empty,
+    /// The room is full.
+    Full,
+    Fault(u8),
+    Other,
+}
+
+pub(crate) type Row = (Step, Told);
+
+fn int_of(subscript: Option<i16>) -> Option<Int> {
+    match subscript {
+        Some(number) => Some(Int::new(number)),
+        None => None,
+    }
+}
+
+/// A text of so many times one byte.
+fn text(alloc: Global, byte: u8, length: usize) -> Result<Text, Fail> {
+    let bytes = vec![in alloc; byte; length]?;
+    Ok(Text::of(alloc, &bytes).ok().ok_or("no text")?)
+}
+
+fn made(answer: Result<(), Trouble<Halt>>) -> Told {
+    match answer {
+        Ok(()) => Told::Done,
+        Err(Trouble::Refused(Halt::RoomFull)) => Told::Full,
+        Err(_) => Told::Other,
+    }
+}
+
+fn stored(answer: Result<(), Stop>) -> Told {
+    match answer {
+        Ok(()) => Told::Done,
+        Err(Stop::Halt(Halt::RoomFull)) => Told::Full,
+        Err(Stop::Fault(fault)) => Told::Fault(fault.number()),
+        Err(_) => Told::Other,
+    }
+}
+
+/// What a step tells.
+fn told_behind(alloc: Global, memory: &mut Memory, step: Step) -> Result<Told, Fail> {
+    match step {
+        Step::Number(letter) => Ok(Told::Is(memory.number(number_name(letter)).value())),
+        Step::SetNumber(letter, value) => Ok(set_number(memory, letter, value)),
+        Step::SetText(letter, byte, length) => {
+            Ok(set_text(memory, letter, text(alloc, byte, length)?))
+        }
+        Step::Dim(letter, first, second) => Ok(dim(memory, number_name(letter), first, second)),
+        Step::DimTexts(letter, first, second) => Ok(dim(memory, text_name(letter), first, second)),
+        Step::NumberAt(..) | Step::SetNumberAt(..) | Step::TextAt(..) => Ok(element(memory, step)),
+        Step::SetTextAt(letter, first, second, byte, length) => {
+            let value = text(alloc, byte, length)?;
+            Ok(set_text_at(memory, letter, first, second, value))
+        }
+        _ => call(alloc, memory, step),
+    }
+}
+
+fn set_number(memory: &mut Memory, letter: u8, value: i16) -> Told {
+    made(memory.set_number(number_name(letter), Int::new(value)))
+}
+
+fn set_text(memory: &mut Memory, letter: u8, value: Text) -> Told {
+    made(memory.set_text(text_name(letter), value))
+}
+
+fn dim(memory: &mut Memory, name: Name, first: u16, second: Option<u16>) -> Told {
+    made(memory.dim(Shape {
+        name,
+        first,
+        second,
+    }))
+}
+
+fn element(memory: &mut Memory, step: Step) -> Told {
+    match step {
+        Step::NumberAt(letter, first, second) => number_at(memory, letter, first, second),
+        Step::SetNumberAt(letter, first, second, value) => {
+            let (name, value) = (number_name(letter), Int::new(value));
+            stored(memory.set_number_at(name, Int::new(first), int_of(second), value))
+        }
+        Step::TextAt(letter, first, second) => text_at(memory, letter, first, second),
+        _ => Told::Other,
+    }
+}
+
+fn number_at(memory: &Memory, letter: u8, first: i16, second: Option<i16>) -> Told {
+    match memory.number_at(number_name(letter), Int::new(first), int_of(second)) {
+        Ok(number) => Told::Is(number.value()),
+        Err(fault) => Told::Fault(fault.number()),
+    }
+}
+
+fn text_at(memory: &Memory, letter: u8, first: i16, second: Option<i16>) -> Told {
+    match memory.text_at(text_name(letter), Int::new(first), int_of(second)) {
+        Ok([]) => Told::Empty,
+        Ok(bytes) => Told::Begins(bytes[0], bytes.len()),
+        Err(fault) => Told::Fault(fault.number()),
+    }
+}
+
+fn set_text_at(
+    memory: &mut Memory,
+    letter: u8,
+    first: i16,
+    second: Option<i16>,
+    value: Text,
+) -> Told {
+    stored(memory.set_text_at(text_name(letter), Int::new(first), int_of(second), value))
+}
+
+fn call(alloc: Global, memory: &mut Memory, step: Step) -> Result<Told, Fail> {
+    match step {
+        Step::Bind(letter) => Ok(bind(memory, letter)),
+        Step::EnterText(letter) => Ok(made(memory.enter(&[text_name(letter)]))),
+        Step::EnterTextTwice(letter) => {
+            let name = text_name(letter);
+            Ok(made(memory.enter(&[name, name])))
+        }
+        Step::Enter(letters) => enter(alloc, memory, letters),
+        Step::Leave => {
+            memory.leave();
+            Ok(Told::Done)
+        }
+        Step::Clear => {
+            memory.clear();
+            Ok(Told::Done)
+        }
+        _ => Ok(Told::Other),
+    }
+}
+
+fn bind(memory: &mut Memory, letter: u8) -> Told {
+    let part = Part {
+        offset: 0,
+        length: 512,
+    };
+    made(memory.bind_part(text_name(letter), 1, part))
+}
+
+fn enter(alloc: Global, memory: &mut Memory, letters: &[u8]) -> Result<Told, Fail> {
+    let mut names = Vec::new(alloc);
+    for letter in letters {
+        names.push(number_name(*letter))?;
+    }
+    Ok(made(memory.enter(names.as_slice())))
+}
+
+/// The place of the first row that tells another thing, over a memory that is new.
+pub(crate) fn first_wrong(alloc: Global, rows: &[Row]) -> Result<Option<usize>, Fail> {
+    let mut memory = Memory::new(alloc);
+    for (place, (step, want)) in rows.iter().enumerate() {
+        if told_behind(alloc, &mut memory, *step)? != *want {
+            return Ok(Some(place));
+        }
+    }
+    Ok(None)
+}
+
+/// The subscripts of an element, and whether a store makes an array that has it.
+static SUBSCRIPTS: [(i16, Option<i16>, bool); 8] = [
+    (0, None, true),
+    (10, None, true),
+    (11, None, false),
+    (-1, None, false),
+    (10, Some(10), true),
+    (10, Some(11), false),
+    (11, Some(0), false),
+    (0, Some(-1), false),
+];
+
+/// Whether a store to the element makes an array, which then has the element, and its first one
+/// with as many subscripts alone; or is refused, and leaves none.
+fn makes_an_array(
+    alloc: Global,
+    first: i16,
+    second: Option<i16>,
+    is_inside: bool,
+) -> Result<bool, Fail> {
+    let origin = match second {
+        Some(_) => Some(0),
+        None => None,
+    };
+    let other = match second {
+        Some(_) => None,
+        None => Some(0),
+    };
+    let wrong = Told::Fault(55);
+    let (zero, seven, done) = if is_inside {
+        (Told::Is(0), Told::Is(7), Told::Done)
+    } else {
+        (wrong, wrong, wrong)
+    };
+    let rows = [
+        (Step::NumberAt(b'A', first, second), zero),
+        (Step::SetNumberAt(b'A', first, second, 7), done),
+        (Step::NumberAt(b'A', first, second), seven),
+    ];
+    let mut memory = Memory::new(alloc);
+    for (step, want) in &rows {
+        if told_behind(alloc, &mut memory, *step)? != *want {
+            return Ok(false);
+        }
+    }
+    let has_origin = number_at(&memory, b'A', 0, origin) != wrong;
+    let has_other = number_at(&memory, b'A', 0, other) != wrong;
+    Ok(has_origin && has_other == !is_inside)
+}
+
+fn first_wrong_subscript(alloc: Global) -> Result<Option<usize>, Fail> {
+    for (place, (first, second, is_inside)) in SUBSCRIPTS.iter().enumerate() {
+        if !makes_an_array(alloc, *first, *second, *is_inside)? {
+            return Ok(Some(place));
+        }
+    }
+    Ok(None)
+}
+
+#[test]
+fn a_store_makes_an_array(rt: HostRuntime) -> Result<(), Fail> {
+    let wrong = first_wrong_subscript(rt.alloc())?;
+    assert_eq!(rt; wrong, None);
+    Ok(())
+}
+
+static BOUNDS: [Row; 13] = [
+    (Step::DimTexts(b'A', 2, Some(3)), Told::Done),
+    (Step::SetTextAt(b'A', 0, Some(0), b'0', 1), Told::Done),
+    (Step::SetTextAt(b'A', 0, Some(3), b'3', 2), Told::Done),
+    (Step::SetTextAt(b'A', 1, Some(0), b'1', 3), Told::Done),
+    (Step::SetTextAt(b'A', 2, Some(3), b'2', 4), Told::Done),
+    (Step::TextAt(b'A', 0, Some(0)), Told::Begins(b'0', 1)),
+    (Step::TextAt(b'A', 0, Some(3)), Told::Begins(b'3', 2)),
+    (Step::TextAt(b'A', 1, Some(0)), Told::Begins(b'1', 3)),
+    (Step::TextAt(b'A', 2, Some(3)), Told::Begins(b'2', 4)),
+    (Step::TextAt(b'A', 1, Some(3)), Told::Empty),
+    (Step::TextAt(b'A', 0, Some(4)), Told::Fault(55)),
+    (Step::TextAt(b'A', 3, Some(0)), Told::Fault(55)),
+    (Step::TextAt(b'A', 0, None), Told::Fault(55)),
+];
+
+#[test]
+fn an_array_has_the_bounds_of_its_dim(rt: HostRuntime) -> Result<(), Fail> {
+    let wrong = first_wrong(rt.alloc(), &BOUNDS)?;
+    assert_eq!(rt; wrong, None);
+    Ok(())
+}
+
+static CALLS: [Row; 18] = [
+    (Step::SetNumber(b'A', 7), Told::Done),
+    (Step::Enter(b"ABA"), Told::Done),
+    (Step::Number(b'A'), Told::Is(0)),
+    (Step::Number(b'B'), Told::Is(0)),
+    (Step::SetNumber(b'A', 1), Told::Done),
+    (Step::Enter(b"A"), Told::Done),
+    (Step::SetNumber(b'A', 2), Told::Done),
+    (Step::SetNumber(b'B', 3), Told::Done),
+    (Step::Leave, Told::Done),
+    (Step::Number(b'A'), Told::Is(1)),
+    (Step::Number(b'B'), Told::Is(3)),
+    (Step::Leave, Told::Done),
+    (Step::Number(b'A'), Told::Is(7)),
+    (Step::Number(b'B'), Told::Is(0)),
+    (Step::Leave, Told::Done),
+    (Step::Number(b'A'), Told::Is(7)),
+    (Step::Clear, Told::Done),
+    (Step::Number(b'A'), Told::Is(0)),
+];
+
+#[test]
+fn a_call_puts_its_parameters_back(rt: HostRuntime) -> Result<(), Fail> {
+    let wrong = first_wrong(rt.alloc(), &CALLS)?;
+    assert_eq!(rt; wrong, None);
+    Ok(())
+}

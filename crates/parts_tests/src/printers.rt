@@ -1,0 +1,131 @@
+//! The printer: who has it, and what is printed.
+
+ghost use Rattle.std.specs.Prelude.{◌≡◌};
+
+use basic_values::{Fault, Text};
+use monitor_calls::{Entry, Reply, Request, TerminalName};
+use print_spool::{Printer, printed};
+use std::alloc::Global;
+use std::test::Fail;
+
+/// What a job asks of the printer.
+#[derive(Clone, Copy)]
+enum Step {
+    Assign,
+    Deassign,
+    Open,
+    /// A text of so many bytes.
+    Print(u32),
+    Close,
+    End,
+}
+
+/// The number by which a step is refused; 0 where it is done.
+fn refused(printer: &mut Printer, job: u32, step: Step) -> u8 {
+    let answer = match step {
+        Step::Assign => printer.assign(job),
+        Step::Deassign => printer.deassign(job),
+        Step::Open => printer.open(job),
+        Step::Print(length) => printer.print(job, length),
+        Step::Close => printer.close(job),
+        Step::End => {
+            printer.end(job);
+            Ok(())
+        }
+    };
+    match answer {
+        Ok(()) => 0,
+        Err(fault) => fault.number(),
+    }
+}
+
+static ROWS: [(u32, Step, u8); 26] = [
+    (0, Step::Deassign, 9),
+    (0, Step::Print(1), 9),
+    (0, Step::Close, 9),
+    (0, Step::Assign, 0),
+    (0, Step::Assign, 0),
+    (1, Step::Assign, 8),
+    (1, Step::Open, 8),
+    (1, Step::Deassign, 9),
+    (1, Step::End, 0),
+    (1, Step::Open, 8),
+    (0, Step::Deassign, 0),
+    (1, Step::Open, 0),
+    (1, Step::Open, 3),
+    (1, Step::Print(512), 0),
+    (1, Step::Print(513), 31),
+    (0, Step::Open, 8),
+    (0, Step::Print(1), 9),
+    (1, Step::Deassign, 3),
+    (1, Step::Assign, 0),
+    (1, Step::Close, 0),
+    (0, Step::Assign, 8),
+    (1, Step::Open, 0),
+    (1, Step::End, 0),
+    (0, Step::Open, 0),
+    (0, Step::Close, 0),
+    (1, Step::Assign, 0),
+];
+
+#[test]
+fn the_printer_is_one_job_s(rt: HostRuntime) -> Result<(), Fail> {
+    let mut printer = Printer::new();
+    for (place, (job, step, number)) in ROWS.iter().enumerate() {
+        let found = refused(&mut printer, *job, *step);
+        assert_eq!(rt; found, *number, "row {place}");
+    }
+    Ok(())
+}
+
+fn print(alloc: Global, text: &[u8]) -> Result<Request, Fail> {
+    let text = Text::of(alloc, text).ok().ok_or("no text")?;
+    Ok(Request::Print { text })
+}
+
+fn terminal(name: &[u8]) -> Result<TerminalName, Fail> {
+    Ok(TerminalName::of(name).ok_or("no name")?)
+}
+
+/// An entry of the first job or of the second.
+fn entry(job: u32, request: Request, reply: Reply) -> Entry
+    ensures { result.job ≡ job }
+{
+    Entry {
+        job,
+        request,
+        reply,
+    }
+}
+
+#[test]
+fn listings_stand_in_the_order_of_their_beginning(rt: HostRuntime) -> Result<(), Fail> {
+    let alloc = rt.alloc();
+    let names = [terminal(b"T1")?, terminal(b"CONSOLE")?];
+    let refused = || Reply::Failed(Fault::new(8));
+    let history = [
+        entry(1, Request::OpenPrinter, Reply::Done),
+        entry(0, Request::OpenPrinter, refused()),
+        entry(1, print(alloc, b"10 PRINT\r\n")?, Reply::Done),
+        entry(0, print(alloc, b"LOST")?, Reply::Failed(Fault::new(9))),
+        entry(1, print(alloc, b"20 END\r\n")?, Reply::Done),
+        entry(1, Request::ClosePrinter, Reply::Done),
+        entry(0, Request::OpenPrinter, Reply::Done),
+        entry(0, Request::Logout, Reply::Done),
+        entry(1, Request::OpenPrinter, Reply::Done),
+        entry(1, print(alloc, b"A")?, Reply::Done),
+        entry(1, Request::Tick, Reply::Expired),
+    ];
+    let bytes = printed(alloc, &names, &history)?;
+    let wanted =
+        b"PRINTED 3\nLISTING CONSOLE 18\n10 PRINT\r\n20 END\r\n\nLISTING T1 0\n\nLISTING CONSOLE 1\nA\n";
+    assert_eq!(rt; bytes.as_slice(), wanted.as_slice());
+    Ok(())
+}
+
+#[test]
+fn a_history_without_a_listing_prints_none(rt: HostRuntime) -> Result<(), Fail> {
+    let bytes = printed(rt.alloc(), &[], &[])?;
+    assert_eq!(rt; bytes.as_slice(), b"PRINTED 0\n".as_slice());
+    Ok(())
+}

@@ -1,0 +1,159 @@
+//! Records of several blocks: which channel holds which, and how many blocks an owner has.
+
+ghost use Rattle.std.specs.Prelude.{◌≡◌, ◌+◌, ◌<◌, ◌^◌};
+ghost use Rattle.monitor_model.specs.Holds.{any_held};
+
+use crate::interlock::is_held;
+use crate::names::{account, file, short};
+use basic_values::{Fault, NoMemory, Trouble};
+use block_files::Disk;
+use block_interlock::Holds;
+use monitor_calls::{FileName, Page};
+use std::alloc::Global;
+use std::test::Fail;
+
+/// What the channels 1 and 2 of one job do on a file of 4 blocks.
+#[derive(Clone, Copy)]
+enum Step {
+    /// A channel takes so many blocks up from this one on, where no other holds one of them.
+    Hold(u8, u16, u8),
+    Release(u8),
+}
+
+/// The interlock of one job, and the file.
+#[derive(Drop)]
+struct Desk {
+    holds: Holds,
+    name: FileName,
+    ghost one: { holds.jobs ≡ 1 },
+}
+
+impl Desk {
+    fn new(alloc: Global, name: FileName) -> Result<Desk, NoMemory> {
+        let holds = Holds::new(alloc, 1)?;
+        Ok(Desk { holds, name })
+    }
+
+    /// Whether a step is done. It is not of a channel, block or number that is not there.
+    fn does(&mut self, step: Step) -> bool {
+        match step {
+            Step::Hold(channel, block, count) => self.hold(channel, block, count),
+            Step::Release(channel) => self.release(channel),
+        }
+    }
+
+    fn hold(&mut self, channel: u8, block: u16, count: u8) -> bool {
+        if channel >= 13 || block > 4 || count == 0 || count > 3 {
+            return false;
+        }
+        let name = self.name;
+        if any_held(&self.holds, channel, &name, block, count) {
+            return false;
+        }
+        self.holds.hold(0, channel, name, block, count);
+        true
+    }
+
+    fn release(&mut self, channel: u8) -> bool {
+        if channel >= 13 {
+            return false;
+        }
+        self.holds.release(0, channel);
+        true
+    }
+
+    /// The channel that holds each of the 4 blocks, or 0.
+    fn holders(&self) -> [u8; 4] {
+        let mut found = [0; 4];
+        for (place, found) in found.iter_mut().enumerate() {
+            if let Some((_, channel)) = self.holds.holder(&self.name, place as u16 + 1) {
+                *found = channel;
+            }
+        }
+        found
+    }
+
+    /// The first block that a channel holds and their number, or zeros.
+    fn held(&self, channel: u8) -> (u16, u8) {
+        match self.holds.held_by(0, channel) {
+            Some(run) => (run.block, run.count),
+            None => (0, 0),
+        }
+    }
+}
+
+/// Whether another channel holds one of so many blocks.
+fn any_held(holds: &Holds, channel: u8, name: &FileName, block: u16, count: u8) -> bool
+    requires { block + count < 2 ^ 16 }
+    ensures { result ≡ any_held holds.now.held 0 channel name.now block count }
+{
+    if count == 0 {
+        return false;
+    }
+    is_held(holds, 0, channel, name, block) || any_held(holds, channel, name, block + 1, count - 1)
+}
+
+/// A step, whether it is done, who holds each block then, and what each channel holds.
+type Row = (Step, bool, [u8; 4], (u16, u8), (u16, u8));
+
+static ROWS: [Row; 8] = [
+    (Step::Hold(1, 1, 2), true, [1, 1, 0, 0], (1, 2), (0, 0)),
+    (Step::Hold(2, 2, 2), false, [1, 1, 0, 0], (1, 2), (0, 0)),
+    (Step::Hold(2, 4, 1), true, [1, 1, 0, 2], (1, 2), (4, 1)),
+    (Step::Hold(1, 3, 2), false, [1, 1, 0, 2], (1, 2), (4, 1)),
+    (Step::Release(1), true, [0, 0, 0, 2], (0, 0), (4, 1)),
+    (Step::Hold(2, 2, 2), true, [0, 2, 2, 0], (0, 0), (2, 2)),
+    (Step::Hold(2, 1, 3), true, [2, 2, 2, 0], (0, 0), (1, 3)),
+    (Step::Hold(1, 3, 1), false, [2, 2, 2, 0], (0, 0), (1, 3)),
+];
+
+#[test]
+fn a_record_is_held_whole_or_not_at_all(rt: HostRuntime) -> Result<(), Fail> {
+    let mut desk = Desk::new(rt.alloc(), file(b"MASTER")?)?;
+    for (place, (step, done, holders, first, second)) in ROWS.iter().enumerate() {
+        let found = desk.does(*step);
+        assert_eq!(rt; found, *done, "row {place}");
+        assert_eq!(rt; desk.holders(), *holders, "row {place}");
+        assert_eq!(rt;
+            (desk.held(1), desk.held(2)),
+            (*first, *second),
+            "row {place}"
+        );
+    }
+    assert_eq!(rt; (desk.held(13), desk.held(255)), ((0, 0), (0, 0)));
+    Ok(())
+}
+
+fn named(project: u8, stem: &[u8]) -> Result<FileName, Fail> {
+    Ok(FileName {
+        owner: account(project, 1),
+        stem: short(stem)?,
+        extension: short(b"DAT")?,
+    })
+}
+
+#[test]
+fn an_owner_s_blocks_are_those_of_its_files(rt: HostRuntime) -> Result<(), Fail> {
+    let alloc = rt.alloc();
+    let page = Page::new(alloc).ok().ok_or("no page")?;
+    let mut disk = Disk::new(alloc, 8).ok().ok_or("no disk")?;
+    let (first, second, other) = (named(10, b"A")?, named(10, b"B")?, named(20, b"A")?);
+    for (name, block, own, others) in [
+        (first, 2, 2, 0),
+        (other, 1, 2, 1),
+        (second, 3, 5, 1),
+        (first, 1, 5, 1),
+        (other, 3, 5, 3),
+    ] {
+        let _ = disk.create(name, 60);
+        assert_eq!(rt; disk.write(&name, block, &page), Ok(()));
+        assert_eq!(rt; disk.used_by(account(10, 1)), own);
+        assert_eq!(rt; disk.used_by(account(20, 1)), others);
+    }
+    let full = Err(Trouble::Refused(Fault::new(4)));
+    assert_eq!(rt; disk.write(&first, 3, &page), full);
+    assert_eq!(rt; disk.remove(&second), Ok(()));
+    assert_eq!(rt; disk.used_by(account(10, 1)), 2);
+    assert_eq!(rt; disk.used_by(account(30, 1)), 0);
+    Ok(())
+}

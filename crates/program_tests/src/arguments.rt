@@ -1,0 +1,129 @@
+//! Arguments of functions of the program: as many as the parameters, and each of its kind.
+
+use crate::read::judged;
+use program_model::LowerCause;
+use std::alloc::Global;
+use std::test::Fail;
+
+static NUMBERS: [&str; 26] = [
+    "1%",
+    "I%",
+    "I%(1%)",
+    "(I%)",
+    "-I%",
+    "+I%",
+    "NOT I%",
+    "I%+J%",
+    "I%=J%",
+    "I$=J$",
+    "I$<'A'",
+    "LEN(I$)",
+    "ASCII(I$)",
+    "INSTR(1%,I$,J$)",
+    "VAL(I$)",
+    "CVT$%(I$)",
+    "SWAP%(1%)",
+    "ABS%(1%)",
+    "SGN(1%)",
+    "POS(0%)",
+    "ERR",
+    "ERL",
+    "RECOUNT",
+    "FNN%(1%)",
+    "FNT%('A')",
+    "FNN%(LEN(FNN$(1%)))",
+];
+
+static TEXTS: [&str; 19] = [
+    "'A'",
+    "I$",
+    "I$(1%,2%)",
+    "((I$))",
+    "I$+'A'",
+    "LEFT(I$,1%)",
+    "RIGHT$(I$,1%)",
+    "MID(I$,1%,1%)",
+    "CHR$(65%)",
+    "SPACE$(1%)",
+    "STRING$(1%,65%)",
+    "NUM1$(1%)",
+    "NUM$(1%)",
+    "CVT%$(1%)",
+    "XLATE(I$,J$)",
+    "SYS(I$)",
+    "FNN$(1%)",
+    "FNN$(FNT%('A'))+'B'",
+    "(I$+LEFT(J$,1%))",
+];
+
+/// What is told of a program whose line 40 gives a function this argument.
+fn told(alloc: Global, function: &str, argument: &str) -> Result<Option<(u16, LowerCause)>, Fail> {
+    let call = format!(in alloc; "A%={function}({argument})")?;
+    let lines: [&[u8]; 4] = [
+        b"DEF FNN%(X%)=X%",
+        b"DEF FNT%(X$)=1%",
+        b"DEF FNN$(X%)='A'",
+        call.as_bytes(),
+    ];
+    judged(alloc, &lines)
+}
+
+const UNFIT: Option<(u16, LowerCause)> = Some((40, LowerCause::Arguments));
+
+/// The first argument that does not fit its own function alone.
+fn first_misfit(
+    alloc: Global,
+    arguments: &[&str],
+    own: &str,
+    other: &str,
+) -> Result<Option<usize>, Fail> {
+    for (place, argument) in arguments.iter().enumerate() {
+        if told(alloc, own, argument)? != None || told(alloc, other, argument)? != UNFIT {
+            return Ok(Some(place));
+        }
+    }
+    Ok(None)
+}
+
+#[test]
+fn an_argument_has_the_kind_of_its_parameter(rt: HostRuntime) -> Result<(), Fail> {
+    let wrong = first_misfit(rt.alloc(), &NUMBERS, "FNN%", "FNT%")?;
+    assert_eq!(rt; wrong, None);
+    let wrong = first_misfit(rt.alloc(), &TEXTS, "FNT%", "FNN%")?;
+    assert_eq!(rt; wrong, None);
+    Ok(())
+}
+
+/// Arguments of a function with the parameters X%, Y$ and Z%, and whether they fit.
+static LISTS: [(&[u8], bool); 9] = [
+    (b"A%=FNA%(1%,'A',2%)", true),
+    (b"A%=FNA%('A',1%,2%)", false),
+    (b"A%=FNA%(1%,2%,3%)", false),
+    (b"A%=FNA%(1%,'A','B')", false),
+    (b"A%=FNA%(1%,'A')", false),
+    (b"A%=FNA%(1%,'A',2%,3%)", false),
+    (b"A%=FNA%", false),
+    (b"A%=FNA%(FNA%(1%,'A',2%),'A',2%)", true),
+    (b"A%=FNA%(FNA%(1%,2%,2%),'A',2%)", false),
+];
+
+fn first_wrong_list(alloc: Global) -> Result<Option<usize>, Fail> {
+    for (place, (line, fit)) in LISTS.iter().enumerate() {
+        let wanted = if *fit {
+            None
+        } else {
+            Some((20, LowerCause::Arguments))
+        };
+        if judged(alloc, &[b"DEF FNA%(X%,Y$,Z%)=X%+Z%", line])? != wanted {
+            return Ok(Some(place));
+        }
+    }
+    Ok(None)
+}
+
+#[test]
+fn each_argument_is_judged(rt: HostRuntime) -> Result<(), Fail> {
+    let wrong = first_wrong_list(rt.alloc())?;
+    assert_eq!(rt; wrong, None);
+    Ok(())
+}

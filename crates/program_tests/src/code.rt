@@ -1,0 +1,73 @@
+//! How many items code has, where its lines begin, and how many FORs there are.
+
+use crate::read::program_of;
+use basic_values::Trouble;
+use line_editor::ProgramText;
+use lowering::{loops_in_program, lower};
+use program_code::Code;
+use program_model::LowerRefusal;
+use std::alloc::Global;
+use std::test::Fail;
+
+/// The lines of a program, numbered 10 and 20; how many items it has, where line 20 begins, how
+/// many DATA items it has, and how many FORs.
+type Row = ([&'static [u8]; 2], (usize, usize, usize, usize));
+
+static ROWS: [Row; 8] = [
+    ([b"!", b"END"], (2, 0, 0, 0)),
+    ([b"GOTO 20", b"END"], (4, 2, 0, 0)),
+    ([b"DATA 1,A", b"DATA B"], (2, 1, 3, 0)),
+    ([b"A%=1%", b"END"], (6, 4, 0, 0)),
+    ([b"PRINT 1%", b"END"], (6, 4, 0, 0)),
+    ([b"FOR I%=1% TO 2%", b"NEXT I%"], (7, 5, 0, 1)),
+    ([b"A%=1% FOR I%=1% TO 2% IF A%=1%", b"END"], (17, 15, 0, 1)),
+    ([b"DEF FNA%(X%)=X%", b"PRINT FNA%(1%)"], (11, 6, 0, 0)),
+];
+
+fn code_of(answer: Result<Code, Trouble<LowerRefusal>>) -> Result<Code, Fail> {
+    match answer {
+        Ok(code) => Ok(code),
+        Err(_) => Err(Fail::from("there is no code")),
+    }
+}
+
+/// How many items a code has, where its line 20 begins, and how many DATA items it has.
+fn counts(code: &Code) -> (usize, usize, usize) {
+    (code.items().len(), code.place_of(20), code.words().len())
+}
+
+/// Whether line 10 begins at the first item, and a line behind the last one at the end.
+fn has_ends(code: &Code) -> bool {
+    code.place_of(10) == 0 && code.place_of(30) == code.items().len()
+}
+
+fn is_coded(alloc: Global, row: &Row) -> Result<bool, Fail> {
+    let (lines, (items, second, words, loops)) = row;
+    let text = program_of(alloc, lines)?;
+    let code = code_of(lower(alloc, text.program()))?;
+    let is_counted = counts(&code) == (*items, *second, *words);
+    Ok(is_counted && has_ends(&code) && has_loops(alloc, &text, *loops))
+}
+
+fn has_loops(alloc: Global, text: &ProgramText, loops: usize) -> bool {
+    match loops_in_program(alloc, text.program()) {
+        Ok(found) => found == loops,
+        Err(_) => false,
+    }
+}
+
+fn first_wrong(alloc: Global) -> Result<Option<usize>, Fail> {
+    for (place, row) in ROWS.iter().enumerate() {
+        if !is_coded(alloc, row)? {
+            return Ok(Some(place));
+        }
+    }
+    Ok(None)
+}
+
+#[test]
+fn code_has_its_items(rt: HostRuntime) -> Result<(), Fail> {
+    let wrong = first_wrong(rt.alloc())?;
+    assert_eq!(rt; wrong, None);
+    Ok(())
+}

@@ -1,0 +1,141 @@
+//! What a program finds that begins, and what is written where one ends.
+
+use basic_interpreter::Spot;
+use basic_tree::Name;
+use basic_values::{Fault, Halt, Int, Trouble};
+use entrances::{Exit, Running, Stack, Storage, clear, write_ending};
+use error_trap::Trap;
+use program_model::Home;
+use record_fields::Buffers;
+use std::alloc::Global;
+use std::test::Fail;
+use terminal_line::{Keys, Screen};
+
+const HOME: Home = Home {
+    start: 3,
+    behind: 4,
+    line: 10,
+};
+
+/// A job whose screen shows this.
+fn running(alloc: Global, shown: &[u8]) -> Result<Running, Fail> {
+    let mut screen = Screen::new(alloc);
+    screen.write(shown)?;
+    Ok(Running {
+        alloc,
+        storage: Storage::new(alloc, Buffers::new(alloc)?),
+        screen,
+        keys: Keys::new(alloc, &[])?,
+        trap: Trap::new(),
+        returns: Stack::new(alloc),
+        limits: Vec::new(alloc),
+        item: 5,
+        line: 10,
+        home: HOME,
+        frames: Stack::new(alloc),
+        exit: Trouble::Refused(Exit::Ended),
+    })
+}
+
+/// How a program ends, in few words.
+#[derive(Clone, Copy)]
+enum Why {
+    Division,
+    TooDeep,
+    Gone,
+    Ended,
+    Stopped,
+    StoppedInside,
+}
+
+fn exit(why: Why) -> Exit {
+    match why {
+        Why::Division => Exit::Fault(Fault::new(61)),
+        Why::TooDeep => Exit::Halt(Halt::TooDeep),
+        Why::Gone => Exit::Gone,
+        Why::Ended => Exit::Ended,
+        Why::Stopped => Exit::Stopped(Spot::new(3, HOME)),
+        Why::StoppedInside => Exit::StoppedInside(HOME),
+    }
+}
+
+/// What a screen shows before, the end and its line, and what the screen shows then.
+type Ending = (&'static [u8], Why, u16, &'static [u8]);
+
+static ENDINGS: [Ending; 8] = [
+    (b"", Why::Division, 20, b"?Division by 0 at line 20\r\n"),
+    (b"AB", Why::Division, 0, b"AB\r\n?Division by 0\r\n"),
+    (
+        b"A\r\n",
+        Why::TooDeep,
+        32767,
+        b"A\r\n?Nested too deep at line 32767\r\n",
+    ),
+    (b"A", Why::Gone, 20, b"A\r\n?Job expired\r\n"),
+    (b"A", Why::Ended, 20, b"A"),
+    (b"A", Why::Stopped, 30, b"A\r\nStop at line 30\r\n"),
+    (b"", Why::Stopped, 1, b"Stop at line 1\r\n"),
+    (b"", Why::StoppedInside, 40, b"Stop at line 40\r\n"),
+];
+
+fn is_told(alloc: Global, ending: &Ending) -> Result<bool, Fail> {
+    let mut state = running(alloc, ending.0)?;
+    state.line = ending.2;
+    write_ending(&mut state, exit(ending.1))?;
+    Ok(state.screen.bytes() == ending.3)
+}
+
+fn first_wrong(alloc: Global) -> Result<Option<usize>, Fail> {
+    for (place, ending) in ENDINGS.iter().enumerate() {
+        if !is_told(alloc, ending)? {
+            return Ok(Some(place));
+        }
+    }
+    Ok(None)
+}
+
+#[test]
+fn endings_are_told_at_the_start_of_a_line(rt: HostRuntime) -> Result<(), Fail> {
+    let wrong = first_wrong(rt.alloc())?;
+    assert_eq!(rt; wrong, None);
+    Ok(())
+}
+
+const A: Name = Name {
+    letter: b'A',
+    digit: None,
+    text: false,
+};
+
+/// A job in which a number, a handler and a place to return to are kept.
+fn kept(alloc: Global) -> Result<Running, Fail> {
+    let mut state = running(alloc, b"A")?;
+    if state.storage.set_number(A, Int::new(7)).is_err() {
+        return Err("the number is refused")?;
+    }
+    state.trap.handler = Some(100);
+    state.returns.push(Spot::new(3, HOME))?;
+    Ok(state)
+}
+
+/// Whether nothing is kept but the screen, and limits that let a FOR take no turn.
+fn is_cleared(state: &Running) -> bool {
+    state.storage.number(A) == Int::new(0)
+        && state.trap.handler == None
+        && state.returns.len() == 0
+        && state.item == 0
+        && state.screen.bytes() == b"A".as_slice()
+}
+
+fn has_limits(state: &Running) -> bool {
+    let limits = state.limits.as_slice();
+    limits.len() == 2 && limits[1].0 == Int::new(0) && limits[1].1 == Int::new(1)
+}
+
+#[test]
+fn a_program_begins_with_nothing_kept(rt: HostRuntime) -> Result<(), Fail> {
+    let mut state = kept(rt.alloc())?;
+    clear(&mut state, 2)?;
+    assert!(rt; is_cleared(&state) && has_limits(&state));
+    Ok(())
+}

@@ -1,0 +1,21 @@
+//! Tests of programs by public calls alone: how lowering refuses a program and what code it makes,
+//! the run of items by hand over a port that plays a script, the ways into a program, and which
+//! lines are of the stage.
+#![tactic(auto)]
+
+#[cfg(test)]
+mod arguments;
+#[cfg(test)]
+mod causes;
+#[cfg(test)]
+mod code;
+#[cfg(test)]
+mod endings;
+#[cfg(test)]
+mod forms;
+#[cfg(test)]
+mod read;
+#[cfg(test)]
+mod references;
+#[cfg(test)]
+mod runs;

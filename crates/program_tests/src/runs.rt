@@ -1,0 +1,313 @@
+//! What a run writes and asks, and how it ends.
+
+use basic_interpreter::{Clock, Exit, Running, Stack, Storage, run};
+use basic_tree::{Name, Operator, Series};
+use basic_values::{Halt, Trouble};
+use error_trap::Trap;
+use monitor_calls::{Reply, ScriptPort};
+use polish_code::Item;
+use program_code::Code;
+use program_model::Home;
+use record_fields::Buffers;
+use std::alloc::Global;
+use std::test::Fail;
+use terminal_line::{Keys, Screen};
+
+/// The state of a job before its program runs.
+fn at_rest(alloc: Global) -> Result<Running, Fail> {
+    Ok(Running {
+        alloc,
+        storage: Storage::new(alloc, Buffers::new(alloc)?),
+        screen: Screen::new(alloc),
+        keys: Keys::new(alloc, &[])?,
+        trap: Trap::new(),
+        returns: Stack::new(alloc),
+        limits: Vec::new(alloc),
+        item: 0,
+        line: 0,
+        home: home(0, 0, 0),
+        frames: Stack::new(alloc),
+        exit: Trouble::Refused(Exit::Ended),
+    })
+}
+
+fn home(start: u32, behind: u32, line: u16) -> Home {
+    Home {
+        start,
+        behind,
+        line,
+    }
+}
+
+fn name(letter: u8) -> Name {
+    Name {
+        letter,
+        digit: None,
+        text: false,
+    }
+}
+
+/// How a run ended.
+fn ending(answer: Result<(), Trouble<Exit>>) -> &'static str {
+    match answer {
+        Ok(()) => "left a body",
+        Err(Trouble::NoMemory) => "no memory",
+        Err(Trouble::Refused(exit)) => match exit {
+            Exit::Fault(_) => "fault",
+            Exit::Halt(Halt::TooDeep) => "too deep",
+            Exit::Halt(_) => "halt",
+            Exit::Gone => "gone",
+            Exit::Ended => "ended",
+            Exit::Stopped(_) => "stopped",
+            Exit::StoppedInside(_) => "stopped inside",
+        },
+    }
+}
+
+/// An item, in few words.
+#[derive(Clone, Copy)]
+enum Small {
+    /// The first item of the statement, what is behind it, and its line.
+    Start(u32, u32, u16),
+    /// The same where a body begins.
+    Arrive(u32, u32, u16),
+    Stop(u32, u32, u16),
+    Number(u16),
+    Plus,
+    LoadX,
+    /// A call of FNF% with the parameter X% or without, and its body's place.
+    Call(bool, u32),
+    PrintValue,
+    EndLine,
+    End,
+    Answer,
+    Skip,
+    Leave,
+    Jump,
+}
+
+fn item(alloc: Global, small: Small) -> Result<Item, Fail> {
+    match small {
+        Small::Start(start, behind, line) => Ok(Item::Start(home(start, behind, line))),
+        Small::Arrive(start, behind, line) => Ok(Item::Arrive(home(start, behind, line))),
+        Small::Stop(start, behind, line) => Ok(Item::Stop(home(start, behind, line))),
+        Small::Call(has_parameter, body) => call(alloc, has_parameter, body),
+        _ => Ok(plain(small)),
+    }
+}
+
+/// An item without a place of its own.
+fn plain(small: Small) -> Item {
+    match small {
+        Small::Number(number) => Item::Number(number),
+        Small::Plus => Item::Operate(Operator::Plus),
+        Small::LoadX => Item::Load(name(b'X')),
+        Small::PrintValue => Item::PrintValue,
+        Small::EndLine => Item::EndLine,
+        Small::Answer => Item::Answer,
+        Small::Skip => Item::Skip(0),
+        Small::Leave => Item::Leave,
+        Small::Jump => Item::Jump(0),
+        _ => Item::End,
+    }
+}
+
+fn call(alloc: Global, has_parameter: bool, body: u32) -> Result<Item, Fail> {
+    let mut parameters = Vec::new(alloc);
+    if has_parameter {
+        parameters.push(name(b'X'))?;
+    }
+    let count = parameters.len() as u32;
+    Ok(Item::Call {
+        function: name(b'F'),
+        parameters: Series::from_vec(parameters),
+        count,
+        body: Some(body),
+    })
+}
+
+fn items(alloc: Global, row: &[Small]) -> Result<Vec<Item>, Fail> {
+    let mut items = Vec::new(alloc);
+    for small in row {
+        items.push(item(alloc, *small)?)?;
+    }
+    Ok(items)
+}
+
+/// So many replies that let a job go on.
+fn done(alloc: Global, count: usize) -> Result<Vec<Reply>, Fail> {
+    let mut replies = Vec::new(alloc);
+    for _ in 0..count {
+        replies.push(Reply::Done)?;
+    }
+    Ok(replies)
+}
+
+/// What a run of items comes to.
+#[derive(Drop)]
+struct Ran {
+    ended: &'static str,
+    written: Vec<u8>,
+    asked: usize,
+    line: u16,
+    frames: usize,
+}
+
+/// Runs these items from the first one on, over a port with so many replies.
+fn ran(alloc: Global, items: Vec<Item>, replies: Vec<Reply>) -> Result<Ran, Fail> {
+    let code = Code::new(items, Vec::new(alloc), Vec::new(alloc));
+    let mut state = at_rest(alloc)?;
+    let mut clock = Clock::new();
+    let mut port = ScriptPort::new(alloc, replies);
+    let answer = run(&code, 0, &mut state, &mut clock, &mut port);
+    Ok(Ran {
+        ended: ending(answer),
+        written: state.screen.bytes().to_vec(alloc)?,
+        asked: port.log().len(),
+        line: state.line,
+        frames: state.frames.len(),
+    })
+}
+
+/// Items, how many replies there are, how the run ends, what it writes, how often it asks, and in
+/// which line it is then.
+type Row = (
+    &'static [Small],
+    usize,
+    &'static str,
+    &'static [u8],
+    usize,
+    u16,
+);
+
+/// Fails with how a run ended, unless it comes to this.
+fn expect(alloc: Global, row: &Row) -> Result<(), Fail> {
+    let ran = ran(alloc, items(alloc, row.0)?, done(alloc, row.1)?)?;
+    let is_written = ran.written.as_slice() == row.3;
+    if ran.ended == row.2 && is_written && (ran.asked, ran.line, ran.frames) == (row.4, row.5, 0) {
+        Ok(())
+    } else {
+        Err(Fail::from(ran.ended))
+    }
+}
+
+static SUM: Row = (
+    &[
+        Small::Start(0, 6, 10),
+        Small::Number(2),
+        Small::Number(3),
+        Small::Plus,
+        Small::PrintValue,
+        Small::EndLine,
+    ],
+    0,
+    "ended",
+    b" 5 \r\n",
+    0,
+    10,
+);
+
+#[test]
+fn a_sum_is_printed(rt: HostRuntime) -> Result<(), Fail> {
+    expect(rt.alloc(), &SUM)
+}
+
+/// A function of one line gives the value of its parameter and one.
+static CALLED: Row = (
+    &[
+        Small::Start(0, 5, 10),
+        Small::Number(4),
+        Small::Call(true, 6),
+        Small::PrintValue,
+        Small::EndLine,
+        Small::End,
+        Small::Arrive(6, 11, 20),
+        Small::LoadX,
+        Small::Number(1),
+        Small::Plus,
+        Small::Answer,
+        Small::Skip,
+        Small::Leave,
+    ],
+    0,
+    "ended",
+    b" 5 \r\n",
+    0,
+    10,
+);
+
+#[test]
+fn a_function_is_called(rt: HostRuntime) -> Result<(), Fail> {
+    expect(rt.alloc(), &CALLED)
+}
+
+static STOPPED_INSIDE: Row = (
+    &[
+        Small::Start(0, 5, 10),
+        Small::Number(4),
+        Small::Call(true, 6),
+        Small::PrintValue,
+        Small::EndLine,
+        Small::End,
+        Small::Arrive(6, 11, 20),
+        Small::LoadX,
+        Small::Number(1),
+        Small::Plus,
+        Small::Answer,
+        Small::Stop(6, 11, 20),
+        Small::Leave,
+    ],
+    0,
+    "stopped inside",
+    b"",
+    0,
+    20,
+);
+
+#[test]
+fn it_stops_in_a_body(rt: HostRuntime) -> Result<(), Fail> {
+    expect(rt.alloc(), &STOPPED_INSIDE)
+}
+
+static STOPPED: Row = (
+    &[Small::Start(0, 2, 10), Small::Stop(0, 2, 10)],
+    0,
+    "stopped",
+    b"",
+    0,
+    10,
+);
+
+#[test]
+fn it_stops(rt: HostRuntime) -> Result<(), Fail> {
+    expect(rt.alloc(), &STOPPED)
+}
+
+static TOO_DEEP: Row = (
+    &[Small::Start(0, 2, 10), Small::Call(false, 1), Small::Leave],
+    0,
+    "too deep",
+    b"",
+    0,
+    10,
+);
+
+#[test]
+fn calls_end_too_deep(rt: HostRuntime) -> Result<(), Fail> {
+    expect(rt.alloc(), &TOO_DEEP)
+}
+
+/// A job whose third Tick is not answered.
+static TICKS: Row = (
+    &[Small::Start(0, 2, 10), Small::Jump],
+    2,
+    "gone",
+    b"",
+    3,
+    10,
+);
+
+#[test]
+fn ticks_end_a_run(rt: HostRuntime) -> Result<(), Fail> {
+    expect(rt.alloc(), &TICKS)
+}

@@ -1,0 +1,278 @@
+//! One key line each: what it shows before the login and behind it.
+
+use crate::talks::{
+    Answer, FLOATING_LITERAL, FLOATING_NAME, HELLO, ILLEGAL_COMMAND, ILLEGAL_NAME, ILLEGAL_NUMBER,
+    IMMEDIATE, NOT_IN_STAGE, OPEN_STRING, Row, STRAY_BYTE, SYNTAX, TOO_DEEP, TOO_WIDE,
+    expect_of_lines, expect_of_user, expect_of_users, expect_of_visitor, expect_of_visitors,
+    expect_talk,
+};
+use std::alloc::Global;
+use std::test::Fail;
+
+static BEFORE: [Row; 15] = [
+    ("", "Please say HELLO\n"),
+    (" \t ", "Please say HELLO\n"),
+    ("^Z", "Please say HELLO\n"),
+    ("^Z ", "Please say HELLO\n"),
+    ("PRINT 2%+3%", "Please say HELLO\n"),
+    ("PRINT", "Please say HELLO\n"),
+    ("HELLOX 100,5;DEMO", "Please say HELLO\n"),
+    ("HELL 100,5;DEMO", "Please say HELLO\n"),
+    ("100,5;DEMO", "Please say HELLO\n"),
+    ("BYES", "Please say HELLO\n"),
+    ("CAFÉ", "Please say HELLO\n"),
+    ("BYE X", "?Illegal command\nReady\n"),
+    (" bye1", "?Illegal command\nReady\n"),
+    ("BYE", ""),
+    (" bye \t", ""),
+];
+
+#[test]
+fn lines_before_the_login(rt: HostRuntime) -> Result<(), Fail> {
+    expect_of_visitors(rt.alloc(), &BEFORE)?;
+    expect_talk(rt.alloc(), &["BYE", HELLO], &[Answer::Done], "BYE\n", "")?;
+    let shown = "BYE X\n?Illegal command\nReady\nHELLO 100,5;DEMO\nReady\nBye\n";
+    let log = "Login 100,5;DEMO Done\nLogout Expired\n";
+    let answers = [Answer::Done, Answer::Expired];
+    expect_talk(rt.alloc(), &["BYE X", HELLO], &answers, shown, log)
+}
+
+static BEHIND: [Row; 21] = [
+    ("", ""),
+    ("  \t", ""),
+    ("^Z", ""),
+    (" ^Z", ""),
+    ("HELLO", "?Already logged in\nReady\n"),
+    ("hello 100,6;OTHER", "?Already logged in\nReady\n"),
+    ("BYE X", "?Illegal command\nReady\n"),
+    ("BYE;", "?Illegal command\nReady\n"),
+    ("GOTO 10", IMMEDIATE),
+    ("  A%=1", "Ready\n"),
+    ("!", "Ready\n"),
+    ("^Z ", FLOATING_NAME),
+    ("^z", FLOATING_NAME),
+    ("BYES", FLOATING_NAME),
+    ("CAFÉ", FLOATING_NAME),
+    ("A$=1.5", FLOATING_LITERAL),
+    ("A%=40000", TOO_WIDE),
+    ("A$='B\"", OPEN_STRING),
+    ("&", STRAY_BYTE),
+    ("A%=", SYNTAX),
+    ("GOTO 0", SYNTAX),
+];
+
+#[test]
+fn lines_behind_the_login(rt: HostRuntime) -> Result<(), Fail> {
+    expect_of_users(rt.alloc(), &BEHIND)
+}
+
+/// A line, and the sum that it prints.
+static SUMS: [Row; 11] = [
+    ("PRINT 2%+3%", " 5 "),
+    ("print2+3", " 5 "),
+    ("PRINT 0", " 0 "),
+    ("  Print\t 2%  +\t3  ", " 5 "),
+    ("PRINT 00002%+1", " 3 "),
+    ("PRINT 000000000000032767", " 32767 "),
+    ("PRINT 32767%+1%", "-32768 "),
+    ("PRINT 32767+32767", "-2 "),
+    ("PRINT 32767+32767+2", " 0 "),
+    ("PRINT 32767+32767+32767", " 32765 "),
+    ("PRINT 1+2+3+4+5+6+7+8+9+10", " 55 "),
+];
+
+fn expect_sum(alloc: Global, line: &str, sum: &str) -> Result<(), Fail> {
+    let shown = format!(in alloc; "{sum}\nReady\n")?;
+    expect_of_user(alloc, line, shown.as_str())
+}
+
+#[test]
+fn sums_are_printed(rt: HostRuntime) -> Result<(), Fail> {
+    for (line, sum) in SUMS.iter() {
+        expect_sum(rt.alloc(), line, sum)?;
+    }
+    Ok(())
+}
+
+static PRINTING: [Row; 20] = [
+    ("PRINT", "\nReady\n"),
+    ("PRINT +1", " 1 \nReady\n"),
+    ("PRINT -1", "-1 \nReady\n"),
+    ("PRINT 2*3", " 6 \nReady\n"),
+    ("PRINT A%", " 0 \nReady\n"),
+    ("PRINT 1;2", " 1  2 \nReady\n"),
+    ("PRINT 1:", " 1 \nReady\n"),
+    ("PRINT 1!", " 1 \nReady\n"),
+    ("PRINT 'A';", "A\nReady\n"),
+    ("PRINT 32768", TOO_WIDE),
+    ("PRINT 1+32768", TOO_WIDE),
+    ("PRINT 18446744073709551617", TOO_WIDE),
+    ("PRINT 1 2", SYNTAX),
+    ("PRINT 1+", SYNTAX),
+    ("2+3", SYNTAX),
+    ("PRINT 2 %", STRAY_BYTE),
+    ("PRINT %2", STRAY_BYTE),
+    ("PRINT 2.0", FLOATING_LITERAL),
+    ("PRINTX 1", FLOATING_NAME),
+    ("PR INT 1", FLOATING_NAME),
+];
+
+#[test]
+fn lines_of_print(rt: HostRuntime) -> Result<(), Fail> {
+    expect_of_users(rt.alloc(), &PRINTING)
+}
+
+static FOR_PROGRAMS: [&str; 17] = [
+    "GOTO 10",
+    "GOSUB 10",
+    "IF 1% THEN 10",
+    "ON 1% GOTO 10",
+    "RETURN",
+    "RESUME",
+    "STOP",
+    "FOR I%=1% TO 2%",
+    "NEXT I%",
+    "DATA 1",
+    "DIM A%(5%)",
+    "DEF FNA%=1%",
+    "FNEND",
+    "FNA%=1%",
+    "PRINT FNA%(1%)",
+    "ON ERROR GOTO 10",
+    "ON ERROR GOTO 0",
+];
+
+#[test]
+fn lines_that_are_for_programs(rt: HostRuntime) -> Result<(), Fail> {
+    for line in FOR_PROGRAMS.iter() {
+        expect_of_user(rt.alloc(), line, IMMEDIATE)?;
+    }
+    Ok(())
+}
+
+static ON_FILES: [&str; 5] = ["OLD", "SAVE", "REPLACE", "UNSAVE", " save"];
+
+/// What stands behind a word of a command on files is its name, and a longer word is none.
+fn expect_word(alloc: Global, word: &str) -> Result<(), Fail> {
+    let behind = format!(in alloc; "{word}& 1.5 \"")?;
+    expect_of_user(alloc, behind.as_str(), ILLEGAL_NAME)?;
+    let longer = format!(in alloc; "{word}Q")?;
+    expect_of_user(alloc, longer.as_str(), FLOATING_NAME)
+}
+
+static TAILS_OF_CAT: [&str; 11] = [
+    " X", " 0,1", " 255,1", " 1,255", " [1,2", " 1,2]", " [1,2]X", " 1/2", "[]", " $", " 01,2",
+];
+
+fn expect_no_cat(alloc: Global, tail: &str) -> Result<(), Fail> {
+    let line = format!(in alloc; "CAT{tail}")?;
+    expect_of_user(alloc, line.as_str(), ILLEGAL_COMMAND)
+}
+
+static WORDS: [Row; 3] = [
+    ("OLD", ILLEGAL_COMMAND),
+    (" old \t", ILLEGAL_COMMAND),
+    ("CATQ", FLOATING_NAME),
+];
+
+#[test]
+fn words_of_commands_on_files(rt: HostRuntime) -> Result<(), Fail> {
+    for word in ON_FILES.iter() {
+        expect_word(rt.alloc(), word)?;
+    }
+    for tail in TAILS_OF_CAT.iter() {
+        expect_no_cat(rt.alloc(), tail)?;
+    }
+    expect_of_users(rt.alloc(), &WORDS)
+}
+
+static LATER: [&str; 8] = [
+    "OPEN 'A' AS FILE 1%",
+    "CLOSE 1%",
+    "PRINT #1%,'A'",
+    "IF 0% THEN KILL 'A'",
+    "SLEEP 1%",
+    "CHAIN 'A'",
+    "A%=RECOUNT",
+    "PRINT SYS('A')",
+];
+
+fn expect_later(alloc: Global, statement: &str) -> Result<(), Fail> {
+    expect_of_user(alloc, statement, NOT_IN_STAGE)?;
+    let line = format!(in alloc; "10 {statement}")?;
+    let lines = [(line.as_str(), NOT_IN_STAGE), ("LISTNH", "Ready\n")];
+    expect_of_lines(alloc, &lines)
+}
+
+#[test]
+fn statements_of_a_later_stage(rt: HostRuntime) -> Result<(), Fail> {
+    for statement in LATER.iter() {
+        expect_later(rt.alloc(), statement)?;
+    }
+    Ok(())
+}
+
+static PROGRAM_LINES: [Row; 16] = [
+    ("10", ""),
+    ("10 ", ""),
+    ("10 PRINT 1", ""),
+    (" 10 PRINT 1%", ""),
+    ("32767 GOTO 10", ""),
+    ("00001STOP", ""),
+    ("0", ILLEGAL_NUMBER),
+    ("0 PRINT 1", ILLEGAL_NUMBER),
+    ("32768 PRINT 1", ILLEGAL_NUMBER),
+    ("99999999999999999999 PRINT A", ILLEGAL_NUMBER),
+    ("10PRINT A", FLOATING_NAME),
+    ("10 LIST", FLOATING_NAME),
+    ("10.5", STRAY_BYTE),
+    ("10%", STRAY_BYTE),
+    ("10 20", SYNTAX),
+    ("10 PRINT 1.5", FLOATING_LITERAL),
+];
+
+#[test]
+fn program_lines(rt: HostRuntime) -> Result<(), Fail> {
+    expect_of_users(rt.alloc(), &PROGRAM_LINES)
+}
+
+/// A front, so many times a part, a middle, and so many times an end.
+fn nested(
+    alloc: Global,
+    front: &str,
+    part: &str,
+    times: usize,
+    middle: &str,
+    end: &str,
+) -> Result<String, Fail> {
+    let mut line = String::from_str(alloc, front)?;
+    for _ in 0..times {
+        line.push_str(part)?;
+    }
+    line.push_str(middle)?;
+    for _ in 0..times {
+        line.push_str(end)?;
+    }
+    Ok(line)
+}
+
+fn expect_of_levels(alloc: Global, levels: usize, shown: &str) -> Result<(), Fail> {
+    let line = nested(alloc, "PRINT ", "(", levels, "1", ")")?;
+    expect_of_user(alloc, line.as_str(), shown)
+}
+
+#[test]
+fn levels_of_nesting(rt: HostRuntime) -> Result<(), Fail> {
+    expect_of_levels(rt.alloc(), 64, " 1 \nReady\n")?;
+    expect_of_levels(rt.alloc(), 65, TOO_DEEP)
+}
+
+/// Lines of 255 bytes, the most that there are.
+#[test]
+fn the_longest_lines(rt: HostRuntime) -> Result<(), Fail> {
+    let sum = nested(rt.alloc(), "PRINT 1", "+1", 124, "", "")?;
+    let hello = nested(rt.alloc(), "HELLO", "1", 250, "", "")?;
+    assert_eq!(rt; (sum.len(), hello.len()), (255, 255));
+    expect_of_user(rt.alloc(), sum.as_str(), " 125 \nReady\n")?;
+    expect_of_visitor(rt.alloc(), hello.as_str(), "Invalid entry - try again\n")
+}

@@ -1,0 +1,5 @@
+pub mod ListSteps
+pub mod Parts
+pub mod RangeSteps
+pub mod Steps
+pub mod TargetSteps

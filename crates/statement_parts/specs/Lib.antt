@@ -1,0 +1,4 @@
+pub mod Forms
+pub mod Items
+pub mod Reading
+pub mod Sentences

@@ -1,0 +1,20 @@
+use Rattle.std.proofs.Common.{rules, ◌∙◌, false, arith}
+use Rattle.basic_tree.specs.MachineSentences.{dim_form}
+use Rattle.statement_parts.proofs.Steps.{states_on_from}
+use Rattle.statement_rows.specs.declared.rests.Rest.TheVariants as rest
+use Rattle.statement_rows.specs.Rests.{rest_form}
+use Rattle.statement_rows.proofs.rests.dim.Goals as goal
+
+pub returns-then-if_sign : goal.returns-then-if_sign
+returns-then-if_sign c =
+    states_on_from c.args.levels c.args.words.now c.args.from _ dim_form (rest_form rest.DimFile) c.stated.result
+    (omega (arith, c.in_ok-at.ensures.0.0))
+    (λ k vs. c.in_ok-at.ensures.1 c.args.levels _ k vs ∙ c.if-if_sign.ensures.stands.1 c.args.levels _ _ k vs)
+    c.stated.ensures
+
+pub returns : goal.returns
+returns c =
+    states_on_from c.args.levels c.args.words.now c.args.from _ dim_form (rest_form rest.DimArrays) c.stated-2.result
+    c.in_ok-at.ensures.0.0
+    (λ k vs. c.in_ok-at.ensures.1 c.args.levels _ k vs ∙ c.if-if_sign.ensures.stands c.args.levels false _ _ k vs)
+    c.stated-2.ensures

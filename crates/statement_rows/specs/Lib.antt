@@ -1,0 +1,5 @@
+pub mod OptionForms
+pub mod Pieces
+pub mod Rests
+pub mod Rows
+pub mod Slots

@@ -1,0 +1,14 @@
+-- The forms of OPEN's options that have no name in the grammar.
+use Rattle.std.specs.Prelude.{Option, Some, None}
+use Rattle.basic_tree.specs.declared.kinds.Want.TheVariants as want
+use Rattle.basic_tree.specs.Trees.{Tree}
+use Rattle.basic_tree.specs.MachineStack.{Form, ExprOf}
+use Rattle.basic_tree.specs.MachineForms.{cluster_form, mode_form}
+
+-- behind RECORDSIZE
+abbrev pub recorded_form : (Option Tree → Option Tree → Option Tree → Form) → Form
+recorded_form g = ExprOf want.Number (λ n. cluster_form (g (Some n)))
+
+-- behind CLUSTERSIZE, where no RECORDSIZE stands before it
+abbrev pub clustered_form : (Option Tree → Option Tree → Option Tree → Form) → Form
+clustered_form g = ExprOf want.Number (λ n. mode_form (g None (Some n)))

@@ -1,0 +1,87 @@
+-- The rows of statements by their first words: what stands behind the word, and the statement that is made of it.
+use Rattle.std.specs.Prelude.{◌≡◌, ℕ, Bool, true, false, List, [], ◌∷◌, Option, Some, None}
+use Rattle.basic_tree.specs.declared.tokens.Keyword.{Keyword}
+use Rattle.basic_tree.specs.declared.tokens.Keyword.TheVariants as keyword
+use Rattle.basic_tree.specs.declared.tokens.Sign.TheVariants as sign
+use Rattle.basic_tree.specs.declared.kinds.Want.TheVariants as want
+use Rattle.basic_tree.specs.Trees.{StatementTree, For, Next, FnEnd, Data, Let, Read, Restore, Goto, Gosub, Resume, Open, Close, Field, Return, Stop, End, Sleep, Get, Put, Unlock, Lset, Rset, Kill, Rename}
+use Rattle.basic_tree.specs.MachineStack.{Form, TakeKey}
+use Rattle.basic_tree.specs.MachineForms.{says}
+use Rattle.statement_rows.specs.declared.piece.Piece.{Piece}
+use Rattle.statement_rows.specs.declared.piece.Piece.TheVariants as piece
+use Rattle.statement_rows.specs.Pieces.{row_form}
+use Rattle.statement_rows.specs.Slots.{SlotTrees, behind_first, first_option, first_tree, nothing_read}
+
+-- what stands behind a word whose statement is a row
+abbrev pub row_of : Keyword → Option (List Piece)
+row_of keyword.For = Some (piece.Range ∷ [])
+row_of keyword.Next = Some (piece.Variable want.Number ∷ [])
+row_of keyword.FnEnd = Some []
+row_of keyword.Data = Some (piece.Items ∷ [])
+row_of keyword.Let = Some (piece.Assigned ∷ [])
+row_of keyword.Read = Some (piece.Targets ∷ [])
+row_of keyword.Restore = Some []
+row_of keyword.Goto = Some (piece.Line ∷ [])
+row_of keyword.Gosub = Some (piece.Line ∷ [])
+row_of keyword.Go = Some (piece.Either keyword.To keyword.Sub ∷ piece.Line ∷ [])
+row_of keyword.Return = Some []
+row_of keyword.Resume = Some (piece.PerhapsLine ∷ [])
+row_of keyword.Stop = Some []
+row_of keyword.End = Some []
+row_of keyword.Sleep = Some (piece.Value want.Number ∷ [])
+row_of keyword.Open =
+    Some (piece.Value want.Text ∷ piece.Purpose ∷ piece.Key keyword.As ∷ piece.Key keyword.File
+    ∷ piece.Mark sign.Hash ∷ piece.Value want.Number ∷ piece.OpenOptions ∷ [])
+row_of keyword.Close = Some (piece.Channels ∷ [])
+row_of keyword.Get = Some (piece.Sign sign.Hash ∷ piece.Value want.Number ∷ piece.Option keyword.Record ∷ [])
+row_of keyword.Put = Some (piece.Sign sign.Hash ∷ piece.Value want.Number ∷ piece.Option keyword.Record ∷ [])
+row_of keyword.Unlock = Some (piece.Sign sign.Hash ∷ piece.Value want.Number ∷ [])
+row_of keyword.Field = Some (piece.Sign sign.Hash ∷ piece.Value want.Number ∷ piece.Sign sign.Comma ∷ piece.Fields ∷ [])
+row_of keyword.Lset = Some (piece.Variable want.Text ∷ piece.Sign sign.Equal ∷ piece.Value want.Text ∷ [])
+row_of keyword.Rset = Some (piece.Variable want.Text ∷ piece.Sign sign.Equal ∷ piece.Value want.Text ∷ [])
+row_of keyword.Kill = Some (piece.Value want.Text ∷ [])
+row_of keyword.Name = Some (piece.Value want.Text ∷ piece.Key keyword.As ∷ piece.Value want.Text ∷ [])
+row_of other = None
+
+-- GO TO or GO SUB
+abbrev pub gone : Bool → ℕ → StatementTree
+gone true line = Goto true line
+gone false line = Gosub true line
+
+-- OPEN of what was read behind it
+abbrev pub opened : SlotTrees → StatementTree
+opened s =
+    Open (first_tree s.values) s.purpose s.mark (first_tree (behind_first s.values))
+    (first_option s.options) (first_option (behind_first s.options)) (first_option (behind_first (behind_first s.options)))
+
+-- the statement of such a word and of what was read behind it
+abbrev pub built : Keyword → SlotTrees → StatementTree
+built keyword.For s = For s.variable (first_tree s.values) (first_tree (behind_first s.values)) (first_option s.options)
+built keyword.Next s = Next s.variable
+built keyword.FnEnd s = FnEnd
+built keyword.Data s = Data s.items
+built keyword.Let s = Let true s.targets (first_tree s.values)
+built keyword.Read s = Read s.targets
+built keyword.Restore s = Restore
+built keyword.Goto s = Goto false s.number
+built keyword.Gosub s = Gosub false s.number
+built keyword.Go s = gone s.mark s.number
+built keyword.Return s = Return
+built keyword.Resume s = Resume s.perhaps_line
+built keyword.Stop s = Stop
+built keyword.Sleep s = Sleep (first_tree s.values)
+built keyword.Open s = opened s
+built keyword.Close s = Close s.channels
+built keyword.Get s = Get (first_tree s.values) (first_option s.options)
+built keyword.Put s = Put (first_tree s.values) (first_option s.options)
+built keyword.Unlock s = Unlock (first_tree s.values)
+built keyword.Field s = Field (first_tree s.values) s.fields
+built keyword.Lset s = Lset s.variable (first_tree s.values)
+built keyword.Rset s = Rset s.variable (first_tree s.values)
+built keyword.Kill s = Kill (first_tree s.values)
+built keyword.Name s = Rename (first_tree s.values) (first_tree (behind_first s.values))
+built other s = End
+
+-- the form of a statement of such a word and its row
+abbrev pub statement_form : Keyword → List Piece → Form
+statement_form k row = TakeKey false k (row_form row nothing_read (λ s. says (built k s)))

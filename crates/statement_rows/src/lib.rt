@@ -1,0 +1,23 @@
+//! Statements as rows: what stands behind a first word is a list of pieces, which one function
+//! reads, and the statement is made of what was read.
+//!
+//! It stands on `statement_parts`, whose calls read the pieces. A row is the grammar's form of its
+//! statement, word for word: `by_row` promises that form. `rows` has the table by the first word,
+//! `rests` that of what stands behind two words; a new statement is a line in each list of one.
+#![tactic(auto)]
+
+mod lists;
+mod open_options;
+mod optional;
+mod part;
+mod piece;
+mod reader;
+mod rests;
+mod rows;
+mod slots;
+mod source;
+mod wholes;
+
+pub use piece::Piece;
+pub use rests::{dim, input, on};
+pub use rows::{by_row, row_of};

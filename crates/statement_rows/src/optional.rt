@@ -1,0 +1,179 @@
+//! Pieces that may stand or not, and choices: each says what stood there.
+
+ghost use Rattle.std.specs.Prelude.{◌≤◌, length};
+ghost use Rattle.statement_rows.specs.declared.piece.Piece.TheVariants as piece;
+ghost use Rattle.statement_rows.specs.Pieces.{PieceRead};
+
+use crate::open_options::{option, options};
+use crate::part::Part;
+use basic_expr::{Failure, Words};
+use basic_tree::{Keyword, OpenFor, Sign, Want};
+use statement_parts::{
+    Literal, Read, expression, if_key, if_literal, if_sign, take_key, take_sign,
+};
+use std::alloc::Global;
+
+/// Which of two words stands there, and the place behind it.
+#[tactic(auto)]
+pub fn either(
+    words: &Words<'_>,
+    from: usize,
+    first: Keyword,
+    second: Keyword,
+    levels: usize,
+) -> Result<Read<Option<Part>>, Failure>
+    requires { from ≤ length words.now }
+    ensures { PieceRead levels words.now from (piece.Either first second) result }
+{
+    if if_key(words, from, first) {
+        return Ok(Read {
+            value: Some(Part::Mark(true)),
+            end: from + 1,
+        });
+    }
+    let end = take_key(words, from, second)?;
+    Ok(Read {
+        value: Some(Part::Mark(false)),
+        end,
+    })
+}
+
+/// Whether a sign stands there, and the place behind it.
+#[tactic(auto)]
+pub fn mark(
+    words: &Words<'_>,
+    from: usize,
+    sign: Sign,
+    levels: usize,
+) -> Result<Read<Option<Part>>, Failure>
+    requires { from ≤ length words.now }
+    ensures { PieceRead levels words.now from (piece.Mark sign) result }
+{
+    if if_sign(words, from, sign) {
+        return Ok(Read {
+            value: Some(Part::Mark(true)),
+            end: from + 1,
+        });
+    }
+    Ok(Read {
+        value: Some(Part::Mark(false)),
+        end: from,
+    })
+}
+
+/// A comma, a word and a number, where a comma stands there; and the place behind them.
+#[tactic(auto)]
+pub fn perhaps_number(
+    alloc: Global,
+    words: &Words<'_>,
+    from: usize,
+    key: Keyword,
+    levels: usize,
+) -> Result<Read<Option<Part>>, Failure>
+    requires { from ≤ length words.now }
+    ensures { PieceRead levels words.now from (piece.Option key) result }
+{
+    let Read { value: found, end } = option(alloc, words, from, key, levels)?;
+    Ok(Read {
+        value: Some(Part::Perhaps(found)),
+        end,
+    })
+}
+
+/// A channel in `#` and a comma, where `#` stands there; and the place behind them.
+#[tactic(auto)]
+pub fn perhaps_channel(
+    alloc: Global,
+    words: &Words<'_>,
+    from: usize,
+    levels: usize,
+) -> Result<Read<Option<Part>>, Failure>
+    requires { from ≤ length words.now }
+    ensures { PieceRead levels words.now from piece.PerhapsChannel result }
+{
+    if if_sign(words, from, Sign::Hash) {
+        let Read {
+            value: channel,
+            end: named,
+        } = expression(alloc, words, from + 1, Want::Number, levels)?;
+        let end = take_sign(words, named, Sign::Comma)?;
+        return Ok(Read {
+            value: Some(Part::Perhaps(Some(channel))),
+            end,
+        });
+    }
+    Ok(Read {
+        value: Some(Part::Perhaps(None)),
+        end: from,
+    })
+}
+
+/// The number of a line or 0, where it stands there; and the place behind it.
+#[tactic(auto)]
+pub fn perhaps_line(
+    words: &Words<'_>,
+    from: usize,
+    levels: usize,
+) -> Result<Read<Option<Part>>, Failure>
+    requires { from ≤ length words.now }
+    ensures { PieceRead levels words.now from piece.PerhapsLine result }
+{
+    match if_literal(words, from, Literal::Bound) {
+        Some(line) => Ok(Read {
+            value: Some(Part::PerhapsLine(Some(line))),
+            end: from + 1,
+        }),
+        None => Ok(Read {
+            value: Some(Part::PerhapsLine(None)),
+            end: from,
+        }),
+    }
+}
+
+/// FOR INPUT or FOR OUTPUT, where FOR stands there; and the place behind it.
+#[tactic(auto)]
+pub fn purpose(
+    words: &Words<'_>,
+    from: usize,
+    levels: usize,
+) -> Result<Read<Option<Part>>, Failure>
+    requires { from ≤ length words.now }
+    ensures { PieceRead levels words.now from piece.Purpose result }
+{
+    if if_key(words, from, Keyword::For) {
+        let at = from + 1;
+        if if_key(words, at, Keyword::Input) {
+            return Ok(Read {
+                value: Some(Part::Purpose(OpenFor::Input)),
+                end: at + 1,
+            });
+        }
+        let end = take_key(words, at, Keyword::Output)?;
+        return Ok(Read {
+            value: Some(Part::Purpose(OpenFor::Output)),
+            end,
+        });
+    }
+    Ok(Read {
+        value: Some(Part::Purpose(OpenFor::Either)),
+        end: from,
+    })
+}
+
+/// The options of OPEN, as far as they stand there; and the place behind them.
+#[tactic(auto)]
+pub fn open_options(
+    alloc: Global,
+    words: &Words<'_>,
+    from: usize,
+    levels: usize,
+) -> Result<Read<Option<Part>>, Failure>
+    requires { from ≤ length words.now }
+    ensures { PieceRead levels words.now from piece.OpenOptions result }
+{
+    let Read { value: found, end } = options(alloc, words, from, levels)?;
+    Ok(Read {
+        value: Some(Part::OpenOptions(found)),
+        end,
+    })
+}

@@ -1,0 +1,38 @@
+//! What the pieces of statements give.
+
+use crate::open_options::OpenOptions;
+use basic_tree::{
+    CloseChannel, Expr, FieldPart, FileShape, Name, OpenFor, Prompt, Series, Shape, Target,
+};
+use basic_values::Text;
+use statement_parts::{Assigned, LoopRange};
+
+/// Where INPUT reads, and what it writes first.
+#[derive(Drop)]
+pub struct Source {
+    pub channel: Option<Expr>,
+    pub prompt: Option<Prompt>,
+}
+
+/// What one piece gives.
+#[derive(Drop)]
+pub enum Part {
+    Mark(bool),
+    Value(Expr),
+    Perhaps(Option<Expr>),
+    Variable(Name),
+    Number(u16),
+    PerhapsLine(Option<u16>),
+    Purpose(OpenFor),
+    OpenOptions(OpenOptions),
+    Source(Source),
+    Range(LoopRange),
+    Assigned(Assigned),
+    Targets(Series<Target>),
+    Channels(Series<CloseChannel>),
+    Fields(Series<FieldPart>),
+    Lines(Series<u16>),
+    Items(Series<Text>),
+    Shapes(Series<Shape>),
+    FileShapes(Series<FileShape>),
+}

@@ -1,0 +1,54 @@
+//! The pieces of statements.
+
+use basic_tree::{Keyword, Sign, Want};
+
+/// What may stand at a place of a statement.
+#[derive(Clone, Copy, PartialEq, Eq)]
+pub enum Piece {
+    /// This word.
+    Key(Keyword),
+    /// This sign.
+    Sign(Sign),
+    /// One of two words. Gives whether it is the first.
+    Either(Keyword, Keyword),
+    /// This sign, or nothing. Gives whether it stands there.
+    Mark(Sign),
+    /// An expression of this kind.
+    Value(Want),
+    /// A comma, this word and a number, or nothing.
+    Option(Keyword),
+    /// `#`, a channel and a comma, or nothing.
+    PerhapsChannel,
+    /// The name of a variable of this kind.
+    Variable(Want),
+    /// The number of a line.
+    Line,
+    /// The number of a line or 0, or nothing.
+    PerhapsLine,
+    /// A literal from 0 to 32767.
+    Bound,
+    /// FOR INPUT or FOR OUTPUT, or nothing.
+    Purpose,
+    /// The options of OPEN, as far as they stand there.
+    OpenOptions,
+    /// Where INPUT reads: a channel, or behind a prompt, or neither.
+    Source,
+    /// The variable of a loop and the values that it takes.
+    Range,
+    /// Targets of one kind, `=` and the value that they take.
+    Assigned,
+    /// One or more variables and elements.
+    Targets,
+    /// One or more channels, each perhaps with its `#`.
+    Channels,
+    /// One or more parts of a record.
+    Fields,
+    /// One or more numbers of lines.
+    Lines,
+    /// One or more items of DATA.
+    Items,
+    /// One or more arrays with their bounds.
+    Shapes,
+    /// One or more arrays of a file.
+    FileShapes,
+}

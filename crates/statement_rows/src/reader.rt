@@ -1,0 +1,114 @@
+//! One function that reads any row.
+
+ghost use Rattle.std.specs.Prelude.{◌≡◌, ℕ, [], ◌+◌, ◌<◌, ◌≤◌, length, option_map};
+ghost use Rattle.statement_rows.specs.Pieces.{PieceRead, RowRead};
+
+use crate::lists::{channels, fields, file_shapes, lines, shapes, targets};
+use crate::optional::{
+    either, mark, open_options, perhaps_channel, perhaps_line, perhaps_number, purpose,
+};
+use crate::part::Part;
+use crate::piece::Piece;
+use crate::slots::Slots;
+use crate::source::source;
+use crate::wholes::{assigned, items, looped};
+use basic_expr::{Failure, Words};
+use statement_parts::{Literal, Read, expression, literal, name, take_key, take_sign};
+use std::alloc::Global;
+
+/// What a piece gives at a place, and the place behind it.
+#[tactic(auto)]
+fn read_piece(
+    alloc: Global,
+    words: &Words<'_>,
+    from: usize,
+    piece: Piece,
+    levels: usize,
+) -> Result<Read<Option<Part>>, Failure>
+    requires { from ≤ length words.now }
+    ensures { PieceRead levels words.now from piece result }
+{
+    match piece {
+        Piece::Key(key) => {
+            let end = take_key(words, from, key)?;
+            Ok(Read { value: None, end })
+        }
+        Piece::Sign(sign) => {
+            let end = take_sign(words, from, sign)?;
+            Ok(Read { value: None, end })
+        }
+        Piece::Either(first, second) => either(words, from, first, second, levels),
+        Piece::Mark(sign) => mark(words, from, sign, levels),
+        Piece::Value(want) => {
+            let Read { value, end } = expression(alloc, words, from, want, levels)?;
+            Ok(Read {
+                value: Some(Part::Value(value)),
+                end,
+            })
+        }
+        Piece::Option(key) => perhaps_number(alloc, words, from, key, levels),
+        Piece::PerhapsChannel => perhaps_channel(alloc, words, from, levels),
+        Piece::Variable(want) => {
+            let Read {
+                value: variable,
+                end,
+            } = name(words, from, want)?;
+            Ok(Read {
+                value: Some(Part::Variable(variable)),
+                end,
+            })
+        }
+        Piece::Line => {
+            let Read { value: line, end } = literal(words, from, Literal::LineNumber)?;
+            Ok(Read {
+                value: Some(Part::Number(line)),
+                end,
+            })
+        }
+        Piece::PerhapsLine => perhaps_line(words, from, levels),
+        Piece::Bound => {
+            let Read { value: bound, end } = literal(words, from, Literal::Bound)?;
+            Ok(Read {
+                value: Some(Part::Number(bound)),
+                end,
+            })
+        }
+        Piece::Purpose => purpose(words, from, levels),
+        Piece::OpenOptions => open_options(alloc, words, from, levels),
+        Piece::Source => source(alloc, words, from, levels),
+        Piece::Range => looped(alloc, words, from, levels),
+        Piece::Assigned => assigned(alloc, words, from, levels),
+        Piece::Targets => targets(alloc, words, from, levels),
+        Piece::Channels => channels(alloc, words, from, levels),
+        Piece::Fields => fields(alloc, words, from, levels),
+        Piece::Lines => lines(alloc, words, from, levels),
+        Piece::Items => items(alloc, words, from, levels),
+        Piece::Shapes => shapes(alloc, words, from, levels),
+        Piece::FileShapes => file_shapes(alloc, words, from, levels),
+    }
+}
+
+/// What the pieces of a row give from a place on, and the place behind them.
+#[tactic(auto, using(crate::proofs::RowSteps::reading))]
+pub fn row(
+    alloc: Global,
+    words: &Words<'_>,
+    from: usize,
+    row: &[Piece],
+    levels: usize,
+) -> Result<Read<Slots>, Failure>
+    requires { from ≤ length words.now }
+    ensures { RowRead levels words.now from row.now result }
+{
+    let mut end = from;
+    let mut slots = Slots::new(alloc);
+    'pieces: for next in row {
+        let Read {
+            value: part,
+            end: behind,
+        } = read_piece(alloc, words, end, *next, levels)?;
+        slots.add(part)?;
+        end = behind;
+    }
+    Ok(Read { value: slots, end })
+}

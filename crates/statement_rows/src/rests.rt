@@ -1,0 +1,160 @@
+//! Statements whose second word chooses what stands behind it: ON, DIM and INPUT.
+
+ghost use Rattle.std.specs.Prelude.{◌≡◌, ℕ, ◌+◌, ◌<◌, ◌≤◌, length};
+ghost use Rattle.basic_tree.specs.MachineSentences.{dim_form, input_form, on_form};
+ghost use Rattle.basic_tree.specs.StatementViews.{statement_of};
+ghost use Rattle.statement_parts.specs.Reading.{States, StatesFrom};
+ghost use Rattle.statement_rows.specs.Rests.{on_lines, rest_built, rest_form, rest_row};
+ghost use Rattle.statement_rows.specs.Slots.{slots_of};
+ghost use Rattle.basic_tree.specs.TreeViews.{tree_of};
+
+use crate::piece::Piece;
+use crate::reader::row;
+use crate::slots::{Slots, next_option, next_value};
+use basic_expr::{Failure, Words};
+use basic_tree::{Expr, Keyword, Series, Sign, Statement, Want};
+use statement_parts::{Read, if_key, if_sign, take_key};
+use std::alloc::Global;
+
+/// What stands behind the words that were read.
+#[derive(Clone, Copy, PartialEq, Eq)]
+pub enum Rest {
+    /// Behind ON ERROR.
+    OnError,
+    /// Behind another ON.
+    OnLines,
+    /// Behind the `#` of a DIM.
+    DimFile,
+    /// Behind another DIM.
+    DimArrays,
+    /// Behind INPUT LINE.
+    InputLine,
+    /// Behind another INPUT.
+    InputTargets,
+}
+
+/// The row of such a rest.
+fn rest_row(rest: Rest) -> &'static [Piece]
+    ensures { result.now ≡ rest_row rest }
+{
+    match rest {
+        Rest::OnError => &[Piece::Key(Keyword::Goto), Piece::PerhapsLine],
+        Rest::OnLines => &[
+            Piece::Value(Want::Number),
+            Piece::Either(Keyword::Goto, Keyword::Gosub),
+            Piece::Lines,
+        ],
+        Rest::DimFile => &[Piece::Bound, Piece::Sign(Sign::Comma), Piece::FileShapes],
+        Rest::DimArrays => &[Piece::Shapes],
+        Rest::InputLine => &[Piece::PerhapsChannel, Piece::Variable(Want::Text)],
+        Rest::InputTargets => &[Piece::Source, Piece::Targets],
+    }
+}
+
+/// ON .. GOTO or ON .. GOSUB.
+fn on_lines(goto: bool, selector: Expr, lines: Series<u16>) -> Statement
+    ensures { statement_of result ≡ on_lines goto (tree_of selector) lines }
+{
+    if goto {
+        Statement::OnGoto { selector, lines }
+    } else {
+        Statement::OnGosub { selector, lines }
+    }
+}
+
+/// The statement of such a rest, of what was read of it.
+fn build(rest: Rest, mut slots: Slots) -> Statement
+    ensures { statement_of result ≡ rest_built rest (slots_of slots) }
+{
+    match rest {
+        Rest::OnError => Statement::OnErrorGoto(slots.perhaps_line),
+        Rest::OnLines => on_lines(slots.mark, next_value(&mut slots.values), slots.lines),
+        Rest::DimFile => Statement::DimFile {
+            channel: slots.number,
+            shapes: slots.file_shapes,
+        },
+        Rest::DimArrays => Statement::Dim(slots.shapes),
+        Rest::InputLine => Statement::InputLine {
+            channel: next_option(&mut slots.options),
+            variable: slots.variable,
+        },
+        Rest::InputTargets => Statement::Input {
+            channel: next_option(&mut slots.options),
+            prompt: slots.prompt,
+            targets: slots.targets,
+        },
+    }
+}
+
+/// The statement of such a rest, and the place behind it.
+#[tactic(auto, using(crate::proofs::RowSteps::making))]
+fn stated(
+    alloc: Global,
+    words: &Words<'_>,
+    from: usize,
+    rest: Rest,
+    levels: usize,
+) -> Result<Read<Statement>, Failure>
+    requires { from ≤ length words.now }
+    ensures { StatesFrom levels words.now from (rest_form rest) result }
+{
+    let Read { value: slots, end } = row(alloc, words, from, rest_row(rest), levels)?;
+    Ok(Read {
+        value: build(rest, slots),
+        end,
+    })
+}
+
+/// ON ERROR GOTO; or ON, a selector, GOTO or GOSUB, and the lines.
+#[tactic(auto)]
+pub fn on(
+    alloc: Global,
+    words: &Words<'_>,
+    from: usize,
+    levels: usize,
+) -> Result<Read<Statement>, Failure>
+    requires { from ≤ length words.now }
+    ensures { States levels words.now from on_form result }
+{
+    let at = take_key(words, from, Keyword::On)?;
+    if if_key(words, at, Keyword::Error) {
+        return stated(alloc, words, at + 1, Rest::OnError, levels);
+    }
+    stated(alloc, words, at, Rest::OnLines, levels)
+}
+
+/// DIM and its arrays, perhaps those in the file of a channel.
+#[tactic(auto)]
+pub fn dim(
+    alloc: Global,
+    words: &Words<'_>,
+    from: usize,
+    levels: usize,
+) -> Result<Read<Statement>, Failure>
+    requires { from ≤ length words.now }
+    ensures { States levels words.now from dim_form result }
+{
+    let at = take_key(words, from, Keyword::Dim)?;
+    if if_sign(words, at, Sign::Hash) {
+        return stated(alloc, words, at + 1, Rest::DimFile, levels);
+    }
+    stated(alloc, words, at, Rest::DimArrays, levels)
+}
+
+/// INPUT: LINE and a variable, or perhaps a channel or a prompt, and the targets.
+#[tactic(auto)]
+pub fn input(
+    alloc: Global,
+    words: &Words<'_>,
+    from: usize,
+    levels: usize,
+) -> Result<Read<Statement>, Failure>
+    requires { from ≤ length words.now }
+    ensures { States levels words.now from input_form result }
+{
+    let at = take_key(words, from, Keyword::Input)?;
+    if if_key(words, at, Keyword::Line) {
+        return stated(alloc, words, at + 1, Rest::InputLine, levels);
+    }
+    stated(alloc, words, at, Rest::InputTargets, levels)
+}

@@ -1,0 +1,133 @@
+//! What was read of a statement, by kinds.
+
+ghost use Rattle.std.specs.Prelude.{◌≡◌, [], ◌++◌, ◌∷◌, OnOk, map, option_map};
+ghost use Rattle.basic_tree.specs.TreeViews.{tree_of};
+ghost use Rattle.statement_rows.specs.Slots.{added, behind_first, first_option, first_tree, nothing_read, part_of, slots_of};
+
+use crate::part::Part;
+use basic_tree::{
+    CloseChannel, Expr, FieldPart, FileShape, Name, OpenFor, Prompt, Series, Shape, Target,
+};
+use basic_values::{NoMemory, Text};
+use std::alloc::Global;
+
+/// What was read: expressions in their order, and of each other kind the last. A kind that no piece
+/// gave has a default.
+#[derive(Drop)]
+pub struct Slots {
+    pub values: Vec<Expr>,
+    pub options: Vec<Option<Expr>>,
+    pub mark: bool,
+    pub variable: Name,
+    pub number: u16,
+    pub perhaps_line: Option<u16>,
+    pub purpose: OpenFor,
+    pub prompt: Option<Prompt>,
+    pub targets: Series<Target>,
+    pub channels: Series<CloseChannel>,
+    pub fields: Series<FieldPart>,
+    pub lines: Series<u16>,
+    pub items: Series<Text>,
+    pub shapes: Series<Shape>,
+    pub file_shapes: Series<FileShape>,
+}
+
+impl Slots {
+    /// Nothing was read yet.
+    pub fn new(alloc: Global) -> Slots
+        ensures { slots_of result ≡ nothing_read }
+    {
+        Slots {
+            values: Vec::new(alloc),
+            options: Vec::new(alloc),
+            mark: false,
+            variable: Name {
+                letter: b'A',
+                digit: None,
+                text: false,
+            },
+            number: 0,
+            perhaps_line: None,
+            purpose: OpenFor::Either,
+            prompt: None,
+            targets: Series::from_vec(Vec::new(alloc)),
+            channels: Series::from_vec(Vec::new(alloc)),
+            fields: Series::from_vec(Vec::new(alloc)),
+            lines: Series::from_vec(Vec::new(alloc)),
+            items: Series::from_vec(Vec::new(alloc)),
+            shapes: Series::from_vec(Vec::new(alloc)),
+            file_shapes: Series::from_vec(Vec::new(alloc)),
+        }
+    }
+
+    /// One more part, or none.
+    #[tactic(auto, using(crate::proofs::SlotSteps::adding))]
+    pub fn add(&mut self, part: Option<Part>) -> Result<(), NoMemory>
+        ensures { OnOk result (slots_of self.new ≡
+            added (slots_of self.old) (option_map part_of part)) }
+    {
+        match part {
+            None => {}
+            Some(Part::Mark(mark)) => self.mark = mark,
+            Some(Part::Value(value)) => self.values.push(value)?,
+            Some(Part::Perhaps(value)) => self.options.push(value)?,
+            Some(Part::Variable(name)) => self.variable = name,
+            Some(Part::Number(number)) => self.number = number,
+            Some(Part::PerhapsLine(line)) => self.perhaps_line = line,
+            Some(Part::Purpose(purpose)) => self.purpose = purpose,
+            Some(Part::OpenOptions(options)) => {
+                self.options.push(options.record_size)?;
+                self.options.push(options.cluster_size)?;
+                self.options.push(options.mode)?;
+            }
+            Some(Part::Source(source)) => {
+                self.options.push(source.channel)?;
+                self.prompt = source.prompt;
+            }
+            Some(Part::Range(range)) => {
+                self.variable = range.variable;
+                self.values.push(range.start)?;
+                self.values.push(range.limit)?;
+                self.options.push(range.step)?;
+            }
+            Some(Part::Assigned(assigned)) => {
+                self.targets = assigned.targets;
+                self.values.push(assigned.value)?;
+            }
+            Some(Part::Targets(targets)) => self.targets = targets,
+            Some(Part::Channels(channels)) => self.channels = channels,
+            Some(Part::Fields(fields)) => self.fields = fields,
+            Some(Part::Lines(lines)) => self.lines = lines,
+            Some(Part::Items(items)) => self.items = items,
+            Some(Part::Shapes(shapes)) => self.shapes = shapes,
+            Some(Part::FileShapes(shapes)) => self.file_shapes = shapes,
+        }
+        Ok(())
+    }
+}
+
+/// The first of the expressions, which is taken from them.
+#[tactic(auto, using(crate::proofs::SlotSteps::taking))]
+pub fn next_value(values: &mut Vec<Expr>) -> Expr
+    ensures first { tree_of result ≡ first_tree (map tree_of values.old.items) }
+    ensures others { map tree_of values.new.items ≡ behind_first (map tree_of values.old.items) }
+{
+    if values.is_empty() {
+        return Expr::Literal(0);
+    }
+    values.remove(0)
+}
+
+/// The first of the expressions that may be missing, which is taken from them.
+#[tactic(auto, using(crate::proofs::SlotSteps::taking))]
+pub fn next_option(options: &mut Vec<Option<Expr>>) -> Option<Expr>
+    ensures first { option_map tree_of result ≡
+        first_option (map (option_map tree_of) options.old.items) }
+    ensures others { map (option_map tree_of) options.new.items ≡
+        behind_first (map (option_map tree_of) options.old.items) }
+{
+    if options.is_empty() {
+        return None;
+    }
+    options.remove(0)
+}
