@@ -6,12 +6,7 @@ use monitor_calls::{Account, AccountEntry};
 use std::alloc::Global;
 use std::test::Fail;
 
-fn entry(
-    account: Account,
-    password: &[u8],
-    limit: u16,
-    quota: u16,
-) -> Result<AccountEntry, Fail> {
+fn entry(account: Account, password: &[u8], limit: u16, quota: u16) -> Result<AccountEntry, Fail> {
     Ok(AccountEntry {
         account,
         password: short(password)?,

@@ -68,13 +68,19 @@ static ROWS: [(u32, Step, u8); 26] = [
     (1, Step::Assign, 0),
 ];
 
+fn first_wrong(printer: &mut Printer) -> Option<usize> {
+    for (place, (job, step, number)) in ROWS.iter().enumerate() {
+        if refused(printer, *job, *step) != *number {
+            return Some(place);
+        }
+    }
+    None
+}
+
 #[test]
 fn the_printer_is_one_job_s(rt: HostRuntime) -> Result<(), Fail> {
-    let mut printer = Printer::new();
-    for (place, (job, step, number)) in ROWS.iter().enumerate() {
-        let found = refused(&mut printer, *job, *step);
-        assert_eq!(rt; found, *number, "row {place}");
-    }
+    let wrong = first_wrong(&mut Printer::new());
+    assert_eq!(rt; wrong, None);
     Ok(())
 }
 

@@ -5,7 +5,7 @@ ghost use Rattle.monitor_model.specs.Holds.{any_held};
 
 use crate::interlock::is_held;
 use crate::names::{account, file, short};
-use basic_values::{Fault, NoMemory, Trouble};
+use basic_values::{NoMemory, Trouble};
 use block_files::Disk;
 use block_interlock::Holds;
 use monitor_calls::{FileName, Page};
@@ -107,20 +107,29 @@ static ROWS: [Row; 8] = [
     (Step::Hold(1, 3, 1), false, [2, 2, 2, 0], (0, 0), (1, 3)),
 ];
 
+/// Whether a step leaves what its row says.
+fn is_left(desk: &mut Desk, row: &Row) -> bool {
+    let (step, done, holders, first, second) = row;
+    let is_done = desk.does(*step) == *done;
+    is_done && desk.holders() == *holders && (desk.held(1), desk.held(2)) == (*first, *second)
+}
+
+fn first_wrong(desk: &mut Desk) -> Option<usize> {
+    for (place, row) in ROWS.iter().enumerate() {
+        if !is_left(desk, row) {
+            return Some(place);
+        }
+    }
+    None
+}
+
 #[test]
 fn a_record_is_held_whole_or_not_at_all(rt: HostRuntime) -> Result<(), Fail> {
     let mut desk = Desk::new(rt.alloc(), file(b"MASTER")?)?;
-    for (place, (step, done, holders, first, second)) in ROWS.iter().enumerate() {
-        let found = desk.does(*step);
-        assert_eq!(rt; found, *done, "row {place}");
-        assert_eq!(rt; desk.holders(), *holders, "row {place}");
-        assert_eq!(rt;
-            (desk.held(1), desk.held(2)),
-            (*first, *second),
-            "row {place}"
-        );
-    }
-    assert_eq!(rt; (desk.held(13), desk.held(255)), ((0, 0), (0, 0)));
+    let wrong = first_wrong(&mut desk);
+    assert_eq!(rt; wrong, None);
+    let beyond = (desk.held(13), desk.held(255));
+    assert_eq!(rt; beyond, ((0, 0), (0, 0)));
     Ok(())
 }
 
@@ -132,28 +141,62 @@ fn named(project: u8, stem: &[u8]) -> Result<FileName, Fail> {
     })
 }
 
+/// A file by its owner's project and its stem, the block of it that is written, and how many blocks
+/// the owners [10,1] and [20,1] have then.
+static OWNED: [(u8, &[u8], u16, (u32, u32)); 5] = [
+    (10, b"A", 2, (2, 0)),
+    (20, b"A", 1, (2, 1)),
+    (10, b"B", 3, (5, 1)),
+    (10, b"A", 1, (5, 1)),
+    (20, b"A", 3, (5, 3)),
+];
+
+/// The number by which a write is refused; 0 where it is done. A file that is not there is made.
+fn refused(
+    alloc: Global,
+    disk: &mut Disk,
+    project: u8,
+    stem: &[u8],
+    block: u16,
+) -> Result<u8, Fail> {
+    let (name, page) = (named(project, stem)?, Page::new(alloc)?);
+    let _ = disk.create(name, 60);
+    match disk.write(&name, block, &page) {
+        Ok(()) => Ok(0),
+        Err(Trouble::Refused(fault)) => Ok(fault.number()),
+        Err(Trouble::NoMemory) => Err("no memory")?,
+    }
+}
+
+fn used(disk: &Disk) -> (u32, u32) {
+    (disk.used_by(account(10, 1)), disk.used_by(account(20, 1)))
+}
+
+fn first_wrong_write(alloc: Global, disk: &mut Disk) -> Result<Option<usize>, Fail> {
+    for (place, (project, stem, block, blocks)) in OWNED.iter().enumerate() {
+        if refused(alloc, disk, *project, stem, *block)? != 0 || used(disk) != *blocks {
+            return Ok(Some(place));
+        }
+    }
+    Ok(None)
+}
+
+/// What owners have when a file of one has been taken away.
+fn used_behind_removal(disk: &mut Disk) -> Result<(u32, u32), Fail> {
+    if disk.remove(&named(10, b"B")?).is_err() {
+        return Err("the file is not taken away")?;
+    }
+    Ok(used(disk))
+}
+
 #[test]
 fn an_owner_s_blocks_are_those_of_its_files(rt: HostRuntime) -> Result<(), Fail> {
-    let alloc = rt.alloc();
-    let page = Page::new(alloc).ok().ok_or("no page")?;
-    let mut disk = Disk::new(alloc, 8).ok().ok_or("no disk")?;
-    let (first, second, other) = (named(10, b"A")?, named(10, b"B")?, named(20, b"A")?);
-    for (name, block, own, others) in [
-        (first, 2, 2, 0),
-        (other, 1, 2, 1),
-        (second, 3, 5, 1),
-        (first, 1, 5, 1),
-        (other, 3, 5, 3),
-    ] {
-        let _ = disk.create(name, 60);
-        assert_eq!(rt; disk.write(&name, block, &page), Ok(()));
-        assert_eq!(rt; disk.used_by(account(10, 1)), own);
-        assert_eq!(rt; disk.used_by(account(20, 1)), others);
-    }
-    let full = Err(Trouble::Refused(Fault::new(4)));
-    assert_eq!(rt; disk.write(&first, 3, &page), full);
-    assert_eq!(rt; disk.remove(&second), Ok(()));
-    assert_eq!(rt; disk.used_by(account(10, 1)), 2);
-    assert_eq!(rt; disk.used_by(account(30, 1)), 0);
+    let mut disk = Disk::new(rt.alloc(), 8)?;
+    let wrong = first_wrong_write(rt.alloc(), &mut disk)?;
+    assert_eq!(rt; wrong, None);
+    let full = refused(rt.alloc(), &mut disk, 10, b"A", 3)?;
+    assert_eq!(rt; full, 4);
+    let left = used_behind_removal(&mut disk)?;
+    assert_eq!(rt; (left, disk.used_by(account(30, 1))), ((2, 3), 0));
     Ok(())
 }
