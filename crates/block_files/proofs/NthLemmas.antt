@@ -14,7 +14,7 @@ abbrev owned_by : Account → List File → List File
 owned_by owner files = filter (λ (file : File). same_account file.name.owner owner) files
 
 module _ (es : List Entry) (owner : Account) (place : ℕ) where
-  pub rest_at : (name : FileName) (v : FileBody) → Some (name, v) ≡ slice_get es place → drop place es ≡ (name, v) ∷ drop (place + 1) es
+  rest_at : (name : FileName) (v : FileBody) → Some (name, v) ≡ slice_get es place → drop place es ≡ (name, v) ∷ drop (place + 1) es
   rest_at name v e =
       let at : slice_get es place ≡ Some (name, v) = sym e in
       drop_more es place (name, v) (slice_get_within es place (name, v) at) ∙ ap (λ x. x ∷ drop (place + 1) es) (get_or_from_slice_get es place (name, v) (name, v) at)

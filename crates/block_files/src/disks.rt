@@ -1,33 +1,23 @@
-//! The disk.
+//! The disk, which counts what each owner has.
 
-ghost use Rattle.std.specs.Prelude.{ℕ, ◌≡◌, ◌+◌, ◌-◌, ◌<◌, ◌≤◌, true, false, not, ◌&&◌, nat_le, [], length, replicate, is_some, option_map, vec_capacity, IfOk, IsOk, OnOk, OnErr};
-ghost use Rattle.basic_values.specs.declared.limits.TheConstants.{MOST_FILES};
-ghost use Rattle.monitor_calls.specs.FileNames.{same_name};
-ghost use Rattle.monitor_calls.specs.Pages.{zeros};
+ghost use Rattle.std.specs.Prelude.{◌≡◌, true, [], is_some, option_map, IfOk, IsOk, OnOk, OnErr};
 ghost use Rattle.monitor_model.specs.Refusals.{RefusedBy, RefusedByOrNoMemory};
-ghost use Rattle.monitor_model.specs.Files.{size, file_at, nth_of, page_at, is_block, size_at, blocks_of, blocks_owned, remove, make, remake, rename, empty_file, is_file, put};
+ghost use Rattle.monitor_model.specs.Files.{size, file_at, nth_of, page_at, is_block, blocks_owned, remove, make, remake, rename, empty_file, put};
 ghost use Rattle.block_files.specs.Calls.{create_refusals, there_refusals, rename_refusals, read_refusals, write_refusals};
-ghost use Rattle.block_files.specs.Disks.{times, IsLaidOut, place_of};
-ghost use Rattle.block_files.specs.Rows.{cleared, first_places, grow_file, set_page};
+ghost use Rattle.block_files.specs.Disks.{IsLaidOut, place_of};
 
-use crate::bodies::{
-    Directory, FileBody, add_places, body_of, make_room, place_in, put_last, take_out,
-};
-use basic_values::errors::{END_OF_FILE, ILLEGAL_BYTE_COUNT, NAME_EXISTS, NO_ROOM, NO_SUCH_FILE};
-use basic_values::limits::MOST_FILES;
+use crate::owners::Owners;
+use crate::stores::Store;
 use basic_values::{Fault, NoMemory, Trouble};
-use indexmap::IndexMap;
 use monitor_calls::{Account, FileName, Page};
 use std::alloc::Global;
 use std::marker::Model;
 
-/// A disk: a page for each of its blocks, the free places, and the files in the order of making.
+/// A disk: what it stores, and how many blocks the files of each owner have.
 #[derive(Drop)]
 pub struct Disk {
-    alloc: Global,
-    pages: Vec<Page>,
-    free: Vec<u16>,
-    files: Directory,
+    store: Store,
+    owners: Owners,
 }
 
 impl Model for Disk {
@@ -35,13 +25,11 @@ impl Model for Disk {
 
     ghost Value = { DiskValue };
 
-    ghost use Rattle.std.specs.Prelude.{vec_capacity};
-    ghost use Rattle.block_files.specs.Rows.{disk_of, IsKept};
+    ghost use Rattle.block_files.specs.Owners.{AreCounted};
 
-    ghost view = { λ d. disk_of d.pages.items d.free.items d.files.entries };
+    ghost view = { λ d. d.store };
 
-    ghost invariant = { λ d.
-        IsKept d.pages.items d.free.items (vec_capacity d.free) d.files.entries };
+    ghost invariant = { λ d. AreCounted d.owners d.store.files };
 }
 
 impl Disk {
@@ -50,67 +38,37 @@ impl Disk {
         ensures blocks { IfOk result (λ d. d.blocks ≡ blocks) }
         ensures files { IfOk result (λ d. d.files ≡ []) }
     {
-        let pages = zero_pages(alloc, blocks)?;
-        let free = all_places(alloc, blocks)?;
-        Ok(Disk {
-            alloc,
-            pages,
-            free,
-            files: IndexMap::new(alloc),
-        })
+        let store = Store::new(alloc, blocks)?;
+        let owners = Owners::new(alloc)?;
+        Ok(Disk { store, owners })
     }
 
     /// The size of a file in blocks. None where it is not there.
     pub fn size(&self, name: &FileName) -> Option<u16>
         ensures { result ≡ option_map size (file_at self.now.files name.now) }
     {
-        match body_of(&self.files, name) {
-            Some(body) => Some(body.places.len() as u16),
-            None => None,
-        }
+        self.store.size(name)
     }
 
     /// The code of a file. None where it is not there.
     pub fn code(&self, name: &FileName) -> Option<u8>
         ensures { result ≡ option_map (λ file. file.code) (file_at self.now.files name.now) }
     {
-        match body_of(&self.files, name) {
-            Some(body) => Some(body.code),
-            None => None,
-        }
+        self.store.code(name)
     }
 
     /// The name of the file at an index among those of an owner, in the order of making.
     pub fn nth(&self, owner: Account, index: u16) -> Option<FileName>
         ensures { result ≡ option_map (λ file. file.name) (nth_of self.now.files owner index) }
     {
-        let mut left = index;
-        for place in 0..self.files.len() {
-            if let Some((name, _)) = self.files.get_index(place) {
-                if name.owner == owner {
-                    if left == 0 {
-                        return Some(*name);
-                    }
-                    left -= 1;
-                }
-            }
-        }
-        None
+        self.store.nth(owner, index)
     }
 
-    /// How many blocks the files of an owner have. It reads each file's entry once.
+    /// How many blocks the files of an owner have. It is counted as they change, and not here.
     pub fn used_by(&self, owner: Account) -> u32
         ensures { result ≡ blocks_owned self.now.files owner }
     {
-        let mut used = 0;
-        for place in 0..self.files.len() {
-            if let Some((name, body)) = self.files.get_index(place) {
-                if name.owner == owner {
-                    used += body.places.len() as u32;
-                }
-            }
-        }
-        used
+        u32::from(self.owners.count(owner))
     }
 
     /// The place of a block among the disk's pages.
@@ -119,10 +77,7 @@ impl Disk {
         ensures some { is_some result ≡ is_block self.now.files name.now block }
         ensures laid_out { IsLaidOut self.now }
     {
-        match body_of(&self.files, name) {
-            Some(body) => place_in(body.places.as_slice(), block),
-            None => None,
-        }
+        self.store.place(name, block)
     }
 
     /// Copies a block of a file into the page.
@@ -131,14 +86,7 @@ impl Disk {
         ensures ok { OnOk result (page_at self.now.files name.now block ≡ Some page.new) }
         ensures err { OnErr result (page.new ≡ page.old) }
     {
-        if !self.is_file(name) {
-            return Err(Fault::new(NO_SUCH_FILE));
-        }
-        if !self.is_block(name, block) {
-            return Err(Fault::new(END_OF_FILE));
-        }
-        self.copy_block(name, block, page);
-        Ok(())
+        self.store.read(name, block, page)
     }
 
     /// Makes an empty file, the last one.
@@ -148,14 +96,7 @@ impl Disk {
         ensures err { OnErr result (self.new ≡ self.old) }
         ensures blocks { self.new.blocks ≡ self.old.blocks }
     {
-        if self.is_file(&name) {
-            return refused(NAME_EXISTS);
-        }
-        if self.is_full() {
-            return refused(NO_ROOM);
-        }
-        self.add(name, code)?;
-        Ok(())
+        self.store.create(name, code)
     }
 
     /// Takes a file out, and its places are free. It takes no memory.
@@ -165,11 +106,12 @@ impl Disk {
         ensures err { OnErr result (self.new ≡ self.old) }
         ensures blocks { self.new.blocks ≡ self.old.blocks }
     {
-        if !self.is_file(name) {
-            return Err(Fault::new(NO_SUCH_FILE));
+        let size = self.store.size_at(name);
+        let done = self.store.remove(name);
+        if done.is_ok() {
+            self.owners.less(name.owner, size);
         }
-        self.take(name);
-        Ok(())
+        done
     }
 
     /// Makes a file anew: empty, with this code, the last one.
@@ -179,11 +121,12 @@ impl Disk {
         ensures err { OnErr result (self.new ≡ self.old) }
         ensures blocks { self.new.blocks ≡ self.old.blocks }
     {
-        if !self.is_file(name) {
-            return refused(NO_SUCH_FILE);
+        let size = self.store.size_at(name);
+        let done = self.store.remake(name, code);
+        if done.is_ok() {
+            self.owners.less(name.owner, size);
         }
-        self.make_anew(name, code)?;
-        Ok(())
+        done
     }
 
     /// Gives a file another name and a code. It stands last, also where the name stays.
@@ -193,14 +136,15 @@ impl Disk {
         ensures err { OnErr result (self.new ≡ self.old) }
         ensures blocks { self.new.blocks ≡ self.old.blocks }
     {
-        if !self.is_file(old) {
-            return refused(NO_SUCH_FILE);
+        let size = self.store.size_at(old);
+        let owner = new.owner;
+        let done = self.store.rename(old, new, code);
+        if done.is_ok() {
+            self.store.fits();
+            self.owners.less(old.owner, size);
+            self.owners.more(owner, size);
         }
-        if self.is_file(&new) && !new.is_same(old) {
-            return refused(NAME_EXISTS);
-        }
-        self.move_last(old, new, code)?;
-        Ok(())
+        done
     }
 
     /// Writes a block of a file. Past its end the file grows; blocks that are skipped are zeros.
@@ -211,188 +155,12 @@ impl Disk {
         ensures blocks { self.new.blocks ≡ self.old.blocks }
         ensures within { is_block self.old.files name.now block ≡ true → IsOk result }
     {
-        if !self.is_file(name) {
-            return refused(NO_SUCH_FILE);
+        let more = self.store.missing(name, block);
+        let done = self.store.write(name, block, page);
+        if done.is_ok() {
+            self.store.fits();
+            self.owners.more(name.owner, more as u16);
         }
-        if block == 0 {
-            return refused(ILLEGAL_BYTE_COUNT);
-        }
-        let more = self.missing(name, block);
-        if self.free_blocks() < more {
-            return refused(NO_ROOM);
-        }
-        self.grow(name, more)?;
-        self.put(name, block, page);
-        Ok(())
+        done
     }
-
-    fn is_file(&self, name: &FileName) -> bool
-        ensures { result ≡ is_file self.now.files name.now }
-    {
-        body_of(&self.files, name).is_some()
-    }
-
-    fn is_full(&self) -> bool
-        ensures { result ≡ nat_le MOST_FILES (length self.now.files) }
-    {
-        self.files.len() >= MOST_FILES
-    }
-
-    fn is_block(&self, name: &FileName, block: u16) -> bool
-        ensures { result ≡ is_block self.now.files name.now block }
-    {
-        match body_of(&self.files, name) {
-            Some(body) => place_in(body.places.as_slice(), block).is_some(),
-            None => false,
-        }
-    }
-
-    /// How many blocks are to be taken for this block of the file.
-    fn missing(&self, name: &FileName, block: u16) -> usize
-        ensures { result ≡ block - size_at self.now.files name.now }
-    {
-        match body_of(&self.files, name) {
-            Some(body) => (block as usize).saturating_sub(body.places.len()),
-            None => block as usize,
-        }
-    }
-
-    fn free_blocks(&self) -> usize
-        ensures free { result ≡ length self.now.free }
-        ensures blocks { result ≡ self.now.blocks - blocks_of self.now.files }
-    {
-        self.free.len()
-    }
-
-    fn copy_block(&self, name: &FileName, block: u16, page: &mut Page)
-        requires { is_block self.now.files name.now block ≡ true }
-        ensures { page_at self.now.files name.now block ≡ Some page.new }
-    {
-        if let Some(body) = body_of(&self.files, name) {
-            if let Some(place) = place_in(body.places.as_slice(), block) {
-                page.copy_from(&self.pages[place as usize]);
-            }
-        }
-    }
-
-    fn add(&mut self, name: FileName, code: u8) -> Result<(), NoMemory>
-        requires { is_file self.old.files name ≡ false }
-        ensures ok { OnOk result (self.new.files ≡ make self.old.files (empty_file name code)) }
-        ensures err { OnErr result (self.new ≡ self.old) }
-        ensures blocks { self.new.blocks ≡ self.old.blocks }
-    {
-        make_room(&mut self.files)?;
-        let places = Vec::new(self.alloc);
-        put_last(&mut self.files, name, FileBody { code, places });
-        Ok(())
-    }
-
-    fn take(&mut self, name: &FileName)
-        ensures files { self.new.files ≡ remove self.old.files name.now }
-        ensures blocks { self.new.blocks ≡ self.old.blocks }
-    {
-        if let Some(body) = take_out(&mut self.files, name) {
-            let _ = self.free.extend_from_slice(body.places.as_slice());
-        }
-    }
-
-    fn make_anew(&mut self, name: &FileName, code: u8) -> Result<(), NoMemory>
-        requires { is_file self.old.files name.now ≡ true }
-        ensures ok { OnOk result (self.new.files ≡ remake self.old.files name.now code) }
-        ensures err { OnErr result (self.new ≡ self.old) }
-        ensures blocks { self.new.blocks ≡ self.old.blocks }
-    {
-        make_room(&mut self.files)?;
-        if let Some(mut body) = take_out(&mut self.files, name) {
-            let _ = self.free.extend_from_slice(body.places.as_slice());
-            body.places.clear();
-            body.code = code;
-            put_last(&mut self.files, *name, body);
-        }
-        Ok(())
-    }
-
-    fn move_last(&mut self, old: &FileName, new: FileName, code: u8) -> Result<(), NoMemory>
-        requires there { is_file self.old.files old.now ≡ true }
-        requires fresh { (is_file self.old.files new && not (same_name new old.now)) ≡ false }
-        ensures ok { OnOk result (self.new.files ≡ rename self.old.files old.now new code) }
-        ensures err { OnErr result (self.new ≡ self.old) }
-        ensures blocks { self.new.blocks ≡ self.old.blocks }
-    {
-        make_room(&mut self.files)?;
-        if let Some(mut body) = take_out(&mut self.files, old) {
-            body.code = code;
-            put_last(&mut self.files, new, body);
-        }
-        Ok(())
-    }
-
-    /// Gives a file so many blocks of zeros more. With none it takes no memory.
-    fn grow(&mut self, name: &FileName, more: usize) -> Result<(), NoMemory>
-        requires there { is_file self.old.files name.now ≡ true }
-        requires enough { more ≤ length self.old.free }
-        ensures ok { OnOk result (self.new.files ≡ grow_file self.old.files name.now more) }
-        ensures err { OnErr result (self.new ≡ self.old) }
-        ensures blocks { self.new.blocks ≡ self.old.blocks }
-        ensures none { more ≡ 0 → IsOk result }
-    {
-        let from = self.free.len() - more;
-        let taken = &self.free[from..];
-        add_places(&mut self.files, name, taken)?;
-        clear_pages(self.pages.as_mut_slice(), taken);
-        self.free.truncate(from);
-        Ok(())
-    }
-
-    /// Writes a block that the file has.
-    fn put(&mut self, name: &FileName, block: u16, page: &Page)
-        requires { is_block self.old.files name.now block ≡ true }
-        ensures files { self.new.files ≡ set_page self.old.files name.now block page.now }
-        ensures blocks { self.new.blocks ≡ self.old.blocks }
-    {
-        if let Some(body) = body_of(&self.files, name) {
-            if let Some(place) = place_in(body.places.as_slice(), block) {
-                self.pages[place as usize].copy_from(page);
-            }
-        }
-    }
-}
-
-/// Makes the pages at these places zeros.
-fn clear_pages(pages: &mut [Page], places: &[u16])
-    requires { (p : ℕ) → 1 ≤ times p places.now → p < length pages.old }
-    ensures { pages.new ≡ cleared pages.old places.now }
-{
-    for place in places {
-        pages[*place as usize].clear();
-    }
-}
-
-/// So many pages of zeros.
-fn zero_pages(alloc: Global, blocks: u16) -> Result<Vec<Page>, NoMemory>
-    ensures { IfOk result (λ pages. pages.items ≡ replicate blocks zeros) }
-{
-    let mut pages = Vec::with_capacity(alloc, blocks as usize)?;
-    for _ in 0..blocks {
-        pages.push(Page::new(alloc)?)?;
-    }
-    Ok(pages)
-}
-
-/// All places below the number, in room for them alone.
-fn all_places(alloc: Global, blocks: u16) -> Result<Vec<u16>, NoMemory>
-    ensures places { IfOk result (λ places. places.items ≡ first_places blocks) }
-    ensures room { IfOk result (λ places. blocks ≤ vec_capacity places) }
-{
-    let mut places = Vec::with_capacity(alloc, blocks as usize)?;
-    for place in 0..blocks {
-        places.push_reserved(place);
-    }
-    Ok(places)
-}
-
-fn refused<T>(number: u8) -> Result<T, Trouble<Fault>>
-    ensures { result ≡ Err (Trouble.Refused number) }
-{
-    Err(Trouble::Refused(Fault::new(number)))
 }

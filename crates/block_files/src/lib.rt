@@ -7,5 +7,7 @@
 
 mod bodies;
 mod disks;
+mod owners;
+mod stores;
 
 pub use disks::Disk;

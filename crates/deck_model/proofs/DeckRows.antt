@@ -1,12 +1,11 @@
 -- Small decks, computed: which bytes spell them, and where and why others are refused.
-use Rattle.std.proofs.Common.{◌≡◌, ℕ, List, [], ◌∷◌, ◌++◌, refl, None, Some}
+use Rattle.std.proofs.Common.{◌≡◌, ℕ, List, [], ◌∷◌, ◌++◌, refl}
 use Rattle.std.specs.Prelude.{codes}
 use Rattle.std.specs.Fmt.{digits}
 use Rattle.monitor_calls.specs.declared.names.Account.{Account}
 use Rattle.monitor_calls.specs.declared.volumes.AccountEntry.{AccountEntry}
 use Rattle.monitor_calls.specs.FileNames.{same_name}
 use Rattle.deck_model.specs.declared.faults.DeckCause.TheVariants.{Cut, Version, Shape, Range, Double, Owner, Space}
-use Rattle.deck_model.specs.Deck.{File, Terminal, Deck}
 use Rattle.deck_model.specs.Lines.{whole_lines, cut_line}
 use Rattle.deck_model.specs.Reading.{verdict, reading, Spells, Refuses, behind_line, behind_form, form_at, version_in, disk_in, account_in, texts_in, file_in, file_texts_in, groups_in, contents_in, session_in, terminal_in, keys_in, end_in}
 

@@ -21,7 +21,8 @@ use Rattle.deck_model.specs.Reading.{behind_line, Verdict, Spells, Refuses, at_e
 use Rattle.basic_values.proofs.CutLaws.{and_right}
 use Rattle.deck_model.proofs.VolumeLaws.{GoodVolume, volume_parts, volume_whole, volume_front, volume_last, FitsAmong, terminals_front, terminals_last, all_front}
 use Rattle.deck_model.proofs.FileLaws.{files_parts, files_whole, files_front}
-use Rattle.deck_model.proofs.FrontLaws.{Follows, adds_front, Takes, line_behind, line_takes, line_refuses, refused_behind, account_none, terminal_none, written, TakenFile, file_taken, deck_last, heading_behind, disk_behind}
+use Rattle.deck_model.proofs.RangeLaws.{account_none, terminal_none, written, TakenFile, file_taken}
+use Rattle.deck_model.proofs.FrontLaws.{Follows, adds_front, Takes, line_behind, line_takes, line_refuses, refused_behind, deck_last, heading_behind, disk_behind}
 
 -- ---- what is so is told
 

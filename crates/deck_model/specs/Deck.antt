@@ -1,6 +1,7 @@
 -- A deck: the disk's blocks, the accounts, the files with their texts, and the terminals with their keys.
 use Rattle.std.specs.Prelude.{◌≡◌, ℕ, ◌≤◌, ◌&&◌, Bool, true, not, List, [], ◌∷◌, length, bytes_eq, map}
 use Rattle.std.specs.List.{AllByRecursion, list_any}
+use Rattle.basic_values.specs.declared.limits.TheConstants.{MOST_JOBS}
 use Rattle.basic_values.specs.declared.lists.TheConstants.{LINE_LENGTH}
 use Rattle.monitor_calls.specs.declared.volumes.AccountEntry.{AccountEntry}
 use Rattle.monitor_calls.specs.declared.files.FileEntry.{FileEntry}
@@ -42,7 +43,7 @@ are_named_apart (terminal ∷ terminals) =
 pub record AreTerminals (terminals : List Terminal) : Type 0 where
   pub each : AllByRecursion IsTerminal terminals
   pub apart : are_named_apart terminals ≡ true
-  pub few : length terminals ≤ 63
+  pub few : length terminals ≤ MOST_JOBS
 
 -- the files as the deck's volume has them
 abbrev pub volume_files : Deck → List FileEntry

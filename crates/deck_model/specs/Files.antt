@@ -1,6 +1,7 @@
 -- Files of a deck, and what they have on the disk.
 use Rattle.std.specs.Prelude.{ℕ, zero, suc, ◌+◌, ◌-◌, ◌*◌, ◌≤◌, Bool, if◌then◌else◌, List, [], ◌∷◌, ◌++◌, length, take, drop, replicate, codes}
 use Rattle.std.specs.List.{flat_map, list_any}
+use Rattle.basic_values.specs.declared.limits.TheConstants.{BLOCK_BYTES}
 use Rattle.monitor_calls.specs.declared.names.Account.{Account}
 use Rattle.monitor_calls.specs.declared.files.FileName.{FileName}
 use Rattle.monitor_calls.specs.declared.files.FileEntry.{FileEntry}
@@ -19,17 +20,17 @@ text_of texts = flat_map (λ text. text ++ codes "\r\n") texts
 
 -- the text is no longer than the file's blocks
 abbrev pub FitsText : File → Type 0
-FitsText file = length (text_of file.texts) ≤ 512 * file.blocks
+FitsText file = length (text_of file.texts) ≤ BLOCK_BYTES * file.blocks
 
 -- the text, and zeros behind it to the end of the file's blocks
 abbrev pub contents_of : File → List ℕ
 contents_of file =
-    text_of file.texts ++ replicate (512 * file.blocks - length (text_of file.texts)) 0
+    text_of file.texts ++ replicate (BLOCK_BYTES * file.blocks - length (text_of file.texts)) 0
 
 -- bytes in so many pages
 unfoldable pub pages_of : ℕ → List ℕ → List (List ℕ)
 pages_of zero bytes = []
-pages_of (suc pages) bytes = take 512 bytes ∷ pages_of pages (drop 512 bytes)
+pages_of (suc pages) bytes = take BLOCK_BYTES bytes ∷ pages_of pages (drop BLOCK_BYTES bytes)
 
 -- the file as a volume has it
 abbrev pub file_entry : File → FileEntry

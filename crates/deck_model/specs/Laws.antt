@@ -1,9 +1,11 @@
 -- Laws over the definitions.
-use Rattle.std.specs.Prelude.{◌≡◌, ℕ, List}
+use Rattle.std.specs.Prelude.{◌≡◌, ◌+◌, ℕ, true, nat_lt, List}
 use Rattle.deck_model.specs.declared.faults.DeckCause.{DeckCause}
+use Rattle.deck_model.specs.declared.versions.Version.TheVariants.{One}
+use Rattle.deck_model.specs.Files.{File, blocks_in}
 use Rattle.deck_model.specs.Deck.{Deck}
-use Rattle.deck_model.specs.Spelling.{Spelled}
-use Rattle.deck_model.specs.Refusals.{Refused}
+use Rattle.deck_model.specs.Spelling.{AreQuotas, Spelled}
+use Rattle.deck_model.specs.Refusals.{passes_quota, Refused}
 
 -- bytes spell one deck at the most
 abbrev pub OneDeck : Type 0
@@ -21,3 +23,10 @@ abbrev pub NeverBoth : Type 0
 NeverBoth =
     (bytes : List ℕ) (deck : Deck) (line : ℕ) (why : DeckCause) → Spelled bytes deck
     → Refused bytes line why → ⊥
+
+-- where each quota is the disk's blocks, one is passed only where the disk has not the blocks either
+abbrev pub QuotasTellNothing : Type 0
+QuotasTellNothing =
+    (deck : Deck) (file : File) → AreQuotas One deck
+    → passes_quota deck.accounts deck.files file ≡ true
+    → nat_lt deck.blocks (blocks_in deck.files + file.blocks) ≡ true

@@ -2,7 +2,7 @@
 use Rattle.std.specs.Prelude.{◌≡◌, ◌<◌, ◌+◌, ◌⊎◌, ℕ, ◌*◌, Bool, true, ◌&&◌, not, nat_le, nat_lt, if◌then◌else◌, List, [], ◌∷◌, ◌++◌, length, Option, Some, None}
 use Rattle.std.specs.List.{list_any}
 use Rattle.basic_values.specs.Decimals.{is_number_between}
-use Rattle.basic_values.specs.declared.limits.TheConstants.{MOST_ACCOUNTS, MOST_BLOCKS, MOST_CALLS, MOST_CODE, MOST_FILES, MOST_JOBS, MOST_QUOTA}
+use Rattle.basic_values.specs.declared.limits.TheConstants.{BLOCK_BYTES, MOST_ACCOUNTS, MOST_BLOCKS, MOST_CALLS, MOST_CODE, MOST_FILES, MOST_JOBS, MOST_QUOTA}
 use Rattle.basic_values.specs.declared.lists.TheConstants.{LINE_LENGTH}
 use Rattle.monitor_calls.specs.Names.{is_capital_or_digit, is_text_of, is_password, is_terminal_name}
 use Rattle.monitor_calls.specs.declared.volumes.AccountEntry.{AccountEntry}
@@ -77,7 +77,7 @@ file_causes deck texts =
 -- the text has to fit in its file's blocks
 abbrev pub text_causes : model.File → List ℕ → List (Bool × DeckCause)
 text_causes file text =
-    (nat_lt (512 * file.blocks) (length (text_of (with_text file text).texts)), cause.Space) ∷ []
+    (nat_lt (BLOCK_BYTES * file.blocks) (length (text_of (with_text file text).texts)), cause.Space) ∷ []
 
 abbrev pub terminal_causes : List model.Terminal → List ℕ → List (Bool × DeckCause)
 terminal_causes terminals name =

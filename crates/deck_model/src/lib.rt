@@ -10,6 +10,7 @@
 //!
 //! `laws::one_verdict` promises that bytes spell one deck at the most, or are refused at one line
 //! for one cause, and never both.
+//! `laws::version_one` promises that quotas add nothing to version 1.
 #![tactic(auto)]
 
 mod faults;

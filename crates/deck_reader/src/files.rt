@@ -11,12 +11,10 @@ ghost use Rattle.deck_reader.specs.Seen.{option_seen, file_texts_seen, open_of, 
 
 use crate::decks::OpenFile;
 use crate::forms::FileTexts;
+use basic_values::limits::{BLOCK_BYTES, MOST_BLOCKS, MOST_CODE};
 use basic_values::{NoMemory, Series, number_between};
 use monitor_calls::{Account, FileEntry, FileName, Page, Short};
 use std::alloc::Global;
-
-/// How many bytes a block has.
-const BLOCK_BYTES: usize = 512;
 
 /// The file of such fields, which has no text yet, where its numbers and its name are in their
 /// ranges.
@@ -29,8 +27,8 @@ pub(crate) fn new_file(alloc: Global, texts: &FileTexts<'_>) -> Option<OpenFile>
     let programmer = number_between(0, 254, texts.programmer)?;
     let stem = Short::password(texts.stem)?;
     let extension = extension_of(texts.extension)?;
-    let code = number_between(0, 63, texts.code)?;
-    let blocks = number_between(0, 16384, texts.blocks)?;
+    let code = number_between(0, u32::from(MOST_CODE), texts.code)?;
+    let blocks = number_between(0, u32::from(MOST_BLOCKS), texts.blocks)?;
     let owner = Account {
         project: project as u8,
         programmer: programmer as u8,

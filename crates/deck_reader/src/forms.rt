@@ -8,8 +8,8 @@ ghost use Rattle.deck_model.specs.Reading.{version_in, disk_in, limits_in, texts
 ghost use Rattle.basic_values.specs.Cuts.{Finds, cut};
 ghost use Rattle.deck_reader.specs.Seen.{texts_seen, option_seen, file_texts_seen, group_seen, contents_seen, session_seen};
 
-use deck_model::Version;
 use basic_values::{behind, cut};
+use deck_model::Version;
 
 /// The texts of an account's fields; its quota where version 2 tells it.
 #[derive(Clone, Copy)]

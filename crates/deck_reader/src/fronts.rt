@@ -17,19 +17,13 @@ use crate::forms::{
     AccountTexts, ContentsForm, FileTexts, GroupForm, SessionForm, contents_form, disk_blocks,
     group_form, session_form, version_of,
 };
+use basic_values::limits::{
+    MOST_ACCOUNTS, MOST_BLOCKS, MOST_CALLS, MOST_FILES, MOST_JOBS, MOST_QUOTA,
+};
 use basic_values::{KeyLine, LINE_LENGTH, NoMemory, Trouble, number_between};
 use deck_model::{DeckCause, DeckFault, Version};
 use monitor_calls::{Account, AccountEntry, FileEntry, FileName, Short, TerminalName, Volume};
 use std::alloc::Global;
-
-/// How many accounts a deck has at the most.
-const MOST_ACCOUNTS: usize = 512;
-
-/// How many files a deck has at the most.
-const MOST_FILES: usize = 512;
-
-/// How many terminals a deck has at the most.
-const MOST_TERMINALS: usize = 63;
 
 /// What the lines of a deck said so far. Behind the first line each keeps the version.
 #[derive(Drop)]
@@ -95,7 +89,7 @@ fn behind_version(alloc: Global, version: Version, line: &[u8]) -> Result<Front,
     ensures { Decides front_of result (behind_line (model.Versioned version) line.now) }
 {
     let text = disk_blocks(line).ok_or(DeckCause::Shape)?;
-    let blocks = number_between(1, 16384, text).ok_or(DeckCause::Range)?;
+    let blocks = number_between(1, u32::from(MOST_BLOCKS), text).ok_or(DeckCause::Range)?;
     let volume = Volume {
         blocks: blocks as u16,
         accounts: Vec::new(alloc),
@@ -363,7 +357,7 @@ fn with_terminal(
     if has_terminal(deck.terminals.as_slice(), name) {
         return Err(ReadError::Refused(DeckCause::Double));
     }
-    if deck.terminals.len() >= MOST_TERMINALS {
+    if deck.terminals.len() >= MOST_JOBS {
         return Err(ReadError::Refused(DeckCause::Space));
     }
     let keys = Vec::new(alloc);
@@ -406,7 +400,7 @@ fn entry_of(disk: u16, texts: &AccountTexts<'_>) -> Option<AccountEntry>
     let project = number_between(1, 254, texts.project)?;
     let programmer = number_between(0, 254, texts.programmer)?;
     let password = Short::password(texts.password)?;
-    let limit = number_between(1, 16384, texts.limit)?;
+    let limit = number_between(1, u32::from(MOST_CALLS), texts.limit)?;
     let quota = quota_of(disk, texts.quota)?;
     Some(AccountEntry {
         account: Account {
@@ -427,7 +421,7 @@ fn quota_of(disk: u16, text: Option<&[u8]>) -> Option<u16>
     match text {
         None => Some(disk),
         Some(text) => {
-            let quota = number_between(0, 16384, text)?;
+            let quota = number_between(0, u32::from(MOST_QUOTA), text)?;
             Some(quota as u16)
         }
     }

@@ -13,6 +13,7 @@
 
 mod emitted;
 mod expressions;
+mod loops;
 mod lookups;
 mod lowered;
 mod placement;

@@ -129,6 +129,10 @@ pub fn emit_simple<L: Lookups>(
         Statement::Rset { .. } => Ok(()),
         Statement::Kill(_) => Ok(()),
         Statement::Rename { .. } => Ok(()),
+        Statement::PrintUsing { .. } => Ok(()),
+        Statement::MatRead(_) => Ok(()),
+        Statement::MatPrint { .. } => Ok(()),
+        Statement::MatLet { .. } => Ok(()),
     }
 }
 

@@ -4,7 +4,6 @@ ghost use Rattle.std.specs.Prelude.{◌≡◌, ℕ, suc, ◌+◌, [], ◌∷◌,
 ghost use Rattle.basic_tree.specs.StatementViews.{statement_of, clause_of};
 ghost use Rattle.basic_tree.specs.Trees.{Modified, End};
 ghost use Rattle.basic_tree.specs.TreeViews.{tree_of, item_of, printed_of, modifier_of};
-ghost use Rattle.program_model.specs.Program.{loops_in, loops_in_clause, loops_outside};
 ghost use Rattle.polish_code.specs.Code.{expr_size, trees_size, pieces_size, print_pieces, end_pieces, separator_pieces, step_piece, def_pieces, simple_pieces, nowhere, body_size, clause_size, head_pieces, tail_pieces};
 ghost use Rattle.program_soundness.specs.Texts.{trees_in};
 ghost use Rattle.lowering.specs.Emission.{target_size, targets_size, printed_size, print_size};
@@ -310,6 +309,10 @@ pub fn count_simple(total: &mut u32, statement: &Statement) -> Result<(), NoMemo
         Statement::Rset { .. } => Ok(()),
         Statement::Kill(_) => Ok(()),
         Statement::Rename { .. } => Ok(()),
+        Statement::PrintUsing { .. } => Ok(()),
+        Statement::MatRead(_) => Ok(()),
+        Statement::MatPrint { .. } => Ok(()),
+        Statement::MatLet { .. } => Ok(()),
     }
 }
 
@@ -403,60 +406,5 @@ fn count_modifier(total: &mut u32, modifier: &Modifier) -> Result<(), NoMemory>
             count_step(total, step)?;
             add(total, 2)
         }
-    }
-}
-
-// FORs
-
-/// Adds how many FORs a statement has.
-#[cycle(loops)]
-pub fn count_loops(total: &mut u32, statement: &Statement) -> Result<(), NoMemory>
-    ensures { OnOk result (total.new ≡ total.old + loops_in (statement_of statement.now)) }
-{
-    match statement {
-        Statement::For { .. } => add(total, 1),
-        Statement::Modified {
-            statement,
-            modifier,
-        } => {
-            add(total, own_loops(modifier))?;
-            count_loops(total, statement)
-        }
-        Statement::IfThen {
-            clause,
-            otherwise,
-            ..
-        } => {
-            count_clause_loops(total, clause)?;
-            match otherwise {
-                None => Ok(()),
-                Some(otherwise) => count_clause_loops(total, otherwise),
-            }
-        }
-        Statement::IfGoto { otherwise, .. } => match otherwise {
-            None => Ok(()),
-            Some(otherwise) => count_clause_loops(total, otherwise),
-        },
-        _ => Ok(()),
-    }
-}
-
-#[cycle(loops)]
-pub fn count_clause_loops(total: &mut u32, clause: &Clause) -> Result<(), NoMemory>
-    ensures { OnOk result (total.new ≡ total.old + loops_in_clause (clause_of clause.now)) }
-{
-    match clause {
-        Clause::Line(_) => Ok(()),
-        Clause::Statement(statement) => count_loops(total, statement),
-    }
-}
-
-/// How many FORs a modifier is.
-pub fn own_loops(modifier: &Modifier) -> u32
-    ensures { result ≡ loops_outside (Modified End (modifier_of modifier.now)) true }
-{
-    match modifier {
-        Modifier::For { .. } => 1,
-        _ => 0,
     }
 }

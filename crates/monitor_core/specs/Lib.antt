@@ -3,6 +3,7 @@ pub mod Copies
 pub mod Mounting
 pub mod Openings
 pub mod Plain
+pub mod Records
 pub mod Rows
 pub use Rattle.monitor_model.specs.Answer
 pub use Rattle.monitor_model.specs.Good

@@ -9,19 +9,10 @@ ghost use Rattle.monitor_core.specs.Rows.{row, IsCaller};
 
 use crate::parts::{Caller, Parts, failed, refused};
 use basic_values::NoMemory;
+use basic_values::errors::{
+    END_OF_FILE, ILLEGAL_BYTE_COUNT, INTERLOCKED, NO_ROOM, PROTECTION_VIOLATION,
+};
 use monitor_calls::{Page, Reply};
-
-/// The number of "protection violation".
-const NO_RIGHT: u8 = 10;
-
-/// The number of "end of file on device", where there is no such block.
-const NO_SUCH_BLOCK: u8 = 11;
-
-/// The number of "disk block is interlocked".
-const INTERLOCKED: u8 = 19;
-
-/// The number of "illegal byte count for I/O", which a Put of block 0 is told.
-const BLOCK_ZERO: u8 = 31;
 
 impl Parts {
     /// Closes a channel, which lets go of what it held.
@@ -63,17 +54,17 @@ impl Parts {
             Err(fault) => return Reply::Failed(fault),
         };
         if !at.read {
-            return failed(NO_RIGHT);
+            return failed(PROTECTION_VIOLATION);
         }
         let mut page = page;
         if self.disk.read(&at.name, block, &mut page).is_err() {
-            return failed(NO_SUCH_BLOCK);
+            return failed(END_OF_FILE);
         }
         if self.is_held(caller.job, channel, &at.name, block) {
             return failed(INTERLOCKED);
         }
         if at.update {
-            self.holds.hold(caller.job, channel, at.name, block);
+            self.holds.hold(caller.job, channel, at.name, block, 1);
         }
         Reply::Block(page)
     }
@@ -102,13 +93,16 @@ impl Parts {
             Err(fault) => return Ok(Reply::Failed(fault)),
         };
         if !at.write {
-            return Ok(failed(NO_RIGHT));
+            return Ok(failed(PROTECTION_VIOLATION));
         }
         if block == 0 {
-            return Ok(failed(BLOCK_ZERO));
+            return Ok(failed(ILLEGAL_BYTE_COUNT));
         }
         if self.is_held(caller.job, channel, &at.name, block) {
             return Ok(failed(INTERLOCKED));
+        }
+        if self.passes_quota(&at.name, block as u32) {
+            return Ok(failed(NO_ROOM));
         }
         if let Err(trouble) = self.disk.write(&at.name, block, page) {
             return refused(trouble);

@@ -15,6 +15,10 @@ mod opening;
 mod openings;
 mod parts;
 mod port;
+mod printer_calls;
+mod readings;
+mod record_calls;
+mod writings;
 
 pub use monitor::Monitor;
 pub use monitor_model::laws;

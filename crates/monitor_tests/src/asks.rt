@@ -2,7 +2,8 @@
 
 ghost use Rattle.std.specs.Prelude.{◌<◌};
 
-use basic_values::Text;
+use basic_values::limits::LONGEST_MESSAGE;
+use basic_values::{Series, Text};
 use monitor_calls::{Account, FileName, OpenKind, Page, Request, Short};
 use std::alloc::Global;
 use std::test::Fail;
@@ -25,8 +26,8 @@ pub(crate) const STRANGER: Account = Account {
     programmer: 1,
 };
 
-/// The longest message that is taken has 512 bytes.
-const LONG: [u8; 513] = [65; 513];
+/// One byte more than a message or a text that is printed may have.
+const LONG: [u8; LONGEST_MESSAGE + 1] = [65; LONGEST_MESSAGE + 1];
 
 /// One of the two jobs.
 #[derive(Clone, Copy)]
@@ -78,6 +79,10 @@ pub(crate) enum Ask {
     Get(u8, u16),
     /// The channel, the block and the byte.
     Put(u8, u16, u8),
+    /// The channel, the first block, and how many.
+    GetRecord(u8, u16, u8),
+    /// The channel, the first block, and the byte of each page.
+    PutRecord(u8, u16, &'static [u8]),
     Unlock(u8),
     Kill(Label),
     Rename(Label, Label),
@@ -93,6 +98,14 @@ pub(crate) enum Ask {
     Receive,
     Sleep,
     Tick,
+    Assign,
+    Deassign,
+    OpenPrinter,
+    /// The longest text that is printed at once, of this byte.
+    Print(u8),
+    /// A text that is one byte too long.
+    PrintLong,
+    ClosePrinter,
     Status,
 }
 
@@ -123,11 +136,14 @@ pub(crate) fn request(alloc: Global, ask: Ask) -> Result<Request, Fail> {
         Ask::Guess(account) => login(account, b"DEMON"),
         Ask::Open(channel, label, kind, code) => open(channel, label, kind, code),
         Ask::Put(channel, block, byte) => put(alloc, channel, block, byte),
+        Ask::PutRecord(channel, block, bytes) => put_record(alloc, channel, block, bytes),
         Ask::Kill(label) => kill(label),
         Ask::Rename(old, new) => rename(old, new),
         Ask::Declare(label, most) => declare(label, most),
         Ask::Send(label, byte) => send(alloc, label, &[byte]),
         Ask::SendLong(label) => send(alloc, label, &LONG),
+        Ask::Print(byte) => print(alloc, &[byte; LONGEST_MESSAGE]),
+        Ask::PrintLong => print(alloc, &LONG),
         _ => Ok(plain(ask)),
     }
 }
@@ -138,6 +154,11 @@ fn plain(ask: Ask) -> Request {
         Ask::Logout => Request::Logout,
         Ask::Close(channel) => Request::CloseFile { channel },
         Ask::Get(channel, block) => Request::Get { channel, block },
+        Ask::GetRecord(channel, block, count) => Request::GetRecord {
+            channel,
+            block,
+            count,
+        },
         Ask::Unlock(channel) => Request::Unlock { channel },
         Ask::Listed(index) => Request::Directory {
             owner: OWNER,
@@ -147,6 +168,10 @@ fn plain(ask: Ask) -> Request {
         Ask::Receive => Request::Receive,
         Ask::Sleep => Request::Sleep { seconds: 1 },
         Ask::Tick => Request::Tick,
+        Ask::Assign => Request::Assign,
+        Ask::Deassign => Request::Deassign,
+        Ask::OpenPrinter => Request::OpenPrinter,
+        Ask::ClosePrinter => Request::ClosePrinter,
         _ => Request::Status,
     }
 }
@@ -176,6 +201,18 @@ fn put(alloc: Global, channel: u8, block: u16, byte: u8) -> Result<Request, Fail
     })
 }
 
+fn put_record(alloc: Global, channel: u8, block: u16, bytes: &[u8]) -> Result<Request, Fail> {
+    let mut pages = Vec::new(alloc);
+    for byte in bytes {
+        pages.push(page(alloc, *byte)?)?;
+    }
+    Ok(Request::PutRecord {
+        channel,
+        block,
+        pages: Series::from_vec(pages),
+    })
+}
+
 fn kill(label: Label) -> Result<Request, Fail> {
     let name = file(label)?;
     Ok(Request::Kill { name })
@@ -200,4 +237,9 @@ fn send(alloc: Global, label: Label, bytes: &[u8]) -> Result<Request, Fail> {
     let name = short(label.text())?;
     let text = Text::of(alloc, bytes).ok().ok_or("no text")?;
     Ok(Request::Send { name, text })
+}
+
+fn print(alloc: Global, bytes: &[u8]) -> Result<Request, Fail> {
+    let text = Text::of(alloc, bytes).ok().ok_or("no text")?;
+    Ok(Request::Print { text })
 }

@@ -9,6 +9,8 @@ mod disks;
 #[cfg(test)]
 mod holds;
 #[cfg(test)]
+mod last_calls;
+#[cfg(test)]
 mod messages;
 #[cfg(test)]
 mod ports;

@@ -1,17 +1,22 @@
 //! A port over a monitor of its own, which keeps its calls.
 
-use crate::asks::Ask::{self, Guess, Login, Logout, Status, Tick};
+use crate::asks::Ask::{self, GetRecord, Guess, Login, Logout, Open, PutRecord, Status, Tick};
+use crate::asks::Label::First;
 use crate::asks::{NEIGHBOUR, OWNER, request};
-use crate::replies::Said::{self, Done, Expired, Failed, State};
+use crate::replies::Said::{self, Done, Expired, Failed, Opened, Record, State};
 use crate::runs::empty_volume;
+use monitor_calls::OpenKind::Fresh;
 use monitor_calls::{Port, RunRecord, Volume};
 use monitor_core::{Monitor, PlainPort};
 use std::alloc::{AllocGlobal, Global};
 use std::process::Abort;
 use std::test::Fail;
 
+/// What the port's job asks, and what it is to be replied.
+type Call = (Ask, Said);
+
 /// An account of three calls: the third ends the job.
-static CALLS: [(Ask, Said); 9] = [
+static CALLS: [Call; 9] = [
     (Guess(OWNER), Failed(5)),
     (Tick, Failed(5)),
     (Login(OWNER), Done),
@@ -25,19 +30,52 @@ static CALLS: [(Ask, Said); 9] = [
 
 #[test]
 fn a_port_keeps_what_was_asked(rt: HostRuntime) -> Result<(), Fail> {
-    let record = kept(&rt)?;
-    assert_eq!(rt; record.as_slice().len(), CALLS.len());
-    for (entry, (_, said)) in record.as_slice().iter().zip(CALLS.iter()) {
-        assert!(rt; entry.job == 0 && said.is_reply(&entry.reply));
-    }
+    let wrong = wrong_call(&rt, 3, &CALLS)?;
+    assert_eq!(rt; wrong, None);
     Ok(())
 }
 
+/// Records of three blocks and of fewer, whose pages the history has too.
+static RECORDS: [Call; 8] = [
+    (GetRecord(1, 1, 3), Failed(5)),
+    (Login(OWNER), Done),
+    (GetRecord(1, 1, 3), Failed(9)),
+    (Open(1, First, Fresh, None), Opened(0, true, true)),
+    (PutRecord(1, 1, b"ABCD"), Failed(31)),
+    (PutRecord(1, 1, b"ABC"), Done),
+    (GetRecord(1, 1, 3), Record(b"ABC")),
+    (GetRecord(1, 2, 3), Record(b"BC")),
+];
+
+#[test]
+fn a_port_keeps_the_pages_of_records(rt: HostRuntime) -> Result<(), Fail> {
+    let wrong = wrong_call(&rt, 100, &RECORDS)?;
+    assert_eq!(rt; wrong, None);
+    Ok(())
+}
+
+/// The place of the first call that the port kept with another reply, or of the end where it kept
+/// more or fewer.
+fn wrong_call(
+    rt: &(impl AllocGlobal + Abort),
+    limit: u16,
+    calls: &[Call],
+) -> Result<Option<usize>, Fail> {
+    let record = kept(rt, limit, calls)?;
+    if record.as_slice().len() != calls.len() {
+        return Ok(Some(calls.len()));
+    }
+    Ok(
+        record.as_slice().iter().zip(calls.iter()).position(|(entry, (_, said))| entry.job != 0
+            || !said.is_reply(&entry.reply)),
+    )
+}
+
 /// What the port kept of the calls.
-fn kept(rt: &(impl AllocGlobal + Abort)) -> Result<RunRecord, Fail> {
-    let volume = empty_volume(rt.alloc(), 8, 3)?;
+fn kept(rt: &(impl AllocGlobal + Abort), limit: u16, calls: &[Call]) -> Result<RunRecord, Fail> {
+    let volume = empty_volume(rt.alloc(), 8, limit)?;
     let mut port = opened(rt, &volume)?;
-    ask_all(&mut port, rt.alloc())?;
+    ask_all(&mut port, rt.alloc(), calls)?;
     Ok(port.close())
 }
 
@@ -47,8 +85,8 @@ fn opened(rt: &(impl AllocGlobal + Abort), volume: &Volume) -> Result<PlainPort,
     Ok(PlainPort::new(rt.alloc(), monitor, 0))
 }
 
-fn ask_all<P: Port>(port: &mut P, alloc: Global) -> Result<(), Fail> {
-    for (ask, _) in CALLS.iter() {
+fn ask_all<P: Port>(port: &mut P, alloc: Global, calls: &[Call]) -> Result<(), Fail> {
+    for (ask, _) in calls.iter() {
         let request = request(alloc, *ask)?;
         let _ = port.ask(alloc, request)?;
     }

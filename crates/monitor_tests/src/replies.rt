@@ -11,6 +11,8 @@ pub(crate) enum Said {
     /// The blocks, and whether the channel may read and write.
     Opened(u16, bool, bool),
     Block(u8),
+    /// The byte of each page.
+    Record(&'static [u8]),
     /// A file of the owner, its code, and its blocks where they are told.
     Name(Label, u8, Option<u16>),
     /// The job and the account that sent it, and its byte.
@@ -32,6 +34,7 @@ impl Said {
                 write,
             } => self.is_opened(*blocks, *read, *write),
             Reply::Block(page) => self.is_block(page),
+            Reply::Record(pages) => self.is_record(pages.as_slice()),
             Reply::Name { name, code, blocks } => self.is_name(name, *code, *blocks),
             Reply::Message { job, account, text } => self.is_message(*job, *account, text),
             Reply::State {
@@ -55,7 +58,20 @@ impl Said {
 
     fn is_block(self, page: &Page) -> bool {
         match self {
-            Said::Block(byte) => page.as_bytes().iter().all(|found| *found == byte),
+            Said::Block(byte) => is_full_of(page, byte),
+            _ => false,
+        }
+    }
+
+    fn is_record(self, pages: &[Page]) -> bool {
+        match self {
+            Said::Record(bytes) => {
+                pages.len() == bytes.len()
+                    && pages
+                        .iter()
+                        .zip(bytes.iter())
+                        .all(|(page, byte)| is_full_of(page, *byte))
+            }
             _ => false,
         }
     }
@@ -96,4 +112,8 @@ impl Said {
             _ => false,
         }
     }
+}
+
+fn is_full_of(page: &Page, byte: u8) -> bool {
+    page.as_bytes().iter().all(|found| *found == byte)
 }

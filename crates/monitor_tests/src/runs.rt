@@ -4,6 +4,7 @@ ghost use Rattle.std.specs.Prelude.{◌≡◌, length};
 
 use crate::asks::{Ask, Job, NEIGHBOUR, OWNER, STRANGER, request, short};
 use crate::replies::Said;
+use basic_values::limits::MOST_QUOTA;
 use monitor_calls::{AccountEntry, Reply, Volume, blank_page};
 use monitor_core::Monitor;
 use std::alloc::{AllocGlobal, Global};
@@ -95,15 +96,41 @@ pub(crate) fn empty_volume(alloc: Global, blocks: u16, limit: u16) -> Result<Vol
     })
 }
 
-/// The three accounts, each of which allows so many calls.
+/// The same where the owner has this quota.
+pub(crate) fn volume_in_quota(
+    alloc: Global,
+    blocks: u16,
+    limit: u16,
+    quota: u16,
+) -> Result<Volume, Fail> {
+    let accounts = accounts_in_quota(alloc, limit, quota)?;
+    Ok(Volume {
+        blocks,
+        accounts,
+        files: Vec::new(alloc),
+    })
+}
+
+/// The three accounts, each of which allows so many calls, and any number of blocks.
 pub(crate) fn accounts(alloc: Global, limit: u16) -> Result<Vec<AccountEntry>, Fail> {
+    accounts_in_quota(alloc, limit, MOST_QUOTA)
+}
+
+/// The same where the owner has this quota.
+fn accounts_in_quota(alloc: Global, limit: u16, quota: u16) -> Result<Vec<AccountEntry>, Fail> {
     let password = short(b"DEMO")?;
     let mut accounts = Vec::new(alloc);
-    for account in [OWNER, NEIGHBOUR, STRANGER] {
+    let quotas = [
+        (OWNER, quota),
+        (NEIGHBOUR, MOST_QUOTA),
+        (STRANGER, MOST_QUOTA),
+    ];
+    for (account, quota) in quotas {
         accounts.push(AccountEntry {
             account,
             password,
             limit,
+            quota,
         })?;
     }
     Ok(accounts)

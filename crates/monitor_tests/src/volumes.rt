@@ -2,6 +2,7 @@
 
 use crate::asks::{OWNER, short};
 use basic_values::Series;
+use basic_values::limits::MOST_QUOTA;
 use monitor_calls::{
     Account, AccountEntry, FileEntry, FileName, Page, Short, TerminalName, Volume,
 };
@@ -64,7 +65,7 @@ fn is_good_account(alloc: Global, row: &AccountRow) -> Result<bool, Fail> {
         project: row.1,
         programmer: row.2,
     };
-    let second = account_entry(account, row.3, row.4)?;
+    let second = account_entry(account, row.3, row.4, MOST_QUOTA)?;
     let accounts = two_accounts(alloc, second)?;
     let volume = Volume {
         blocks: row.0,
@@ -74,19 +75,25 @@ fn is_good_account(alloc: Global, row: &AccountRow) -> Result<bool, Fail> {
     Ok(volume.is_good())
 }
 
-fn account_entry(account: Account, password: &[u8], limit: u16) -> Result<AccountEntry, Fail> {
+fn account_entry(
+    account: Account,
+    password: &[u8],
+    limit: u16,
+    quota: u16,
+) -> Result<AccountEntry, Fail> {
     let password = short(password)?;
     Ok(AccountEntry {
         account,
         password,
         limit,
+        quota,
     })
 }
 
 /// The account [100,5], and another.
 fn two_accounts(alloc: Global, second: AccountEntry) -> Result<Vec<AccountEntry>, Fail> {
     let mut accounts = Vec::new(alloc);
-    accounts.push(account_entry(OWNER, b"DEMO", 100)?)?;
+    accounts.push(account_entry(OWNER, b"DEMO", 100, MOST_QUOTA)?)?;
     accounts.push(second)?;
     Ok(accounts)
 }
@@ -134,14 +141,14 @@ fn is_good_file(alloc: Global, row: &FileRow) -> Result<bool, Fail> {
         extension,
     };
     let second = file_entry(alloc, name, row.3, row.4)?;
-    let volume = volume(alloc, second)?;
+    let volume = volume(alloc, second, MOST_QUOTA)?;
     Ok(volume.is_good())
 }
 
-/// A volume with the account [100,5] and two files.
-fn volume(alloc: Global, second: FileEntry) -> Result<Volume, Fail> {
+/// A volume with the account [100,5] in this quota, and two files.
+fn volume(alloc: Global, second: FileEntry, quota: u16) -> Result<Volume, Fail> {
     let mut accounts = Vec::new(alloc);
-    accounts.push(account_entry(OWNER, b"DEMO", 100)?)?;
+    accounts.push(account_entry(OWNER, b"DEMO", 100, quota)?)?;
     let name = FileName {
         owner: OWNER,
         stem: short(b"FIRST")?,
@@ -155,6 +162,36 @@ fn volume(alloc: Global, second: FileEntry) -> Result<Volume, Fail> {
         accounts,
         files,
     })
+}
+
+/// The quota of the account, the blocks of a second file beside the first of two, and whether the
+/// volume is good.
+static QUOTAS: [(u16, u8, bool); 5] = [
+    (16384, 6, true),
+    (16385, 0, false),
+    (2, 0, true),
+    (3, 1, true),
+    (3, 2, false),
+];
+
+#[test]
+fn files_of_a_volume_are_in_their_quotas(rt: HostRuntime) -> Result<(), Fail> {
+    for (place, row) in QUOTAS.iter().enumerate() {
+        let is_good = is_good_quota(rt.alloc(), row)?;
+        assert_eq!(rt; is_good, row.2, "row {place}");
+    }
+    Ok(())
+}
+
+fn is_good_quota(alloc: Global, row: &(u16, u8, bool)) -> Result<bool, Fail> {
+    let name = FileName {
+        owner: OWNER,
+        stem: short(b"SECOND")?,
+        extension: short(b"DAT")?,
+    };
+    let second = file_entry(alloc, name, 60, row.1)?;
+    let volume = volume(alloc, second, row.0)?;
+    Ok(volume.is_good())
 }
 
 /// A file of so many pages of zeros.

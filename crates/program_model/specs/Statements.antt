@@ -1,6 +1,6 @@
 -- What each statement does at its position, and to what it leads.
 use Rattle.std.specs.Prelude.{ℕ, Bool, true, false, if◌then◌else◌, Option, Some, None}
-use Rattle.basic_tree.specs.Trees.{Tree, ModifierTree, If, Unless, While, Until, ForModifier, StatementTree, IfThen, IfGoto, Modified, For, Next, FnEnd, Data, Dim, Def, Let, Result as ResultOf, Print, Input, InputLine, Read, Restore, Goto, Gosub, Return, OnGoto, OnGosub, OnErrorGoto, Resume, Stop, End}
+use Rattle.basic_tree.specs.Trees.{Tree, ModifierTree, If, Unless, While, Until, ForModifier, StatementTree, IfThen, IfGoto, Modified, For, Next, FnEnd, Data, Dim, DimFile, Def, Let, Result as ResultOf, Print, PrintUsing, Input, InputLine, Read, Restore, Goto, Gosub, Return, OnGoto, OnGosub, OnErrorGoto, Resume, Stop, End, Chain, Sleep, Open, Close, Get, Put, Unlock, Field, Lset, Rset, Kill, Rename, MatRead, MatPrint, MatLet}
 use Rattle.job_model.specs.Act.{Gives, Breaks, Left, ◌then◌}
 use Rattle.program_model.specs.Program.{Program, Position, whole, inside, items_of, behind_body, next_of, for_of, behind_statement, loop_place}
 use Rattle.program_model.specs.Job.{Value, number, Job, Ended, Stopped}
@@ -51,7 +51,11 @@ modified around program q (Until e) j = value_of around e j then by_truth (Behin
 modified around program q (ForModifier variable from to step) j =
     begins_loop around variable (loop_place program q) from to step j then by_turn (At (inside q true)) (Behind q)
 
--- Statements of later stages lead on: no line with one of them runs yet. Each of them gets a line of its own here.
+-- a form of a later stage leads on: no line with one runs yet
+abbrev pub of_later_stage : Position → Job Position → Doing Onward
+of_later_stage q j = goes_on q j
+
+-- each form has its row
 abbrev pub does : Around Position → Program → Position → StatementTree → Job Position → Doing Onward
 does around program q (IfThen e clause otherwise) j = value_of around e j then by_truth (At (inside q true)) (at_else q otherwise)
 does around program q (IfGoto e n otherwise) j = value_of around e j then by_truth (at_line program n) (at_else q otherwise)
@@ -85,4 +89,23 @@ does around program q (OnErrorGoto n) j = sets_handler n (goes_on q) j
 does around program q (Resume n) j = resumes (λ m. At (whole m)) (at_line program) n j
 does around program q Stop j = Breaks (Left (Stopped q)) j
 does around program q End j = Breaks (Left Ended) j
-does around program q s j = goes_on q j
+does around program q (Print (Some channel) items last) j = of_later_stage q j
+does around program q (PrintUsing channel format values last) j = of_later_stage q j
+does around program q (Input (Some channel) prompt targets) j = of_later_stage q j
+does around program q (InputLine (Some channel) variable) j = of_later_stage q j
+does around program q (DimFile channel shapes) j = of_later_stage q j
+does around program q (Chain e line) j = of_later_stage q j
+does around program q (Sleep e) j = of_later_stage q j
+does around program q (Open file purpose hash channel size cluster mode) j = of_later_stage q j
+does around program q (Close channels) j = of_later_stage q j
+does around program q (Get channel block) j = of_later_stage q j
+does around program q (Put channel block) j = of_later_stage q j
+does around program q (Unlock channel) j = of_later_stage q j
+does around program q (Field channel parts) j = of_later_stage q j
+does around program q (Lset variable e) j = of_later_stage q j
+does around program q (Rset variable e) j = of_later_stage q j
+does around program q (Kill e) j = of_later_stage q j
+does around program q (Rename old new) j = of_later_stage q j
+does around program q (MatRead matrices) j = of_later_stage q j
+does around program q (MatPrint matrix separator) j = of_later_stage q j
+does around program q (MatLet target value) j = of_later_stage q j

@@ -6,7 +6,8 @@
 //! crate stands. `Listing` is a program as it is listed, and `Tables` a listing with its FORs and
 //! NEXTs: the clause of each of their calls is the definition of what it looks up, which `lowering`
 //! needs too, to make the code. `lines_in` and `line_in` give the lines of a program and of
-//! immediate mode, `parts` and `calls` collect what statements name and call.
+//! immediate mode, `parts` and `calls` are shown the parts of statements by `statement_walk`, and
+//! collect what they name and call.
 #![tactic(auto)]
 
 mod bodies;

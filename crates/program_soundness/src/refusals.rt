@@ -7,7 +7,7 @@ ghost use Rattle.program_model.specs.Program.{body_at, statements_of};
 ghost use Rattle.program_model.specs.Soundness.{has_line, handles_errors, is_in_body, goes_across, is_open_for, is_stray_next, is_open_def, is_stray_fnend, is_second_def, is_body_of, results_by, has_stray_result, is_undefined, is_unfit, arrays_in, any_again, stands, stands_in, first_cause, refusal_of, is_refused_now};
 ghost use Rattle.program_model.specs.Parts.{simple_in, lines_named_in, calls_made_in};
 ghost use Rattle.program_soundness.specs.Listings.{text_of};
-ghost use Rattle.program_soundness.specs.Parts.{simple_tree, simple_trees, call_seen, calls_seen};
+ghost use Rattle.program_soundness.specs.Parts.{call_seen, calls_seen};
 ghost use Rattle.program_soundness.specs.Texts.{program_of};
 
 use crate::bodies::same_body;
@@ -15,10 +15,10 @@ use crate::calls::{Called, calls_made};
 use crate::dims::{add_arrays, any_again};
 use crate::kinds::fits;
 use crate::listing::Listing;
-use crate::parts::{Simple, any_for_programs, any_handles, lines_named, simple_in};
+use crate::parts::{lines_named, results_in, sorts_of};
 use crate::tables::Tables;
 use crate::texts::further;
-use basic_tree::{Program, Statement};
+use basic_tree::{Name, Program, Statement};
 use basic_values::NoMemory;
 use program_model::{LowerCause, LowerRefusal};
 use std::alloc::Global;
@@ -177,8 +177,7 @@ fn goes_across(
 {
     let body = listing.body(m);
     let outside = names_outside(alloc, listing, body, statement)?;
-    let handles = handles_within(alloc, body, statement)?;
-    Ok(outside || handles)
+    Ok(outside || handles_within(body, statement))
 }
 
 fn names_outside(
@@ -195,21 +194,11 @@ fn names_outside(
     Ok(any_outside(listing, body, &lines))
 }
 
-fn handles_within(
-    alloc: Global,
-    body: Option<usize>,
-    statement: &Statement,
-) -> Result<bool, NoMemory>
-    ensures { IfOk result (λ answer. answer
-        ≡ (is_some body && list_any handles_errors (simple_in (statement_of statement.now)))) }
+fn handles_within(body: Option<usize>, statement: &Statement) -> bool
+    ensures { result
+        ≡ (is_some body && list_any handles_errors (simple_in (statement_of statement.now))) }
 {
-    match body {
-        None => Ok(false),
-        Some(_) => {
-            let parts = simple_in(alloc, statement)?;
-            Ok(any_handles(&parts))
-        }
-    }
+    body.is_some() && sorts_of(statement).handles
 }
 
 fn any_outside(listing: &Listing<'_>, body: Option<usize>, lines: &[u16]) -> bool
@@ -294,33 +283,19 @@ fn has_stray_result(
         ≡ has_stray_result (text_of listing.now) (body_at (text_of listing.now) m)
         (statement_of statement.now)) }
 {
-    let parts = simple_in(alloc, statement)?;
-    Ok(any_stray(listing, listing.body(m), &parts))
+    let names = results_in(alloc, statement)?;
+    Ok(any_stray(listing, listing.body(m), &names))
 }
 
-fn any_stray(listing: &Listing<'_>, body: Option<usize>, parts: &[Simple<'_>]) -> bool
-    ensures { result ≡ list_any (λ f. not (is_body_of (text_of listing.now) f body))
-        (flat_map results_by (simple_trees parts.now)) }
+fn any_stray(listing: &Listing<'_>, body: Option<usize>, names: &[Name]) -> bool
+    ensures { result ≡ list_any (λ f. not (is_body_of (text_of listing.now) f body)) names.now }
 {
-    for part in parts {
-        if is_stray(listing, body, part) {
+    for name in names {
+        if !listing.is_body_of(*name, body) {
             return true;
         }
     }
     false
-}
-
-fn is_stray(listing: &Listing<'_>, body: Option<usize>, part: &Simple<'_>) -> bool
-    ensures { result ≡ list_any (λ f. not (is_body_of (text_of listing.now) f body))
-        (results_by (simple_tree part.now)) }
-{
-    match part {
-        Simple::Line(_) => false,
-        Simple::Statement(statement) => match statement {
-            Statement::Result { function, .. } => !listing.is_body_of(*function, body),
-            _ => false,
-        },
-    }
 }
 
 // Calls
@@ -338,7 +313,7 @@ fn calls_undefined(
     Ok(any_undefined(listing, &calls))
 }
 
-fn any_undefined(listing: &Listing<'_>, calls: &[Called<'_>]) -> bool
+fn any_undefined(listing: &Listing<'_>, calls: &[Called]) -> bool
     ensures { result ≡ list_any (is_undefined (text_of listing.now)) (calls_seen calls.now) }
 {
     for call in calls {
@@ -349,7 +324,7 @@ fn any_undefined(listing: &Listing<'_>, calls: &[Called<'_>]) -> bool
     false
 }
 
-fn is_undefined(listing: &Listing<'_>, call: &Called<'_>) -> bool
+fn is_undefined(listing: &Listing<'_>, call: &Called) -> bool
     ensures { result ≡ is_undefined (text_of listing.now) (call_seen call.now) }
 {
     listing.def_of(call.function).is_none()
@@ -367,7 +342,7 @@ fn calls_unfit(
     Ok(any_unfit(listing, &calls))
 }
 
-fn any_unfit(listing: &Listing<'_>, calls: &[Called<'_>]) -> bool
+fn any_unfit(listing: &Listing<'_>, calls: &[Called]) -> bool
     ensures { result ≡ list_any (is_unfit (text_of listing.now)) (calls_seen calls.now) }
 {
     for call in calls {
@@ -378,10 +353,10 @@ fn any_unfit(listing: &Listing<'_>, calls: &[Called<'_>]) -> bool
     false
 }
 
-fn is_unfit(listing: &Listing<'_>, call: &Called<'_>) -> bool
+fn is_unfit(listing: &Listing<'_>, call: &Called) -> bool
     ensures { result ≡ is_unfit (text_of listing.now) (call_seen call.now) }
 {
-    !is_undefined(listing, call) && !fits(listing.parameter_names(call.function), call.arguments)
+    !is_undefined(listing, call) && !fits(listing.parameter_names(call.function), &call.kinds)
 }
 
 // DIM
@@ -424,8 +399,7 @@ pub fn any_refused_now(alloc: Global, statements: &[Statement]) -> Result<bool, 
 fn is_refused_now(alloc: Global, statement: &Statement) -> Result<bool, NoMemory>
     ensures { IfOk result (λ answer. answer ≡ is_refused_now (statement_of statement.now)) }
 {
-    let parts = simple_in(alloc, statement)?;
     let lines = lines_named(alloc, statement)?;
     let calls = calls_made(alloc, statement)?;
-    Ok(any_for_programs(&parts) || !lines.is_empty() || !calls.is_empty())
+    Ok(sorts_of(statement).for_programs || !lines.is_empty() || !calls.is_empty())
 }

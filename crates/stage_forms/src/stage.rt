@@ -1,16 +1,16 @@
-//! Statements, and those inside them.
+//! Statements, judged part by part.
 
-ghost use Rattle.std.specs.Prelude.{◌≡◌};
+ghost use Rattle.std.specs.Prelude.{◌≡◌, ◌&&◌};
 ghost use Rattle.std.specs.List.{list_all};
-ghost use Rattle.basic_tree.specs.StatementViews.{clause_of, line_of, statement_of};
-ghost use Rattle.stage_forms.specs.Stage.{are_in_stage};
-ghost use Rattle.stage_forms.specs.Walk.{is_clause_taken, is_simple_taken, is_taken};
+ghost use Rattle.basic_tree.specs.StatementViews.{line_of, statement_of};
+ghost use Rattle.statement_walk.specs.Views.{part_of};
+ghost use Rattle.stage_forms.specs.Stage.{are_in_stage, is_form_in_stage, is_in_stage};
+ghost use Rattle.stage_forms.specs.Judging.{is_part_in_stage};
 
-use crate::expressions::{
-    are_bounds_taken, are_targets_taken, is_expr_in_stage, is_modifier_taken, is_option_taken,
-    is_print_taken,
-};
-use basic_tree::{Clause, Line, Statement};
+use crate::expressions::{is_expr_in_stage, is_target_in_stage};
+use basic_tree::{Line, Statement};
+use statement_walk::{Expression, Part, Simple, Visitor, visit_parts};
+use std::convert::Infallible;
 
 /// Whether all statements of a line are of this stage.
 pub fn is_in_stage(line: &Line) -> bool
@@ -20,92 +20,71 @@ pub fn is_in_stage(line: &Line) -> bool
 }
 
 fn are_taken(statements: &[Statement]) -> bool
-    ensures { result ≡ list_all (λ statement. is_taken (statement_of statement)) statements.now }
+    ensures { result ≡ list_all (λ statement. is_in_stage (statement_of statement)) statements.now }
 {
     statements.iter().all(|statement| is_taken(statement))
 }
 
-#[cycle(statements)]
 fn is_taken(statement: &Statement) -> bool
-    ensures { result ≡ is_taken (statement_of statement.now) }
+    ensures { result ≡ is_in_stage (statement_of statement.now) }
 {
-    match statement {
-        Statement::IfThen {
-            condition,
-            clause,
-            otherwise,
-        } => match otherwise {
-            None => is_expr_in_stage(condition) && is_clause_taken(clause),
-            Some(otherwise) => {
-                is_expr_in_stage(condition) && is_clause_taken(clause) && is_clause_taken(otherwise)
-            }
-        },
-        Statement::IfGoto {
-            condition,
-            otherwise,
-            ..
-        } => match otherwise {
-            None => is_expr_in_stage(condition),
-            Some(otherwise) => is_expr_in_stage(condition) && is_clause_taken(otherwise),
-        },
-        Statement::Modified {
-            statement,
-            modifier,
-        } => is_modifier_taken(modifier) && is_taken(statement),
-        simple => is_simple_taken(simple),
+    let mut judge = Judge { taken: true };
+    match visit_parts(&mut judge, statement) {
+        Ok(()) => judge.taken,
+        Err(never) => match never {},
     }
 }
 
-#[cycle(statements)]
-fn is_clause_taken(clause: &Clause) -> bool
-    ensures { result ≡ is_clause_taken (clause_of clause.now) }
-{
-    match clause {
-        Clause::Line(_) => true,
-        Clause::Statement(statement) => is_taken(statement),
+/// Who looks whether each part of a statement is of this stage.
+#[derive(Drop)]
+struct Judge {
+    taken: bool,
+}
+
+impl Visitor for Judge {
+    type Stop = Infallible;
+
+    ghost after = { λ judge part. record { taken = judge.taken && is_part_in_stage part } };
+
+    fn visit(&mut self, part: Part<'_>) -> Result<(), Infallible> {
+        self.taken = self.taken && is_part_in_stage(&part);
+        Ok(())
     }
 }
 
-/// A statement without IFs and modifiers.
-#[tactic(auto, using(crate::proofs::Parts::parts))]
-fn is_simple_taken(statement: &Statement) -> bool
-    ensures { result ≡ is_simple_taken (statement_of statement.now) }
+fn is_part_in_stage(part: &Part<'_>) -> bool
+    ensures { result ≡ is_part_in_stage (part_of part.now) }
+{
+    match part {
+        Part::Simple(Simple::Statement(statement)) => is_form_in_stage(statement),
+        Part::Simple(Simple::Line(_)) => true,
+        Part::Expression(Expression::Tree(e)) => is_expr_in_stage(e),
+        Part::Expression(Expression::Target(target)) => is_target_in_stage(target),
+        Part::Loop => true,
+    }
+}
+
+/// Whether the form of a statement without others inside is of this stage.
+fn is_form_in_stage(statement: &Statement) -> bool
+    ensures { result ≡ is_form_in_stage (statement_of statement.now) }
 {
     match statement {
-        Statement::For { from, to, step, .. } => are_bounds_taken(from, to, step),
-        Statement::Def { value, .. } => is_option_taken(value),
-        Statement::Let { targets, value, .. } => {
-            are_targets_taken(targets.as_slice()) && is_expr_in_stage(value)
-        }
-        Statement::Result { value, .. } => is_expr_in_stage(value),
-        Statement::Print {
-            channel,
-            items,
-            last,
-        } => is_print_taken(channel, items.as_slice(), last),
-        Statement::Input {
-            channel,
-            targets,
-            ..
-        } => match channel {
-            None => are_targets_taken(targets.as_slice()),
-            Some(_) => false,
-        },
-        Statement::InputLine { channel, .. } => match channel {
-            None => true,
-            Some(_) => false,
-        },
-        Statement::Read(targets) => are_targets_taken(targets.as_slice()),
-        Statement::OnGoto { selector, .. } => is_expr_in_stage(selector),
-        Statement::OnGosub { selector, .. } => is_expr_in_stage(selector),
+        Statement::Print { channel, .. } => channel.is_none(),
+        Statement::Input { channel, .. } => channel.is_none(),
+        Statement::InputLine { channel, .. } => channel.is_none(),
         Statement::DimFile { .. } | Statement::Chain { .. } | Statement::Sleep(_) => false,
         Statement::Open { .. } | Statement::Close(_) | Statement::Unlock(_) => false,
         Statement::Get { .. } | Statement::Put { .. } | Statement::Field { .. } => false,
         Statement::Lset { .. } | Statement::Rset { .. } => false,
-        Statement::Kill(_) | Statement::Rename { .. } => false,
-        Statement::Next(_) | Statement::FnEnd | Statement::Data(_) | Statement::Dim(_) => true,
+        Statement::Kill(_) | Statement::Rename { .. } | Statement::PrintUsing { .. } => false,
+        Statement::MatRead(_) | Statement::MatPrint { .. } | Statement::MatLet { .. } => false,
+        Statement::For { .. } | Statement::Next(_) => true,
+        Statement::Def { .. } | Statement::FnEnd | Statement::Result { .. } => true,
+        Statement::Data(_) | Statement::Read(_) | Statement::Restore => true,
+        Statement::Dim(_) | Statement::Let { .. } => true,
         Statement::Goto { .. } | Statement::Gosub { .. } | Statement::Return => true,
-        Statement::OnErrorGoto(_) | Statement::Resume(_) | Statement::Restore => true,
+        Statement::OnGoto { .. } | Statement::OnGosub { .. } => true,
+        Statement::OnErrorGoto(_) | Statement::Resume(_) => true,
         Statement::Stop | Statement::End => true,
         Statement::IfThen { .. } | Statement::IfGoto { .. } | Statement::Modified { .. } => true,
     }

@@ -80,7 +80,7 @@ pub fn perhaps_number(
     })
 }
 
-/// A channel in `#` and a comma, where `#` stands there; and the place behind them.
+/// `#`, a channel and a comma, where `#` stands there; and the place behind them.
 #[tactic(auto)]
 pub fn perhaps_channel(
     alloc: Global,
@@ -132,11 +132,7 @@ pub fn perhaps_line(
 
 /// FOR INPUT or FOR OUTPUT, where FOR stands there; and the place behind it.
 #[tactic(auto)]
-pub fn purpose(
-    words: &Words<'_>,
-    from: usize,
-    levels: usize,
-) -> Result<Read<Option<Part>>, Failure>
+pub fn purpose(words: &Words<'_>, from: usize, levels: usize) -> Result<Read<Option<Part>>, Failure>
     requires { from ≤ length words.now }
     ensures { PieceRead levels words.now from piece.Purpose result }
 {

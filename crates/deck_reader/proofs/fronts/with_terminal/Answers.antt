@@ -5,8 +5,8 @@ use Rattle.deck_reader.specs.Seen.{deck_of, is_named}
 use Rattle.deck_reader.proofs.FrontLemmas.{terminal_full, terminal_added}
 use Rattle.deck_reader.proofs.fronts.with_terminal.Goals as goal
 
-pub returns-then-len-ge-MOST_TERMINALS : goal.returns-then-len-ge-MOST_TERMINALS
-returns-then-len-ge-MOST_TERMINALS c =
+pub returns-then-len-ge-MOST_JOBS : goal.returns-then-len-ge-MOST_JOBS
+returns-then-len-ge-MOST_JOBS c =
     let terminals = c.args.deck.terminals in
     let good : is_terminal_name c.args.name.now ≡ true = search rules in
     let new : is_named terminals.items c.args.name.now ≡ false = search rules in

@@ -2,7 +2,7 @@ use Rattle.std.proofs.Common.{List, map, ap, ◌∙◌}
 use Rattle.basic_tree.specs.declared.statements.Statement.{Statement}
 use Rattle.basic_tree.specs.StatementViews.{statement_of}
 use Rattle.stage_forms.specs.Stage.{are_in_stage}
-use Rattle.stage_forms.proofs.Parts.{all_statements}
+use Rattle.stage_forms.proofs.Judged.{all_statements}
 use Rattle.stage_forms.proofs.stage.is_in_stage.Goals as goal
 
 pub returns : goal.returns

@@ -1,6 +1,0 @@
-use Rattle.std.proofs.Common.{◌≡◌, replicate}
-use Rattle.monitor_calls.specs.Pages.{zeros}
-use Rattle.block_files.proofs.disks.zero_pages.Given as goal
-
-abbrev pub invariant-loop : goal.invariant-loop
-invariant-loop l = l.pages.items ≡ replicate l.counter zeros

@@ -1,0 +1,23 @@
+use Rattle.std.proofs.Common.{length, None, sym, ap, ◌∙◌, arith}
+use Rattle.std.specs.Prelude.{option_map}
+use Rattle.monitor_model.specs.Files.{size, file_at}
+use Rattle.block_files.proofs.ReadLemmas.{shown_at, size-file_of}
+use Rattle.block_files.proofs.RowLemmas.{total-at}
+use Rattle.block_files.proofs.stores.Store.size.Goals as goal
+
+pub returns-in-Some : goal.returns-in-Some
+returns-in-Some c =
+    let i = c.self.inside in
+    let v = c.in-Some.body.now in
+    size-file_of i.pages.items i.files.entries c.args.name.now v c.len.result (c.len.ensures ∙ v.places.ok.0) c.in-Some.ensures ∙ ap (λ d. option_map size (file_at d.files c.args.name.now)) c.self.view_is
+
+pub returns-in-None : goal.returns-in-None
+returns-in-None c =
+    let i = c.self.inside in
+    sym (ap (option_map size) (shown_at i.pages.items i.files.entries c.args.name.now None c.in-None.ensures)) ∙ ap (λ d. option_map size (file_at d.files c.args.name.now)) c.self.view_is
+
+pub overflow_cast-result : goal.overflow_cast-result
+overflow_cast-result c =
+    let i = c.self.inside in
+    let v = c.in-Some.body.now in
+    omega (arith, c.len.ensures, v.places.ok.0, total-at length i.files.entries c.args.name.now v (sym c.in-Some.ensures), c.self.invariant.disk.all, c.self.invariant.small)
