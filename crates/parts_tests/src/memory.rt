@@ -90,9 +90,15 @@ fn made(answer: Result<(), Trouble<Halt>>) -> Told {
 fn stored(answer: Result<(), Stop>) -> Told {
     match answer {
         Ok(()) => Told::Done,
-        Err(Stop::Halt(Halt::RoomFull)) => Told::Full,
-        Err(Stop::Fault(fault)) => Told::Fault(fault.number()),
-        Err(_) => Told::Other,
+        Err(stop) => stopped(&stop),
+    }
+}
+
+fn stopped(stop: &Stop) -> Told {
+    match stop {
+        Stop::Halt(Halt::RoomFull) => Told::Full,
+        Stop::Fault(fault) => Told::Fault(fault.number()),
+        _ => Told::Other,
     }
 }
 

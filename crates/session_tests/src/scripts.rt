@@ -125,10 +125,16 @@ fn kind_told(kind: OpenKind) -> &'static str {
 pub(crate) fn ending<T: Drop>(outcome: &Result<T, Stop>) -> u8 {
     match outcome {
         Ok(_) => 0,
-        Err(Stop::Fault(fault)) => fault.number(),
-        Err(Stop::Expired) => 100,
-        Err(Stop::Halt(_)) => 101,
-        Err(Stop::NoMemory) => 102,
+        Err(stop) => stop_told(stop),
+    }
+}
+
+fn stop_told(stop: &Stop) -> u8 {
+    match stop {
+        Stop::Fault(fault) => fault.number(),
+        Stop::Expired => 100,
+        Stop::Halt(_) => 101,
+        Stop::NoMemory => 102,
     }
 }
 
