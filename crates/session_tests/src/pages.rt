@@ -1,75 +1,44 @@
 //! Pages that are read and written, and files that are taken away.
 
-use crate::scripts::{assert_asked, failed, named, opened, page_of};
-use basic_values::Stop;
-use monitor_calls::{OpenKind, Page, Reply, ScriptPort};
+use crate::scripts::{Said, ending, expect_asked, named, page_of, port_of};
+use monitor_calls::{OpenKind, Page};
 use program_files::{kill_file, read_pages, write_pages};
-use std::alloc::{AllocGlobal, Global};
-use std::process::Abort;
+use std::alloc::Global;
 use std::test::Fail;
 
-/// A file is read with these replies: what is asked, and how it ends.
-fn assert_read(
-    rt: &(impl AllocGlobal + Abort),
-    replies: Vec<Reply>,
-    requests: &str,
-    ending: u8,
-) -> Result<(), Fail> {
-    let mut port = ScriptPort::new(rt.alloc(), replies);
-    let pages = read_pages(rt.alloc(), &mut port, named(rt, "DEMO", "BAS"), Some(40));
-    assert_asked(rt, &port, pages, requests, ending)
+/// The replies of a port, what is asked of it, and how the call ends.
+type Row = (&'static [Said], &'static str, u8);
+
+/// Fails unless a file that is read asks and ends so.
+fn expect_read(alloc: Global, row: &Row) -> Result<(), Fail> {
+    let mut port = port_of(alloc, row.0)?;
+    let pages = read_pages(alloc, &mut port, named(b"DEMO", b"BAS")?, Some(40));
+    expect_asked(alloc, &port, row.1, ending(&pages), row.2)
 }
 
-/// Two pages are written with these replies.
-fn assert_written(
-    rt: &(impl AllocGlobal + Abort),
-    kind: OpenKind,
-    replies: Vec<Reply>,
-    requests: &str,
-    ending: u8,
-) -> Result<(), Fail> {
-    let alloc = rt.alloc();
+fn expect_reads(alloc: Global, rows: &[Row]) -> Result<(), Fail> {
+    for row in rows {
+        expect_read(alloc, row)?;
+    }
+    Ok(())
+}
+
+fn two_pages(alloc: Global) -> Result<Vec<Page>, Fail> {
     let mut pages = Vec::new(alloc);
     pages.push(page_of(alloc, 65)?)?;
     pages.push(page_of(alloc, 66)?)?;
-    let mut port = ScriptPort::new(alloc, replies);
-    let written = write_pages(
-        alloc,
-        &mut port,
-        named(rt, "DEMO", "BAS"),
-        kind,
-        None,
-        pages,
-    );
-    assert_asked(rt, &port, written, requests, ending)
+    Ok(pages)
 }
 
-#[test]
-fn pages_come_in_order(rt: HostRuntime) -> Result<(), Fail> {
-    let alloc = rt.alloc();
-    let mut replies = Vec::new(alloc);
-    replies.push(opened(2))?;
-    replies.push(Reply::Block(page_of(alloc, 65)?))?;
-    replies.push(Reply::Block(page_of(alloc, 66)?))?;
-    replies.push(Reply::Done)?;
-    let mut port = ScriptPort::new(alloc, replies);
-    match read_pages(alloc, &mut port, named(&rt, "DEMO", "BAS"), None) {
-        Ok(pages) => {
-            let firsts = first_bytes(alloc, pages.as_slice())?;
-            assert_eq!(&rt; firsts.as_slice(), [65, 66].as_slice());
-        }
-        Err(_) => assert!(&rt; false),
-    }
-    let outcome: Result<(), Stop> = Ok(());
-    assert_asked(
-        &rt,
-        &port,
-        outcome,
-        "input 0 false 99\nget 0 1\nget 0 2\nclose 0\n",
-        0,
-    )
+/// Fails unless two pages that are written ask and end so.
+fn expect_written(alloc: Global, kind: OpenKind, row: &Row) -> Result<(), Fail> {
+    let mut port = port_of(alloc, row.0)?;
+    let (name, pages) = (named(b"DEMO", b"BAS")?, two_pages(alloc)?);
+    let written = write_pages(alloc, &mut port, name, kind, None, pages);
+    expect_asked(alloc, &port, row.1, ending(&written), row.2)
 }
 
+/// The first byte of each page of a file.
 fn first_bytes(alloc: Global, pages: &[Page]) -> Result<Vec<u8>, Fail> {
     let mut bytes = Vec::new(alloc);
     for page in pages {
@@ -78,104 +47,199 @@ fn first_bytes(alloc: Global, pages: &[Page]) -> Result<Vec<u8>, Fail> {
     Ok(bytes)
 }
 
+static TWO_BLOCKS: [Said; 4] = [
+    Said::Opened(2),
+    Said::Block(65),
+    Said::Block(66),
+    Said::Done,
+];
+
+#[test]
+fn pages_come_in_order(rt: HostRuntime) -> Result<(), Fail> {
+    let alloc = rt.alloc();
+    let mut port = port_of(alloc, &TWO_BLOCKS)?;
+    let pages = read_pages(alloc, &mut port, named(b"DEMO", b"BAS")?, None);
+    let firsts = match pages {
+        Ok(pages) => first_bytes(alloc, pages.as_slice())?,
+        Err(_) => Vec::new(alloc),
+    };
+    assert_eq!(rt; firsts.as_slice(), [65, 66].as_slice());
+    let requests = "input 0 false 99\nget 0 1\nget 0 2\nclose 0\n";
+    expect_asked(alloc, &port, requests, 0, 0)
+}
+
+static NO_BLOCKS: Row = (
+    &[Said::Opened(0), Said::Done],
+    "input 0 false 40\nclose 0\n",
+    0,
+);
+
 #[test]
 fn a_file_without_blocks_is_closed(rt: HostRuntime) -> Result<(), Fail> {
-    let replies = vec![in rt.alloc(); opened(0), Reply::Done]?;
-    assert_read(&rt, replies, "input 0 false 40\nclose 0\n", 0)
+    expect_read(rt.alloc(), &NO_BLOCKS)
 }
+
+static NOT_OPENED: [Row; 5] = [
+    (&[Said::Failed(5)], "input 0 false 40\n", 5),
+    (&[Said::Failed(10)], "input 0 false 40\n", 10),
+    (&[Said::Expired], "input 0 false 40\n", 100),
+    (&[Said::Done], "input 0 false 40\n", 100),
+    (&[Said::Failed(71)], "input 0 false 40\n", 100),
+];
 
 #[test]
 fn what_was_not_opened_is_not_closed(rt: HostRuntime) -> Result<(), Fail> {
-    let alloc = rt.alloc();
-    assert_read(&rt, vec![in alloc; failed(5)]?, "input 0 false 40\n", 5)?;
-    assert_read(&rt, vec![in alloc; failed(10)]?, "input 0 false 40\n", 10)?;
-    assert_read(
-        &rt,
-        vec![in alloc; Reply::Expired]?,
-        "input 0 false 40\n",
-        100,
-    )?;
-    assert_read(&rt, vec![in alloc; Reply::Done]?, "input 0 false 40\n", 100)?;
-    assert_read(&rt, vec![in alloc; failed(71)]?, "input 0 false 40\n", 100)
+    expect_reads(rt.alloc(), &NOT_OPENED)
 }
+
+const TO_THE_SECOND: &str = "input 0 false 40\nget 0 1\nget 0 2\nclose 0\n";
+
+static REFUSED_BLOCKS: [Row; 4] = [
+    (
+        &[
+            Said::Opened(3),
+            Said::Block(65),
+            Said::Failed(11),
+            Said::Done,
+        ],
+        TO_THE_SECOND,
+        11,
+    ),
+    (
+        &[
+            Said::Opened(3),
+            Said::Block(65),
+            Said::Failed(11),
+            Said::Failed(9),
+        ],
+        TO_THE_SECOND,
+        11,
+    ),
+    (
+        &[
+            Said::Opened(3),
+            Said::Block(65),
+            Said::Failed(11),
+            Said::Expired,
+        ],
+        TO_THE_SECOND,
+        100,
+    ),
+    (
+        &[
+            Said::Opened(3),
+            Said::Block(65),
+            Said::Failed(11),
+            Said::Failed(0),
+        ],
+        TO_THE_SECOND,
+        100,
+    ),
+];
 
 #[test]
 fn a_block_that_is_refused_in_the_middle(rt: HostRuntime) -> Result<(), Fail> {
-    for (closing, ending) in [
-        (Reply::Done, 11),
-        (failed(9), 11),
-        (Reply::Expired, 100),
-        (failed(0), 100),
-    ] {
-        let alloc = rt.alloc();
-        let mut replies = Vec::new(alloc);
-        replies.push(opened(3))?;
-        replies.push(Reply::Block(page_of(alloc, 65)?))?;
-        replies.push(failed(11))?;
-        replies.push(closing)?;
-        let requests = "input 0 false 40\nget 0 1\nget 0 2\nclose 0\n";
-        assert_read(&rt, replies, requests, ending)?;
+    expect_reads(rt.alloc(), &REFUSED_BLOCKS)
+}
+
+static JOB_ENDS: [Row; 2] = [
+    (
+        &[Said::Opened(1), Said::Expired],
+        "input 0 false 40\nget 0 1\n",
+        100,
+    ),
+    (
+        &[Said::Opened(1), Said::Done],
+        "input 0 false 40\nget 0 1\n",
+        100,
+    ),
+];
+
+#[test]
+fn what_ends_the_job_closes_nothing(rt: HostRuntime) -> Result<(), Fail> {
+    expect_reads(rt.alloc(), &JOB_ENDS)
+}
+
+static REFUSED_CLOSING: Row = (
+    &[Said::Opened(0), Said::Failed(9)],
+    "input 0 false 40\nclose 0\n",
+    9,
+);
+
+#[test]
+fn a_closing_that_is_refused_is_told(rt: HostRuntime) -> Result<(), Fail> {
+    expect_read(rt.alloc(), &REFUSED_CLOSING)
+}
+
+static MADE: Row = (
+    &[Said::Opened(0), Said::Done, Said::Done, Said::Done],
+    "fresh 0 false 99\nput 0 1 65\nput 0 2 66\nclose 0\n",
+    0,
+);
+
+static REPLACED: Row = (
+    &[Said::Opened(7), Said::Done, Said::Done, Said::Done],
+    "output 0 false 99\nput 0 1 65\nput 0 2 66\nclose 0\n",
+    0,
+);
+
+#[test]
+fn pages_are_written_in_order(rt: HostRuntime) -> Result<(), Fail> {
+    expect_written(rt.alloc(), OpenKind::Fresh, &MADE)?;
+    expect_written(rt.alloc(), OpenKind::Output, &REPLACED)
+}
+
+static FULL_DISKS: [Row; 2] = [
+    (
+        &[Said::Opened(0), Said::Done, Said::Failed(4), Said::Done],
+        "fresh 0 false 99\nput 0 1 65\nput 0 2 66\nclose 0\n",
+        4,
+    ),
+    (
+        &[
+            Said::Opened(0),
+            Said::Done,
+            Said::Failed(4),
+            Said::Failed(9),
+        ],
+        "fresh 0 false 99\nput 0 1 65\nput 0 2 66\nclose 0\n",
+        4,
+    ),
+];
+
+#[test]
+fn a_disk_that_is_full(rt: HostRuntime) -> Result<(), Fail> {
+    for row in FULL_DISKS.iter() {
+        expect_written(rt.alloc(), OpenKind::Fresh, row)?;
     }
     Ok(())
 }
 
-#[test]
-fn what_ends_the_job_closes_nothing(rt: HostRuntime) -> Result<(), Fail> {
-    let alloc = rt.alloc();
-    let requests = "input 0 false 40\nget 0 1\n";
-    assert_read(
-        &rt,
-        vec![in alloc; opened(1), Reply::Expired]?,
-        requests,
-        100,
-    )?;
-    assert_read(&rt, vec![in alloc; opened(1), Reply::Done]?, requests, 100)
-}
-
-#[test]
-fn a_closing_that_is_refused_is_told(rt: HostRuntime) -> Result<(), Fail> {
-    let replies = vec![in rt.alloc(); opened(0), failed(9)]?;
-    assert_read(&rt, replies, "input 0 false 40\nclose 0\n", 9)
-}
-
-#[test]
-fn pages_are_written_in_order(rt: HostRuntime) -> Result<(), Fail> {
-    let alloc = rt.alloc();
-    let requests = "fresh 0 false 99\nput 0 1 65\nput 0 2 66\nclose 0\n";
-    let replies = vec![in alloc; opened(0), Reply::Done, Reply::Done, Reply::Done]?;
-    assert_written(&rt, OpenKind::Fresh, replies, requests, 0)?;
-    let requests = "output 0 false 99\nput 0 1 65\nput 0 2 66\nclose 0\n";
-    let replies = vec![in alloc; opened(7), Reply::Done, Reply::Done, Reply::Done]?;
-    assert_written(&rt, OpenKind::Output, replies, requests, 0)
-}
-
-#[test]
-fn a_disk_that_is_full(rt: HostRuntime) -> Result<(), Fail> {
-    let alloc = rt.alloc();
-    let requests = "fresh 0 false 99\nput 0 1 65\nput 0 2 66\nclose 0\n";
-    let replies = vec![in alloc; opened(0), Reply::Done, failed(4), Reply::Done]?;
-    assert_written(&rt, OpenKind::Fresh, replies, requests, 4)?;
-    let replies = vec![in alloc; opened(0), Reply::Done, failed(4), failed(9)]?;
-    assert_written(&rt, OpenKind::Fresh, replies, requests, 4)
-}
+static NAME_IS_THERE: Row = (&[Said::Failed(16)], "fresh 0 false 99\n", 16);
 
 #[test]
 fn a_name_that_is_there(rt: HostRuntime) -> Result<(), Fail> {
-    let replies = vec![in rt.alloc(); failed(16)]?;
-    assert_written(&rt, OpenKind::Fresh, replies, "fresh 0 false 99\n", 16)
+    expect_written(rt.alloc(), OpenKind::Fresh, &NAME_IS_THERE)
+}
+
+/// A reply to the call that takes a file away, and how the call ends.
+static KILLED: [(Said, u8); 4] = [
+    (Said::Done, 0),
+    (Said::Failed(5), 5),
+    (Said::Failed(71), 100),
+    (Said::Expired, 100),
+];
+
+fn expect_killed(alloc: Global, said: Said, wanted: u8) -> Result<(), Fail> {
+    let mut port = port_of(alloc, &[said])?;
+    let killed = kill_file(alloc, &mut port, named(b"DEMO", b"BAS")?);
+    expect_asked(alloc, &port, "kill\n", ending(&killed), wanted)
 }
 
 #[test]
 fn a_file_is_taken_away(rt: HostRuntime) -> Result<(), Fail> {
-    for (reply, ending) in [
-        (Reply::Done, 0),
-        (failed(5), 5),
-        (failed(71), 100),
-        (Reply::Expired, 100),
-    ] {
-        let mut port = ScriptPort::new(rt.alloc(), vec![in rt.alloc(); reply]?);
-        let killed = kill_file(rt.alloc(), &mut port, named(&rt, "DEMO", "BAS"));
-        assert_asked(&rt, &port, killed, "kill\n", ending)?;
+    for (said, wanted) in KILLED.iter() {
+        expect_killed(rt.alloc(), *said, *wanted)?;
     }
     Ok(())
 }

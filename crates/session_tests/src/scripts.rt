@@ -2,20 +2,34 @@
 
 use basic_values::{Fault, Stop};
 use monitor_calls::{Account, FileName, OpenKind, Page, Reply, Request, ScriptPort, Short};
-use std::alloc::{AllocGlobal, Global};
-use std::process::Abort;
+use std::alloc::Global;
 use std::test::Fail;
 
+/// A reply of the script, in few words.
+#[derive(Clone, Copy)]
+pub(crate) enum Said {
+    Done,
+    Expired,
+    Failed(u8),
+    /// A file of so many blocks is open.
+    Opened(u16),
+    /// A block that is full of a byte.
+    Block(u8),
+    /// A file by its stem and its extension, with its code, and its blocks where they are told.
+    File(&'static [u8], &'static [u8], u8, Option<u16>),
+}
+
 /// A file's name, in the account 100,5.
-pub(crate) fn named(rt: &impl Abort, stem: &str, extension: &str) -> FileName {
-    FileName {
-        owner: Account {
-            project: 100,
-            programmer: 5,
-        },
-        stem: Short::of(stem.as_bytes()).expect(rt, "a stem"),
-        extension: Short::of(extension.as_bytes()).expect(rt, "an extension"),
-    }
+pub(crate) fn named(stem: &[u8], extension: &[u8]) -> Result<FileName, Fail> {
+    let owner = Account {
+        project: 100,
+        programmer: 5,
+    };
+    Ok(FileName {
+        owner,
+        stem: Short::of(stem).ok_or("no stem")?,
+        extension: Short::of(extension).ok_or("no extension")?,
+    })
 }
 
 /// A page that is full of a byte.
@@ -25,12 +39,22 @@ pub(crate) fn page_of(alloc: Global, byte: u8) -> Result<Page, Fail> {
     Ok(page)
 }
 
-pub(crate) fn failed(number: u8) -> Reply {
-    Reply::Failed(Fault::new(number))
+fn reply_of(alloc: Global, said: Said) -> Result<Reply, Fail> {
+    match said {
+        Said::Done => Ok(Reply::Done),
+        Said::Expired => Ok(Reply::Expired),
+        Said::Failed(number) => Ok(Reply::Failed(Fault::new(number))),
+        Said::Opened(blocks) => Ok(opened(blocks)),
+        Said::Block(byte) => Ok(Reply::Block(page_of(alloc, byte)?)),
+        Said::File(stem, extension, code, blocks) => Ok(Reply::Name {
+            name: named(stem, extension)?,
+            code,
+            blocks,
+        }),
+    }
 }
 
-/// A file of so many blocks is open.
-pub(crate) fn opened(blocks: u16) -> Reply {
+fn opened(blocks: u16) -> Reply {
     Reply::Opened {
         blocks,
         read: true,
@@ -38,8 +62,17 @@ pub(crate) fn opened(blocks: u16) -> Reply {
     }
 }
 
+/// A port that replies this.
+pub(crate) fn port_of(alloc: Global, script: &[Said]) -> Result<ScriptPort, Fail> {
+    let mut replies = Vec::new(alloc);
+    for said in script {
+        replies.push(reply_of(alloc, *said)?)?;
+    }
+    Ok(ScriptPort::new(alloc, replies))
+}
+
 /// What was asked, a line for each request.
-pub(crate) fn asked(alloc: Global, port: &ScriptPort) -> Result<String, Fail> {
+fn asked(alloc: Global, port: &ScriptPort) -> Result<String, Fail> {
     let mut text = String::new(alloc);
     for (request, _) in port.log() {
         text.push_str(request_told(alloc, request)?.as_str())?;
@@ -57,8 +90,8 @@ fn request_told(alloc: Global, request: &Request) -> Result<String, Fail> {
             code,
             ..
         } => {
-            let code = code.unwrap_or(99);
-            Ok(format!(in alloc; "{} {channel} {update} {code}", kind_told(*kind))?)
+            let (kind, code) = (kind_told(*kind), code.unwrap_or(99));
+            Ok(format!(in alloc; "{kind} {channel} {update} {code}")?)
         }
         Request::CloseFile { channel } => Ok(format!(in alloc; "close {channel}")?),
         Request::Get { channel, block } => Ok(format!(in alloc; "get {channel} {block}")?),
@@ -87,29 +120,30 @@ fn kind_told(kind: OpenKind) -> &'static str {
     }
 }
 
-/// The number of the fault of a stop; 100 where the job's calls are used up.
-fn stop_told(stop: &Stop) -> u8 {
-    match stop {
-        Stop::Fault(fault) => fault.number(),
-        Stop::Expired => 100,
-        Stop::Halt(_) => 101,
-        Stop::NoMemory => 102,
+/// How a call ended: 0 where nothing stopped it, the number of its fault, and 100 where the job's
+/// calls are used up.
+pub(crate) fn ending<T: Drop>(outcome: &Result<T, Stop>) -> u8 {
+    match outcome {
+        Ok(_) => 0,
+        Err(Stop::Fault(fault)) => fault.number(),
+        Err(Stop::Expired) => 100,
+        Err(Stop::Halt(_)) => 101,
+        Err(Stop::NoMemory) => 102,
     }
 }
 
-/// Asserts what was asked, and how it ended: 0 where nothing stopped it.
-pub(crate) fn assert_asked<T: Drop>(
-    rt: &(impl AllocGlobal + Abort),
+/// Fails with what was asked, unless it is this, and the call ended so.
+pub(crate) fn expect_asked(
+    alloc: Global,
     port: &ScriptPort,
-    outcome: Result<T, Stop>,
     requests: &str,
     ending: u8,
+    wanted: u8,
 ) -> Result<(), Fail> {
-    let number = match &outcome {
-        Ok(_) => 0,
-        Err(stop) => stop_told(stop),
-    };
-    assert_eq!(rt; asked(rt.alloc(), port)?.as_str(), requests);
-    assert_eq!(rt; number, ending, "behind {requests}");
-    Ok(())
+    let asked = asked(alloc, port)?;
+    if asked.as_str() == requests && ending == wanted {
+        Ok(())
+    } else {
+        Err(Fail::new(asked))
+    }
 }
