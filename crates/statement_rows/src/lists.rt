@@ -39,7 +39,13 @@ pub fn channels(
     requires { from ≤ length words.now }
     ensures { PieceRead levels words.now from piece.Channels result }
 {
-    let Read { value: found, end } = elements::<CloseChannel>(alloc, words, from, Want::Number, levels)?;
+    let Read { value: found, end } = elements::<CloseChannel>(
+        alloc,
+        words,
+        from,
+        Want::Number,
+        levels,
+    )?;
     Ok(Read {
         value: Some(Part::Channels(found)),
         end,
@@ -57,7 +63,13 @@ pub fn fields(
     requires { from ≤ length words.now }
     ensures { PieceRead levels words.now from piece.Fields result }
 {
-    let Read { value: found, end } = elements::<FieldPart>(alloc, words, from, Want::Number, levels)?;
+    let Read { value: found, end } = elements::<FieldPart>(
+        alloc,
+        words,
+        from,
+        Want::Number,
+        levels,
+    )?;
     Ok(Read {
         value: Some(Part::Fields(found)),
         end,
@@ -129,7 +141,13 @@ pub fn file_shapes(
     requires { from ≤ length words.now }
     ensures { PieceRead levels words.now from piece.FileShapes result }
 {
-    let Read { value: found, end } = elements::<FileShape>(alloc, words, from, Want::Either, levels)?;
+    let Read { value: found, end } = elements::<FileShape>(
+        alloc,
+        words,
+        from,
+        Want::Either,
+        levels,
+    )?;
     Ok(Read {
         value: Some(Part::FileShapes(found)),
         end,

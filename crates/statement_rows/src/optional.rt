@@ -132,11 +132,7 @@ pub fn perhaps_line(
 
 /// FOR INPUT or FOR OUTPUT, where FOR stands there; and the place behind it.
 #[tactic(auto)]
-pub fn purpose(
-    words: &Words<'_>,
-    from: usize,
-    levels: usize,
-) -> Result<Read<Option<Part>>, Failure>
+pub fn purpose(words: &Words<'_>, from: usize, levels: usize) -> Result<Read<Option<Part>>, Failure>
     requires { from ≤ length words.now }
     ensures { PieceRead levels words.now from piece.Purpose result }
 {

@@ -29,11 +29,7 @@ pub fn row_of(key: Keyword) -> Option<&'static [Piece]>
         Keyword::Goto | Keyword::Gosub => &[Piece::Line],
         Keyword::Go => &[Piece::Either(Keyword::To, Keyword::Sub), Piece::Line],
         Keyword::Resume => &[Piece::PerhapsLine],
-        Keyword::FnEnd
-        | Keyword::Restore
-        | Keyword::Return
-        | Keyword::Stop
-        | Keyword::End => &[],
+        Keyword::FnEnd | Keyword::Restore | Keyword::Return | Keyword::Stop | Keyword::End => &[],
         Keyword::Sleep => &[Piece::Value(Want::Number)],
         Keyword::Open => &[
             Piece::Value(Want::Text),
