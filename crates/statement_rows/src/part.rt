@@ -2,8 +2,8 @@
 
 use crate::open_options::OpenOptions;
 use basic_tree::{
-    CloseChannel, Expr, FieldPart, FileShape, MatrixValue, Name, OpenFor, Prompt, Separator, Series,
-    Shape, Target,
+    CloseChannel, Expr, FieldPart, FileShape, MatrixValue, Name, OpenFor, Prompt, Separator,
+    Series, Shape, Target,
 };
 use basic_values::Text;
 use statement_parts::{Assigned, LoopRange};

@@ -6,8 +6,8 @@ ghost use Rattle.statement_rows.specs.Pieces.{PieceRead, RowRead};
 use crate::lists::{arrays, channels, fields, file_shapes, lines, shapes, targets};
 use crate::matrices::matrix;
 use crate::optional::{
-    either, mark, open_options, perhaps_channel, perhaps_line, perhaps_number,
-    perhaps_separator, purpose,
+    either, mark, open_options, perhaps_channel, perhaps_line, perhaps_number, perhaps_separator,
+    purpose,
 };
 use crate::part::Part;
 use crate::piece::Piece;

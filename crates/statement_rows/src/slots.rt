@@ -6,8 +6,8 @@ ghost use Rattle.statement_rows.specs.Slots.{added, behind_first, first_option, 
 
 use crate::part::Part;
 use basic_tree::{
-    CloseChannel, Expr, FieldPart, FileShape, MatrixValue, Name, OpenFor, Prompt, Separator, Series,
-    Shape, Target,
+    CloseChannel, Expr, FieldPart, FileShape, MatrixValue, Name, OpenFor, Prompt, Separator,
+    Series, Shape, Target,
 };
 use basic_values::{NoMemory, Text};
 use std::alloc::Global;

@@ -14,20 +14,20 @@ returns-then-if_key c =
 
 pub returns-then-if_key-2 : goal.returns-then-if_key-2
 returns-then-if_key-2 c =
-    states_on_from c.args.levels c.args.words.now c.args.from _ mat_form (rest_form rest.MatPrint) c.stated-2.result
+    states_on_from c.args.levels c.args.words.now c.args.from _ mat_form (rest_form rest.MatPrint) c.stated-then-if_key-2.result
     (omega (arith, c.in_ok-at.ensures.0.0))
     (λ k vs.
-        c.in_ok-at.ensures.1 c.args.levels _ k vs
-        ∙ c.if-if_key.ensures.stands c.args.levels false _ _ k vs
-        ∙ c.if-if_key-2.ensures.stands.1 c.args.levels _ _ k vs)
-    c.stated-2.ensures
+    c.in_ok-at.ensures.1 c.args.levels _ k vs
+    ∙ c.if-if_key.ensures.stands c.args.levels false _ _ k vs
+    ∙ c.if-if_key-2.ensures.stands.1 c.args.levels _ _ k vs)
+    c.stated-then-if_key-2.ensures
 
 pub returns : goal.returns
 returns c =
-    states_on_from c.args.levels c.args.words.now c.args.from _ mat_form (rest_form rest.MatLet) c.stated-3.result
+    states_on_from c.args.levels c.args.words.now c.args.from _ mat_form (rest_form rest.MatLet) c.stated-2.result
     c.in_ok-at.ensures.0.0
     (λ k vs.
-        c.in_ok-at.ensures.1 c.args.levels _ k vs
-        ∙ c.if-if_key.ensures.stands c.args.levels false _ _ k vs
-        ∙ c.if-if_key-2.ensures.stands c.args.levels false _ _ k vs)
-    c.stated-3.ensures
+    c.in_ok-at.ensures.1 c.args.levels _ k vs
+    ∙ c.if-if_key.ensures.stands c.args.levels false _ _ k vs
+    ∙ c.if-if_key-2.ensures.stands c.args.levels false _ _ k vs)
+    c.stated-2.ensures
