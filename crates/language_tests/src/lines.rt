@@ -351,21 +351,19 @@ static MET_FIRST: [Row; 6] = [
     (b"print 2 + 3%", Answer::Tree),
 ];
 
-/// The tables of rows, in this order.
-static TABLES: [&[Row]; 8] = [
-    &MET_FIRST,
-    &ASSIGNMENTS,
-    &PRINTING,
-    &JUMPS,
-    &FILES,
-    &HEADS,
-    &CHOICES,
-    &EXPRESSIONS,
-];
-
 /// The table and the row of the first line that is answered otherwise.
 fn first_wrong_table(alloc: Global) -> Option<(usize, usize)> {
-    for (table, rows) in TABLES.iter().enumerate() {
+    let tables: [&[Row]; 8] = [
+        &MET_FIRST,
+        &ASSIGNMENTS,
+        &PRINTING,
+        &JUMPS,
+        &FILES,
+        &HEADS,
+        &CHOICES,
+        &EXPRESSIONS,
+    ];
+    for (table, rows) in tables.iter().enumerate() {
         if let Some(place) = first_wrong(alloc, rows) {
             return Some((table, place));
         }

@@ -183,12 +183,10 @@ fn first_wrong(alloc: Global, rows: &[Row]) -> Result<Option<usize>, Fail> {
     Ok(None)
 }
 
-/// The tables of rows, in this order.
-static TABLES: [&[Row]; 6] = [&LINES, &EXPRESSIONS, &JUMPS, &FILES, &VALUES, &CHOICES];
-
 /// The table and the row of the first line that has another tree.
 fn first_wrong_table(alloc: Global) -> Result<Option<(usize, usize)>, Fail> {
-    for (table, rows) in TABLES.iter().enumerate() {
+    let tables: [&[Row]; 6] = [&LINES, &EXPRESSIONS, &JUMPS, &FILES, &VALUES, &CHOICES];
+    for (table, rows) in tables.iter().enumerate() {
         if let Some(place) = first_wrong(alloc, rows)? {
             return Ok(Some((table, place)));
         }
