@@ -156,6 +156,8 @@ pub fn read_line(alloc: Global, line: &[u8]) -> Result<Line, Trouble<Refusal>>
     ensures must_read { MustRead line.now result }
     ensures must_refuse { MustRefuse line.now result }
 {
-    let tokens = scan(alloc, line)?;
-    parse_line(alloc, &tokens)
+    match scan(line) {
+        Ok(tokens) => parse_line(alloc, &tokens),
+        Err(refusal) => Err(Trouble::Refused(refusal)),
+    }
 }

@@ -55,7 +55,8 @@ fn key_class(key: Keyword) -> Option<Class>
         | Keyword::Lset
         | Keyword::Rset
         | Keyword::Kill
-        | Keyword::Name => Some(Class::Simple),
+        | Keyword::Name
+        | Keyword::Mat => Some(Class::Simple),
         _ => None,
     }
 }

@@ -11,6 +11,7 @@
 mod chaining;
 mod plain;
 mod printing;
+mod using;
 mod values;
 
 pub use plain::plain_at;

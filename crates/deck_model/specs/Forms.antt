@@ -23,8 +23,8 @@ pub record FileTexts : Type 0 where
   pub code : List ℕ
   pub blocks : List ℕ
 
--- RSTS-DECK and the version; DISK and blocks; ACCOUNT and its fields; FILE and its fields; TERMINAL and a name; the
--- keys of a line, or a line of a file's text; END
+-- RSTS-DECK and the version; DISK and blocks; ACCOUNT and its fields; FILE and its fields; TERMINAL
+-- and a name; the keys of a line, or a line of a file's text; END
 pub data Form : Type 0 where
   Heading : Version → Form
   Disk : List ℕ → Form

@@ -9,9 +9,9 @@ use Rattle.deck_model.specs.Deck.{Deck, IsDeck}
 use Rattle.deck_model.specs.Forms.{Form, Heading, Disk, Account, File, Terminal, Keys, End, AccountTexts, FileTexts, line_of}
 use Rattle.deck_model.specs.Spelling.{group_lines, file_lines, terminal_lines, deck_lines, AreQuotas}
 
--- No line; the line of the version, which each front behind it keeps; the disk and the accounts; the groups of a deck that has no
--- terminal yet, and the last file, whose text may go on; the groups of a deck and the last terminal,
--- which may still get keys; a whole deck
+-- No line; the line of the version, which each front behind it keeps; the disk and the accounts; the
+-- groups of a deck that has no terminal yet, and the last file, whose text may go on; the groups of a
+-- deck and the last terminal, which may still get keys; a whole deck
 pub data Front : Type 0 where
   Nothing : Front
   Versioned : Version → Front

@@ -24,7 +24,7 @@ NeverBoth =
     (bytes : List ℕ) (deck : Deck) (line : ℕ) (why : DeckCause) → Spelled bytes deck
     → Refused bytes line why → ⊥
 
--- where each quota is the disk's blocks, one is passed only where the disk has not the blocks either
+-- where each quota is the disk's blocks, one is passed only where the disk has no room either
 abbrev pub QuotasTellNothing : Type 0
 QuotasTellNothing =
     (deck : Deck) (file : File) → AreQuotas One deck

@@ -56,9 +56,10 @@ account_causes deck texts =
 -- with this file the blocks of its owner's files pass the owner's quota
 abbrev pub passes_quota : List AccountEntry → List model.File → model.File → Bool
 passes_quota accounts files file =
-    let owned = blocks_in_by files file.name.owner + file.blocks in
+    let owner = file.name.owner in
+    let owned = blocks_in_by files owner + file.blocks in
     list_any
-    (λ (entry : AccountEntry). same_account entry.account file.name.owner && nat_lt entry.quota owned)
+    (λ (entry : AccountEntry). same_account entry.account owner && nat_lt entry.quota owned)
     accounts
 
 -- an account has to stand before its files, and the disk and its quota to have their blocks

@@ -48,8 +48,9 @@ is_filed files name = list_any (λ (file : FileEntry). same_name file.name name)
 -- whether the owner is one of the accounts, and has not the quota for so many blocks more
 unfoldable pub is_over : List AccountEntry → List FileEntry → Account → ℕ → Bool
 is_over accounts files owner blocks =
+    let owned = blocks_owned files owner + blocks in
     list_any
-    (λ (entry : AccountEntry). same_account entry.account owner && nat_lt entry.quota (blocks_owned files owner + blocks))
+    (λ (entry : AccountEntry). same_account entry.account owner && nat_lt entry.quota owned)
     accounts
 
 -- a deck without where it lies in memory

@@ -274,8 +274,8 @@ fn lacks_blocks(deck: &Deck, blocks: u16) -> bool
     !fit_in(disk - wanted, deck.volume.files.as_slice())
 }
 
-/// Whether the blocks of its owner's files pass the owner's quota with this file. One account is the
-/// owner, so the files are gone through once.
+/// Whether the blocks of its owner's files pass the owner's quota with this file. One account is
+/// the owner, so the files are gone through once.
 #[tactic(auto, using(crate::proofs::FileLemmas::over_is))]
 fn passes_quota(deck: &Deck, file: &OpenFile) -> bool
     ensures { result ≡ passes_quota (deck_of deck.now).accounts (deck_of deck.now).files
@@ -391,8 +391,8 @@ fn with_keys(
     Ok(Front::InTerminal(version, deck, terminal))
 }
 
-/// The account of such fields, on a disk of so many blocks, where its numbers and its password are in
-/// their ranges.
+/// The account of such fields, on a disk of so many blocks, where its numbers and its password are
+/// in their ranges.
 fn entry_of(disk: u16, texts: &AccountTexts<'_>) -> Option<AccountEntry>
     ensures { result ≡ (if is_in_range (texts_seen texts.now)
         then Some (entry_of disk (texts_seen texts.now)) else None) }

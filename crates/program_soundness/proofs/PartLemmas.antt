@@ -6,7 +6,7 @@ use Rattle.basic_tree.specs.declared.names.Name.{Name}
 use Rattle.basic_tree.specs.Trees.{Tree, StatementTree}
 use Rattle.program_model.specs.Parts.{CallMade, calls_in, calls_made_in, simple_in, lines_named_by, lines_named_in}
 use Rattle.program_model.specs.Soundness.{handles_errors, is_for_programs, results_by}
-use Rattle.statement_walk.specs.Walk.{PartTree, Simple, Expression, Loop, simple_by, expression_by, parts_in, visited}
+use Rattle.statement_walk.specs.Walk.{StatementPart, Simple, Expression, Loop, simple_by, expression_by, parts_in, visited}
 use Rattle.statement_walk.proofs.PartLaws.{simple_parts, expression_parts, collected}
 use Rattle.program_soundness.specs.declared.parts.Sorts.{Sorts}
 use Rattle.program_soundness.specs.Parts.{calls_by, lines_by, results_of, is_handler, is_of_programs}
@@ -14,14 +14,14 @@ use Rattle.program_soundness.specs.Parts.{calls_by, lines_by, results_of, is_han
 -- COLLECTED
 
 -- of each statement alone
-by_statements : {A : Type 0} (f : StatementTree → List A) (g : PartTree → List A) → ((s : StatementTree) → g (Simple s) ≡ f s) → ((e : Tree) → g (Expression e) ≡ []) → g Loop ≡ []
-    → (parts : List PartTree) → flat_map g parts ≡ flat_map f (flat_map simple_by parts)
+by_statements : {A : Type 0} (f : StatementTree → List A) (g : StatementPart → List A) → ((s : StatementTree) → g (Simple s) ≡ f s) → ((e : Tree) → g (Expression e) ≡ []) → g Loop ≡ []
+    → (parts : List StatementPart) → flat_map g parts ≡ flat_map f (flat_map simple_by parts)
 by_statements f g s e l [] = refl
 by_statements f g s e l (Simple x ∷ parts) = ap (λ xs. xs ++ flat_map g parts) (s x) ∙ ap (λ ys. f x ++ ys) (by_statements f g s e l parts)
 by_statements f g s e l (Expression x ∷ parts) = ap (λ xs. xs ++ flat_map g parts) (e x) ∙ by_statements f g s e l parts
 by_statements f g s e l (Loop ∷ parts) = ap (λ xs. xs ++ flat_map g parts) l ∙ by_statements f g s e l parts
 
-by_expressions : (parts : List PartTree) → flat_map calls_by parts ≡ flat_map calls_in (flat_map expression_by parts)
+by_expressions : (parts : List StatementPart) → flat_map calls_by parts ≡ flat_map calls_in (flat_map expression_by parts)
 by_expressions [] = refl
 by_expressions (Simple s ∷ parts) = by_expressions parts
 by_expressions (Expression e ∷ parts) = ap (λ ys. calls_in e ++ ys) (by_expressions parts)
@@ -44,7 +44,7 @@ results_are s =
 
 -- SORTS
 
-abbrev sorting : Sorts → PartTree → Sorts
+abbrev sorting : Sorts → StatementPart → Sorts
 sorting sorts part = record {
   handles = sorts.handles || is_handler part;
   for_programs = sorts.for_programs || is_of_programs part;
@@ -58,18 +58,18 @@ or_false : (a : Bool) → (a || false) ≡ a
 or_false true = refl
 or_false false = refl
 
-any_statement : (f : StatementTree → Bool) (g : PartTree → Bool) → ((s : StatementTree) → g (Simple s) ≡ f s) → ((e : Tree) → g (Expression e) ≡ false) → g Loop ≡ false
-    → (parts : List PartTree) → list_any g parts ≡ list_any f (flat_map simple_by parts)
+any_statement : (f : StatementTree → Bool) (g : StatementPart → Bool) → ((s : StatementTree) → g (Simple s) ≡ f s) → ((e : Tree) → g (Expression e) ≡ false) → g Loop ≡ false
+    → (parts : List StatementPart) → list_any g parts ≡ list_any f (flat_map simple_by parts)
 any_statement f g s e l [] = refl
 any_statement f g s e l (Simple x ∷ parts) = ap (λ b. b || list_any g parts) (s x) ∙ ap (λ b. f x || b) (any_statement f g s e l parts)
 any_statement f g s e l (Expression x ∷ parts) = ap (λ b. b || list_any g parts) (e x) ∙ any_statement f g s e l parts
 any_statement f g s e l (Loop ∷ parts) = ap (λ b. b || list_any g parts) l ∙ any_statement f g s e l parts
 
-handles_after : (sorts : Sorts) (parts : List PartTree) → (visited sorting sorts parts).handles ≡ (sorts.handles || list_any is_handler parts)
+handles_after : (sorts : Sorts) (parts : List StatementPart) → (visited sorting sorts parts).handles ≡ (sorts.handles || list_any is_handler parts)
 handles_after sorts [] = sym (or_false sorts.handles)
 handles_after sorts (part ∷ parts) = handles_after (sorting sorts part) parts ∙ or_assoc sorts.handles (is_handler part) (list_any is_handler parts)
 
-programs_after : (sorts : Sorts) (parts : List PartTree) → (visited sorting sorts parts).for_programs ≡ (sorts.for_programs || list_any is_of_programs parts)
+programs_after : (sorts : Sorts) (parts : List StatementPart) → (visited sorting sorts parts).for_programs ≡ (sorts.for_programs || list_any is_of_programs parts)
 programs_after sorts [] = sym (or_false sorts.for_programs)
 programs_after sorts (part ∷ parts) = programs_after (sorting sorts part) parts ∙ or_assoc sorts.for_programs (is_of_programs part) (list_any is_of_programs parts)
 

@@ -177,7 +177,8 @@ fn goes_across(
 {
     let body = listing.body(m);
     let outside = names_outside(alloc, listing, body, statement)?;
-    Ok(outside || handles_within(body, statement))
+    let handles = handles_within(body, statement);
+    Ok(outside || handles)
 }
 
 fn names_outside(

@@ -11,8 +11,8 @@ use itoa::Buffer;
 use monitor_calls::{Account, Entry, FileName, OpenKind, Page, Reply, Request, Short};
 
 /// Writes the text of a history behind what is there: `HISTORY` and the number of its entries, and
-/// a line for each. Each history has one text. Where memory runs out nothing is left, of what was there
-/// neither.
+/// a line for each. Each history has one text. Where memory runs out nothing is left, of what was
+/// there neither.
 pub fn push_history(out: &mut Vec<u8>, history: &[Entry]) -> Result<(), NoMemory>
     ensures text { OnOk result (out.new.items ≡ out.old.items ++ history_text history.now) }
     ensures memory { OnErr result (out.new.items ≡ []) }

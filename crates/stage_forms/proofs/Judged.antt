@@ -5,7 +5,7 @@ use Rattle.std.specs.List.{flat_map, list_all}
 use Rattle.basic_tree.specs.declared.statements.Statement.{Statement}
 use Rattle.basic_tree.specs.StatementViews.{statement_of}
 use Rattle.basic_tree.specs.Trees.{StatementTree}
-use Rattle.statement_walk.specs.Walk.{PartTree, Simple, Expression, Loop, simple_by, expression_by, parts_in, visited}
+use Rattle.statement_walk.specs.Walk.{StatementPart, Simple, Expression, Loop, simple_by, expression_by, parts_in, visited}
 use Rattle.statement_walk.proofs.PartLaws.{simple_parts, expression_parts}
 use Rattle.program_model.specs.Parts.{simple_in}
 use Rattle.stage_forms.specs.declared.stage.Judge.{Judge}
@@ -29,7 +29,7 @@ and_true false = refl
 
 -- PARTS
 
-parts_judged : (parts : List PartTree) → list_all is_part_in_stage parts
+parts_judged : (parts : List StatementPart) → list_all is_part_in_stage parts
     ≡ (list_all is_form_in_stage (flat_map simple_by parts) && list_all is_tree_in_stage (flat_map expression_by parts))
 parts_judged [] = refl
 parts_judged (Simple s ∷ parts) =
@@ -46,10 +46,10 @@ statement_judged s =
     ∙ ap (λ l. list_all is_form_in_stage l && list_all is_tree_in_stage (flat_map expression_by (parts_in s))) (simple_parts s)
     ∙ ap (λ l. list_all is_form_in_stage (simple_in s) && list_all is_tree_in_stage l) (expression_parts s)
 
-abbrev judging : Judge → PartTree → Judge
+abbrev judging : Judge → StatementPart → Judge
 judging judge part = record { taken = judge.taken && is_part_in_stage part }
 
-judge_after : (judge : Judge) (parts : List PartTree) → (visited judging judge parts).taken ≡ (judge.taken && list_all is_part_in_stage parts)
+judge_after : (judge : Judge) (parts : List StatementPart) → (visited judging judge parts).taken ≡ (judge.taken && list_all is_part_in_stage parts)
 judge_after judge [] = sym (and_true judge.taken)
 judge_after judge (part ∷ parts) =
     judge_after (judging judge part) parts ∙ sym (and_assoc judge.taken (is_part_in_stage part) (list_all is_part_in_stage parts))

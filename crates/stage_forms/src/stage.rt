@@ -3,7 +3,7 @@
 ghost use Rattle.std.specs.Prelude.{◌≡◌, ◌&&◌};
 ghost use Rattle.std.specs.List.{list_all};
 ghost use Rattle.basic_tree.specs.StatementViews.{line_of, statement_of};
-ghost use Rattle.statement_walk.specs.Views.{part_of};
+ghost use Rattle.statement_walk.specs.Views.{part_seen};
 ghost use Rattle.stage_forms.specs.Stage.{are_in_stage, is_form_in_stage, is_in_stage};
 ghost use Rattle.stage_forms.specs.Judging.{is_part_in_stage};
 
@@ -53,7 +53,7 @@ impl Visitor for Judge {
 }
 
 fn is_part_in_stage(part: &Part<'_>) -> bool
-    ensures { result ≡ is_part_in_stage (part_of part.now) }
+    ensures { result ≡ is_part_in_stage (part_seen part.now) }
 {
     match part {
         Part::Simple(Simple::Statement(statement)) => is_form_in_stage(statement),

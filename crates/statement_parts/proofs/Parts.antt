@@ -11,7 +11,7 @@ use Rattle.basic_tree.specs.MachineStarts.{takes}
 use Rattle.basic_tree.specs.MachineStack.{Values, Symbol, Go, Form, TakeSign, TakeClosing, IfSign, NameIn, FnNameIn, LiteralIn, LiteralIf, QuotedIf, ItemIn, MoreItems, Limit, within}
 use Rattle.basic_tree.specs.MachineRun.{Halt, Wrong, TooDeep, run}
 use Rattle.basic_tree.proofs.FormSteps.{name_taken, fn_name_taken, literal_taken, literal_if, item_taken, item_added, quoted_if, sign_opened, closing_sign_taken, if_sign_opens}
-use Rattle.statement_parts.specs.Reading.{Leads, Halts, named, fn_named, number, is_variable_name, is_fn_name, is_number, is_quotation, is_item, NameAt, FnNameAt, NumberAt, IfLiteral, IfQuoted, ItemAt, IfOpens}
+use Rattle.statement_parts.specs.Reading.{Leads, Halts, named, fn_named, number, is_variable_name, is_fn_name, is_number, is_quotation, is_item, NameAt, FnNameAt, NumberAt, IfLiteral, IfQuoted, ItemAt, IfOpens, OpensThere}
 
 pub some_halt : {x y : Halt} → Some x ≡ Some y → x ≡ y
 some_halt e = cc
@@ -222,6 +222,14 @@ if_opens_not ws from h n = λ f g k vs. go (drop from ws) f g k vs h where
   go [] f g k vs h = refl
   go (Punctuation s ∷ ws) f g k vs h = rw h refl
   go (t ∷ ws) f g k vs h = refl
+
+pub opening_awaits : (ws : List Word) (from : ℕ) → Stands ws (Punctuation sign.Opening) from → OpensThere ws from
+unfolding run
+opening_awaits ws from h = λ n f g k vs. rw h.1 (awaits n f g (drop (from + 1) ws) k vs) where
+  awaits : (n : ℕ) (f g : Form) (ws : List Word) (k : List Symbol) (vs : Values) → run n (Punctuation sign.Opening ∷ ws) (Go (IfSign true sign.Opening f g) ∷ k) vs ≡ run n (Punctuation sign.Opening ∷ ws) (Go (TakeSign true sign.Opening f) ∷ k) vs
+  awaits n f g ws k vs = refl
+
+pub ruleset awaited = (opening_awaits)
 
 pub ruleset openings = (opens_level, opens_too_deep, opens_not)
 

@@ -138,6 +138,10 @@ abbrev pub IfOpens : ℕ → List Word → ℕ → Bool → Type 0
 IfOpens n ws from true = (0 < n) × (from < length ws) × ((f h : Form) → Leads n (n - 1) ws from (from + 1) (IfSign true sign.Opening f h) f)
 IfOpens n ws from false = (f h : Form) → Leads n n ws from from (IfSign true sign.Opening f h) h
 
+-- an opening parenthesis: the form that asks for it is the one that takes it
+abbrev pub OpensThere : List Word → ℕ → Type 0
+OpensThere ws from = (n : ℕ) (f h : Form) → Leads n n ws from from (IfSign true sign.Opening f h) (TakeSign true sign.Opening f)
+
 -- ---- lists
 
 -- behind a comma one more element of a list stands, where there is room for it

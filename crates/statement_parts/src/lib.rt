@@ -25,4 +25,6 @@ pub use literals::Literal;
 pub use names::{fn_name, if_literal, if_quoted, literal, name};
 pub use ranges::{LoopRange, range};
 pub use read::Read;
-pub use reading::{closing, expression, if_key, if_opening, if_sign, opening, take_key, take_sign};
+pub use reading::{
+    closing, expression, if_key, if_opening, if_sign, opening, opens_there, take_key, take_sign,
+};

@@ -1,9 +1,9 @@
 //! The elements of lists with commas.
 
 ghost use Rattle.std.specs.Prelude.{◌≡◌, ℕ, ◌+◌, ◌<◌, ◌≤◌, length};
-ghost use Rattle.basic_tree.specs.MachineStack.{Targets, Shapes, FileShapes, Parameters, Lines, Channels, FieldParts, ShapeItem, FileItem, NameItem, LineItem};
+ghost use Rattle.basic_tree.specs.MachineStack.{Targets, Shapes, FileShapes, Lines, Channels, FieldParts, ShapeItem, FileItem, NameItem, LineItem};
 ghost use Rattle.basic_tree.specs.MachineForms.{shape_form, size_form};
-ghost use Rattle.statement_parts.specs.Items.{channel_item, part_item, target_item};
+ghost use Rattle.statement_parts.specs.Items.{channel_item, names_wanted, part_item, target_item};
 ghost use Rattle.statement_parts.specs.Reading.{Parts, FlatPartsFrom};
 
 use crate::lists::Element;
@@ -88,7 +88,7 @@ impl Element for Target {
 
     ghost item = { target_item };
 
-    fn has_room(_count: usize) -> bool {
+    fn has_room(_want: Want, _count: usize) -> bool {
         true
     }
 
@@ -108,7 +108,7 @@ impl Element for Shape {
 
     ghost item = { λ s. ShapeItem s };
 
-    fn has_room(_count: usize) -> bool {
+    fn has_room(_want: Want, _count: usize) -> bool {
         true
     }
 
@@ -128,7 +128,7 @@ impl Element for FileShape {
 
     ghost item = { λ s. FileItem s };
 
-    fn has_room(_count: usize) -> bool {
+    fn has_room(_want: Want, _count: usize) -> bool {
         true
     }
 
@@ -152,23 +152,30 @@ impl Element for FileShape {
     }
 }
 
+/// The names of arrays where numbers are wanted, else parameters.
 impl Element for Name {
-    ghost sequence = { λ w. Parameters };
+    ghost sequence = { names_wanted };
 
     ghost item = { λ name. NameItem name };
 
-    fn has_room(count: usize) -> bool {
-        count < 5
+    fn has_room(want: Want, count: usize) -> bool {
+        match want {
+            Want::Number => true,
+            Want::Text | Want::Either => count < 5,
+        }
     }
 
     fn parse(
         _alloc: Global,
         words: &Words<'_>,
         from: usize,
-        _want: Want,
+        want: Want,
         _levels: usize,
     ) -> Result<Read<Name>, Failure> {
-        name(words, from, Want::Either)
+        match want {
+            Want::Number => name(words, from, Want::Number),
+            Want::Text | Want::Either => name(words, from, Want::Either),
+        }
     }
 }
 
@@ -177,7 +184,7 @@ impl Element for u16 {
 
     ghost item = { λ n. LineItem n };
 
-    fn has_room(_count: usize) -> bool {
+    fn has_room(_want: Want, _count: usize) -> bool {
         true
     }
 
@@ -197,7 +204,7 @@ impl Element for CloseChannel {
 
     ghost item = { channel_item };
 
-    fn has_room(_count: usize) -> bool {
+    fn has_room(_want: Want, _count: usize) -> bool {
         true
     }
 
@@ -238,7 +245,7 @@ impl Element for FieldPart {
 
     ghost item = { part_item };
 
-    fn has_room(_count: usize) -> bool {
+    fn has_room(_want: Want, _count: usize) -> bool {
         true
     }
 

@@ -12,16 +12,16 @@ use basic_expr::{Failure, Words, next_is_sign};
 use basic_tree::{Series, Sign, Want};
 use std::alloc::Global;
 
-/// An element of a list with commas. What is wanted of it matters to targets alone.
+/// An element of a list with commas. What is wanted of it matters to targets and names alone.
 pub trait Element: Sized + Drop {
     ghost sequence: { Want → Sequence };
 
     ghost item: { Self → Item };
 
     /// Whether one more may follow so many.
-    fn has_room(count: usize) -> bool
-        ensures { (w : Want) (items : List Item) → length items ≡ count → has_room (sequence w)
-            items ≡ result };
+    fn has_room(want: Want, count: usize) -> bool
+        ensures { (items : List Item) → length items ≡ count → has_room (sequence want) items ≡
+            result };
 
     /// An element, and the place behind it.
     fn parse(
@@ -64,7 +64,7 @@ pub fn more_elements<T: Element>(
     let mut end = from;
     let mut items = Vec::new(alloc);
     items.push(first)?;
-    'more: while adds_one(words, end, T::has_room(items.len())) {
+    'more: while adds_one(words, end, T::has_room(want, items.len())) {
         let Read {
             value: item,
             end: next,

@@ -4,7 +4,8 @@ ghost use Rattle.std.specs.Prelude.{◌≡◌, ℕ, false, ◌+◌, ◌-◌, ◌
 ghost use Rattle.basic_expr.specs.Views.{most_words};
 ghost use Rattle.basic_tree.specs.TreeViews.{tree_of};
 ghost use Rattle.basic_tree.specs.MachineStack.{ExprOf, TakeKey, TakeSign};
-ghost use Rattle.statement_parts.specs.Reading.{MayOpen, Parts, SkipsKey, SkipsSign, TakesWord, TakesClosing, TakesKey, TakesOpening, TakesSign};
+ghost use Rattle.basic_tree.specs.declared.tokens.Sign.TheVariants.{Opening};
+ghost use Rattle.statement_parts.specs.Reading.{MayOpen, OpensThere, Parts, SkipsKey, SkipsSign, TakesWord, TakesClosing, TakesKey, TakesOpening, TakesSign};
 
 use crate::read::Read;
 use basic_expr::{Failure, Words, expression_at, next_is_key, next_is_sign};
@@ -104,6 +105,17 @@ pub fn if_opening(words: &Words<'_>, from: usize, levels: usize) -> Result<bool,
         return Err(Failure::TooDeep { place: from });
     }
     Ok(false)
+}
+
+/// Whether an opening parenthesis stands at a place. It is not taken, and opens no level yet.
+#[tactic(auto, using(crate::proofs::Steps::words_at, crate::proofs::Parts::awaited))]
+pub fn opens_there(words: &Words<'_>, from: usize) -> bool
+    requires { from ≤ length words.now }
+    ensures stands { MatchBool result (OpensThere words.now from)
+        (SkipsSign words.now from Opening) }
+    ensures few { length words.now ≤ most_words }
+{
+    next_is_sign(words, from, Sign::Opening)
 }
 
 /// The place behind the closing parenthesis of a level of nesting.

@@ -1,3 +1,4 @@
+pub mod Matrices
 pub mod OptionForms
 pub mod Pieces
 pub mod Rests

@@ -7,8 +7,8 @@ use Rattle.basic_tree.specs.declared.kinds.Want.TheVariants as want
 use Rattle.basic_tree.specs.declared.parts.OpenFor.TheVariants as open_for
 use Rattle.basic_tree.specs.declared.parts.Separator.TheVariants as separator
 use Rattle.basic_tree.specs.SpellingWords.{Word}
-use Rattle.basic_tree.specs.MachineStack.{Form, TakeKey, TakeSign, IfKey, IfSign, ExprOf, NameIn, LiteralIn, LiteralIf, QuotedIf, LineNumber, Bound, Targets, Channels, FieldParts, Lines, Shapes, FileShapes}
-use Rattle.basic_tree.specs.MachineForms.{number_option, range_form, list_form, options_form, targets_in, channels_in, parts_in, lines_in, shapes_in, files_in}
+use Rattle.basic_tree.specs.MachineStack.{Form, TakeKey, TakeSign, IfKey, IfSign, ExprOf, NameIn, LiteralIn, LiteralIf, QuotedIf, LineNumber, Bound, Targets, Channels, FieldParts, Lines, Arrays, Shapes, FileShapes}
+use Rattle.basic_tree.specs.MachineForms.{number_option, range_form, matrix_form, list_form, options_form, targets_in, channels_in, parts_in, lines_in, names_in, shapes_in, files_in}
 use Rattle.statement_parts.specs.declared.read.Read.{Read}
 use Rattle.statement_parts.specs.Forms.{assigned_form, items_form}
 use Rattle.statement_parts.specs.Reading.{Leads, PartsFrom}
@@ -16,7 +16,7 @@ use Rattle.statement_rows.specs.declared.piece.Piece.{Piece}
 use Rattle.statement_rows.specs.declared.piece.Piece.TheVariants as piece
 use Rattle.statement_rows.specs.declared.part.Part.{Part}
 use Rattle.statement_rows.specs.declared.slots.Slots.{Slots}
-use Rattle.statement_rows.specs.Slots.{PartTree, MarkPart, ValuePart, PerhapsPart, VariablePart, NumberPart, PerhapsLinePart, PurposePart, OptionsPart, SourcePart, RangePart, AssignedPart, TargetsPart, ChannelsPart, FieldsPart, LinesPart, ItemsPart, ShapesPart, FileShapesPart, SlotTrees, added, nothing_read, part_of, slots_of}
+use Rattle.statement_rows.specs.Slots.{PartTree, MarkPart, ValuePart, PerhapsPart, VariablePart, NumberPart, PerhapsLinePart, PurposePart, OptionsPart, SourcePart, SeparatorPart, MatrixPart, RangePart, AssignedPart, TargetsPart, ChannelsPart, FieldsPart, LinesPart, ItemsPart, ArraysPart, ShapesPart, FileShapesPart, SlotTrees, added, nothing_read, part_of, slots_of}
 
 -- ---- forms
 
@@ -50,6 +50,10 @@ piece_form piece.OpenOptions f = options_form (λ size cluster mode. f (Some (Op
 piece_form piece.Source f =
     IfSign false sign.Hash (ExprOf want.Number (λ c. TakeSign false sign.Comma (f (Some (SourcePart (Some c) None)))))
     (QuotedIf (λ text. prompted_form text f) (f (Some (SourcePart None None))))
+piece_form piece.PerhapsSeparator f =
+    IfSign false sign.Comma (f (Some (SeparatorPart (Some separator.Comma))))
+    (IfSign false sign.Semicolon (f (Some (SeparatorPart (Some separator.Semicolon)))) (f (Some (SeparatorPart None))))
+piece_form piece.Matrix f = matrix_form (λ m. f (Some (MatrixPart m)))
 piece_form piece.Range f = range_form (λ v start limit step. f (Some (RangePart v start limit step)))
 piece_form piece.Assigned f = assigned_form (λ ts value. f (Some (AssignedPart ts value)))
 piece_form piece.Targets f = list_form (Targets want.Either) (λ items. f (Some (TargetsPart (targets_in items))))
@@ -57,6 +61,7 @@ piece_form piece.Channels f = list_form Channels (λ items. f (Some (ChannelsPar
 piece_form piece.Fields f = list_form FieldParts (λ items. f (Some (FieldsPart (parts_in items))))
 piece_form piece.Lines f = list_form Lines (λ items. f (Some (LinesPart (lines_in items))))
 piece_form piece.Items f = items_form (λ items. f (Some (ItemsPart items)))
+piece_form piece.Arrays f = list_form Arrays (λ items. f (Some (ArraysPart (names_in items))))
 piece_form piece.Shapes f = list_form Shapes (λ items. f (Some (ShapesPart (shapes_in items))))
 piece_form piece.FileShapes f = list_form FileShapes (λ items. f (Some (FileShapesPart (files_in items))))
 

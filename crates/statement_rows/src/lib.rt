@@ -7,6 +7,7 @@
 #![tactic(auto)]
 
 mod lists;
+mod matrices;
 mod open_options;
 mod optional;
 mod part;
@@ -19,5 +20,5 @@ mod source;
 mod wholes;
 
 pub use piece::Piece;
-pub use rests::{dim, input, on};
+pub use rests::{dim, input, mat, on};
 pub use rows::{by_row, row_of};

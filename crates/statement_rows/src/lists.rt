@@ -6,7 +6,7 @@ ghost use Rattle.statement_rows.specs.Pieces.{PieceRead};
 
 use crate::part::Part;
 use basic_expr::{Failure, Words};
-use basic_tree::{CloseChannel, FieldPart, FileShape, Shape, Target, Want};
+use basic_tree::{CloseChannel, FieldPart, FileShape, Name, Shape, Target, Want};
 use statement_parts::{Read, elements};
 use std::alloc::Global;
 
@@ -90,6 +90,24 @@ pub fn lines(
     let Read { value: found, end } = elements::<u16>(alloc, words, from, Want::Number, levels)?;
     Ok(Read {
         value: Some(Part::Lines(found)),
+        end,
+    })
+}
+
+/// One or more names of numeric arrays, and the place behind them.
+#[tactic(auto, using(statement_parts::proofs::ListSteps::listed))]
+pub fn arrays(
+    alloc: Global,
+    words: &Words<'_>,
+    from: usize,
+    levels: usize,
+) -> Result<Read<Option<Part>>, Failure>
+    requires { from ≤ length words.now }
+    ensures { PieceRead levels words.now from piece.Arrays result }
+{
+    let Read { value: found, end } = elements::<Name>(alloc, words, from, Want::Number, levels)?;
+    Ok(Read {
+        value: Some(Part::Arrays(found)),
         end,
     })
 }

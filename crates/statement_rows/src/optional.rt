@@ -7,7 +7,7 @@ ghost use Rattle.statement_rows.specs.Pieces.{PieceRead};
 use crate::open_options::{option, options};
 use crate::part::Part;
 use basic_expr::{Failure, Words};
-use basic_tree::{Keyword, OpenFor, Sign, Want};
+use basic_tree::{Keyword, OpenFor, Separator, Sign, Want};
 use statement_parts::{
     Literal, Read, expression, if_key, if_literal, if_sign, take_key, take_sign,
 };
@@ -171,5 +171,33 @@ pub fn open_options(
     Ok(Read {
         value: Some(Part::OpenOptions(found)),
         end,
+    })
+}
+
+/// The separator at a place, where one stands there, and the place behind it.
+#[tactic(auto)]
+pub fn perhaps_separator(
+    words: &Words<'_>,
+    from: usize,
+    levels: usize,
+) -> Result<Read<Option<Part>>, Failure>
+    requires { from ≤ length words.now }
+    ensures { PieceRead levels words.now from piece.PerhapsSeparator result }
+{
+    if if_sign(words, from, Sign::Comma) {
+        return Ok(Read {
+            value: Some(Part::PerhapsSeparator(Some(Separator::Comma))),
+            end: from + 1,
+        });
+    }
+    if if_sign(words, from, Sign::Semicolon) {
+        return Ok(Read {
+            value: Some(Part::PerhapsSeparator(Some(Separator::Semicolon))),
+            end: from + 1,
+        });
+    }
+    Ok(Read {
+        value: Some(Part::PerhapsSeparator(None)),
+        end: from,
     })
 }

@@ -2,7 +2,8 @@
 
 use crate::open_options::OpenOptions;
 use basic_tree::{
-    CloseChannel, Expr, FieldPart, FileShape, Name, OpenFor, Prompt, Series, Shape, Target,
+    CloseChannel, Expr, FieldPart, FileShape, MatrixValue, Name, OpenFor, Prompt, Separator,
+    Series, Shape, Target,
 };
 use basic_values::Text;
 use statement_parts::{Assigned, LoopRange};
@@ -26,6 +27,8 @@ pub enum Part {
     Purpose(OpenFor),
     OpenOptions(OpenOptions),
     Source(Source),
+    PerhapsSeparator(Option<Separator>),
+    Matrix(MatrixValue),
     Range(LoopRange),
     Assigned(Assigned),
     Targets(Series<Target>),
@@ -33,6 +36,7 @@ pub enum Part {
     Fields(Series<FieldPart>),
     Lines(Series<u16>),
     Items(Series<Text>),
+    Arrays(Series<Name>),
     Shapes(Series<Shape>),
     FileShapes(Series<FileShape>),
 }

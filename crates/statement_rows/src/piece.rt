@@ -33,6 +33,10 @@ pub enum Piece {
     OpenOptions,
     /// Where INPUT reads: a channel, or behind a prompt, or neither.
     Source,
+    /// A comma or a semicolon, or nothing.
+    PerhapsSeparator,
+    /// What MAT stores in an array.
+    Matrix,
     /// The variable of a loop and the values that it takes.
     Range,
     /// Targets of one kind, `=` and the value that they take.
@@ -47,6 +51,8 @@ pub enum Piece {
     Lines,
     /// One or more items of DATA.
     Items,
+    /// One or more names of numeric arrays.
+    Arrays,
     /// One or more arrays with their bounds.
     Shapes,
     /// One or more arrays of a file.

@@ -3,9 +3,11 @@
 ghost use Rattle.std.specs.Prelude.{◌≡◌, ℕ, [], ◌+◌, ◌<◌, ◌≤◌, length, option_map};
 ghost use Rattle.statement_rows.specs.Pieces.{PieceRead, RowRead};
 
-use crate::lists::{channels, fields, file_shapes, lines, shapes, targets};
+use crate::lists::{arrays, channels, fields, file_shapes, lines, shapes, targets};
+use crate::matrices::matrix;
 use crate::optional::{
-    either, mark, open_options, perhaps_channel, perhaps_line, perhaps_number, purpose,
+    either, mark, open_options, perhaps_channel, perhaps_line, perhaps_number, perhaps_separator,
+    purpose,
 };
 use crate::part::Part;
 use crate::piece::Piece;
@@ -76,6 +78,8 @@ fn read_piece(
         Piece::Purpose => purpose(words, from, levels),
         Piece::OpenOptions => open_options(alloc, words, from, levels),
         Piece::Source => source(alloc, words, from, levels),
+        Piece::PerhapsSeparator => perhaps_separator(words, from, levels),
+        Piece::Matrix => matrix(alloc, words, from, levels),
         Piece::Range => looped(alloc, words, from, levels),
         Piece::Assigned => assigned(alloc, words, from, levels),
         Piece::Targets => targets(alloc, words, from, levels),
@@ -83,6 +87,7 @@ fn read_piece(
         Piece::Fields => fields(alloc, words, from, levels),
         Piece::Lines => lines(alloc, words, from, levels),
         Piece::Items => items(alloc, words, from, levels),
+        Piece::Arrays => arrays(alloc, words, from, levels),
         Piece::Shapes => shapes(alloc, words, from, levels),
         Piece::FileShapes => file_shapes(alloc, words, from, levels),
     }

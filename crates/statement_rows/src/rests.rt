@@ -1,7 +1,7 @@
-//! Statements whose second word chooses what stands behind it: ON, DIM and INPUT.
+//! Statements whose second word chooses what stands behind it: ON, DIM, INPUT and MAT.
 
 ghost use Rattle.std.specs.Prelude.{◌≡◌, ℕ, ◌+◌, ◌<◌, ◌≤◌, length};
-ghost use Rattle.basic_tree.specs.MachineSentences.{dim_form, input_form, on_form};
+ghost use Rattle.basic_tree.specs.MachineSentences.{dim_form, input_form, mat_form, on_form};
 ghost use Rattle.basic_tree.specs.StatementViews.{statement_of};
 ghost use Rattle.statement_parts.specs.Reading.{States, StatesFrom};
 ghost use Rattle.statement_rows.specs.Rests.{on_lines, rest_built, rest_form, rest_row};
@@ -31,6 +31,12 @@ pub enum Rest {
     InputLine,
     /// Behind another INPUT.
     InputTargets,
+    /// Behind MAT READ.
+    MatRead,
+    /// Behind MAT PRINT.
+    MatPrint,
+    /// Behind another MAT.
+    MatLet,
 }
 
 /// The row of such a rest.
@@ -48,6 +54,13 @@ fn rest_row(rest: Rest) -> &'static [Piece]
         Rest::DimArrays => &[Piece::Shapes],
         Rest::InputLine => &[Piece::PerhapsChannel, Piece::Variable(Want::Text)],
         Rest::InputTargets => &[Piece::Source, Piece::Targets],
+        Rest::MatRead => &[Piece::Arrays],
+        Rest::MatPrint => &[Piece::Variable(Want::Number), Piece::PerhapsSeparator],
+        Rest::MatLet => &[
+            Piece::Variable(Want::Number),
+            Piece::Sign(Sign::Equal),
+            Piece::Matrix,
+        ],
     }
 }
 
@@ -82,6 +95,15 @@ fn build(rest: Rest, mut slots: Slots) -> Statement
             channel: next_option(&mut slots.options),
             prompt: slots.prompt,
             targets: slots.targets,
+        },
+        Rest::MatRead => Statement::MatRead(slots.arrays),
+        Rest::MatPrint => Statement::MatPrint {
+            matrix: slots.variable,
+            separator: slots.separator,
+        },
+        Rest::MatLet => Statement::MatLet {
+            target: slots.variable,
+            value: slots.matrix,
         },
     }
 }
@@ -157,4 +179,25 @@ pub fn input(
         return stated(alloc, words, at + 1, Rest::InputLine, levels);
     }
     stated(alloc, words, at, Rest::InputTargets, levels)
+}
+
+/// MAT: READ and arrays, PRINT and one, or an array, `=` and what it takes.
+#[tactic(auto)]
+pub fn mat(
+    alloc: Global,
+    words: &Words<'_>,
+    from: usize,
+    levels: usize,
+) -> Result<Read<Statement>, Failure>
+    requires { from ≤ length words.now }
+    ensures { States levels words.now from mat_form result }
+{
+    let at = take_key(words, from, Keyword::Mat)?;
+    if if_key(words, at, Keyword::Read) {
+        return stated(alloc, words, at + 1, Rest::MatRead, levels);
+    }
+    if if_key(words, at, Keyword::Print) {
+        return stated(alloc, words, at + 1, Rest::MatPrint, levels);
+    }
+    stated(alloc, words, at, Rest::MatLet, levels)
 }

@@ -6,7 +6,8 @@ ghost use Rattle.statement_rows.specs.Slots.{added, behind_first, first_option, 
 
 use crate::part::Part;
 use basic_tree::{
-    CloseChannel, Expr, FieldPart, FileShape, Name, OpenFor, Prompt, Series, Shape, Target,
+    CloseChannel, Expr, FieldPart, FileShape, MatrixValue, Name, OpenFor, Prompt, Separator,
+    Series, Shape, Target,
 };
 use basic_values::{NoMemory, Text};
 use std::alloc::Global;
@@ -23,11 +24,14 @@ pub struct Slots {
     pub perhaps_line: Option<u16>,
     pub purpose: OpenFor,
     pub prompt: Option<Prompt>,
+    pub separator: Option<Separator>,
+    pub matrix: MatrixValue,
     pub targets: Series<Target>,
     pub channels: Series<CloseChannel>,
     pub fields: Series<FieldPart>,
     pub lines: Series<u16>,
     pub items: Series<Text>,
+    pub arrays: Series<Name>,
     pub shapes: Series<Shape>,
     pub file_shapes: Series<FileShape>,
 }
@@ -50,11 +54,14 @@ impl Slots {
             perhaps_line: None,
             purpose: OpenFor::Either,
             prompt: None,
+            separator: None,
+            matrix: MatrixValue::Zero,
             targets: Series::from_vec(Vec::new(alloc)),
             channels: Series::from_vec(Vec::new(alloc)),
             fields: Series::from_vec(Vec::new(alloc)),
             lines: Series::from_vec(Vec::new(alloc)),
             items: Series::from_vec(Vec::new(alloc)),
+            arrays: Series::from_vec(Vec::new(alloc)),
             shapes: Series::from_vec(Vec::new(alloc)),
             file_shapes: Series::from_vec(Vec::new(alloc)),
         }
@@ -84,6 +91,8 @@ impl Slots {
                 self.options.push(source.channel)?;
                 self.prompt = source.prompt;
             }
+            Some(Part::PerhapsSeparator(separator)) => self.separator = separator,
+            Some(Part::Matrix(matrix)) => self.matrix = matrix,
             Some(Part::Range(range)) => {
                 self.variable = range.variable;
                 self.values.push(range.start)?;
@@ -99,6 +108,7 @@ impl Slots {
             Some(Part::Fields(fields)) => self.fields = fields,
             Some(Part::Lines(lines)) => self.lines = lines,
             Some(Part::Items(items)) => self.items = items,
+            Some(Part::Arrays(arrays)) => self.arrays = arrays,
             Some(Part::Shapes(shapes)) => self.shapes = shapes,
             Some(Part::FileShapes(shapes)) => self.file_shapes = shapes,
         }

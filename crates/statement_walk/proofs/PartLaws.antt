@@ -6,7 +6,7 @@ use Rattle.std.proofs.lemmas.Grind.{flat_map-append}
 use Rattle.basic_tree.specs.Trees.{Tree, ModifierTree, If, Unless, While, Until, ForModifier, ClauseTree, LineClause, StatementClause, ElseTree, NoElse, Else, StatementTree, IfThen, IfGoto, Modified, Goto}
 use Rattle.program_model.specs.Program.{loops_in, loops_in_clause, loops_in_else}
 use Rattle.program_model.specs.Parts.{given, modifier_expressions, simple_in, simple_in_clause, simple_in_else, expressions_in, expressions_in_clause, expressions_in_else}
-use Rattle.statement_walk.specs.Walk.{PartTree, Simple, Expression, Loop, own_expressions, modifier_parts, parts_in, parts_in_clause, parts_in_else, simple_by, expression_by, loops_by, loops_among, visited}
+use Rattle.statement_walk.specs.Walk.{StatementPart, Simple, Expression, Loop, own_expressions, modifier_parts, parts_in, parts_in_clause, parts_in_else, simple_by, expression_by, loops_by, loops_among, visited}
 
 -- LISTS OF EXPRESSIONS
 
@@ -22,7 +22,7 @@ no_loops : (es : List Tree) → loops_among (map Expression es) ≡ 0
 no_loops [] = refl
 no_loops (e ∷ es) = omega (arith, no_loops es)
 
-loops_both : (ps qs : List PartTree) → loops_among (ps ++ qs) ≡ loops_among ps + loops_among qs
+loops_both : (ps qs : List StatementPart) → loops_among (ps ++ qs) ≡ loops_among ps + loops_among qs
 loops_both [] qs = omega arith
 loops_both (p ∷ ps) qs = omega (arith, loops_both ps qs)
 
@@ -120,12 +120,12 @@ mutual
 
 -- WHO COLLECTS, COUNTS OR JUDGES THEM
 
-pub collected : {A : Type 0} (f : PartTree → List A) (xs : List A) (parts : List PartTree)
+pub collected : {A : Type 0} (f : StatementPart → List A) (xs : List A) (parts : List StatementPart)
     → visited (λ xs part. xs ++ f part) xs parts ≡ xs ++ flat_map f parts
 collected f xs [] = sym (append_none xs)
 collected f xs (part ∷ parts) = collected f (xs ++ f part) parts ∙ append_assoc xs (f part) (flat_map f parts)
 
-pub summed : (n : ℕ) (parts : List PartTree) → visited (λ n part. n + loops_by part) n parts ≡ n + loops_among parts
+pub summed : (n : ℕ) (parts : List StatementPart) → visited (λ n part. n + loops_by part) n parts ≡ n + loops_among parts
 summed n [] = omega arith
 summed n (part ∷ parts) = omega (arith, summed (n + loops_by part) parts)
 
@@ -137,6 +137,6 @@ and_true : (a : Bool) → (a && true) ≡ a
 and_true true = refl
 and_true false = refl
 
-pub judged : (f : PartTree → Bool) (taken : Bool) (parts : List PartTree) → visited (λ taken part. taken && f part) taken parts ≡ (taken && list_all f parts)
+pub judged : (f : StatementPart → Bool) (taken : Bool) (parts : List StatementPart) → visited (λ taken part. taken && f part) taken parts ≡ (taken && list_all f parts)
 judged f taken [] = sym (and_true taken)
 judged f taken (part ∷ parts) = judged f (taken && f part) parts ∙ and_assoc taken (f part) (list_all f parts)

@@ -9,7 +9,7 @@ use Rattle.statement_walk.specs.declared.parts.Expression.{Expression as Express
 use Rattle.statement_walk.specs.declared.parts.Expression.TheVariants as expression
 use Rattle.statement_walk.specs.declared.parts.Part.{Part}
 use Rattle.statement_walk.specs.declared.parts.Part.TheVariants as part
-use Rattle.statement_walk.specs.Walk.{PartTree, Simple, Expression, Loop}
+use Rattle.statement_walk.specs.Walk.{StatementPart, Simple, Expression, Loop}
 
 abbrev pub simple_tree : SimplePart → StatementTree
 simple_tree (simple.Statement s) = statement_of s.now
@@ -19,7 +19,7 @@ abbrev pub expression_tree : ExpressionPart → Tree
 expression_tree (expression.Tree e) = tree_of e.now
 expression_tree (expression.Target t) = target_of t.now
 
-abbrev pub part_of : Part → PartTree
-part_of (part.Simple s) = Simple (simple_tree s)
-part_of (part.Expression e) = Expression (expression_tree e)
-part_of part.Loop = Loop
+abbrev pub part_seen : Part → StatementPart
+part_seen (part.Simple s) = Simple (simple_tree s)
+part_seen (part.Expression e) = Expression (expression_tree e)
+part_seen part.Loop = Loop

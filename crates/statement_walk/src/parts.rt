@@ -1,8 +1,8 @@
 //! What a walk over a statement comes to, and who is shown it.
 
 ghost use Rattle.std.specs.Prelude.{◌≡◌, OnOk};
-ghost use Rattle.statement_walk.specs.Walk.{PartTree};
-ghost use Rattle.statement_walk.specs.Views.{part_of};
+ghost use Rattle.statement_walk.specs.Walk.{StatementPart};
+ghost use Rattle.statement_walk.specs.Views.{part_seen};
 
 use basic_tree::{Expr, Statement, Target};
 
@@ -35,9 +35,9 @@ pub trait Visitor {
     type Stop;
 
     /// What it is after a part.
-    ghost after: { Self → PartTree → Self };
+    ghost after: { Self → StatementPart → Self };
 
     /// Sees a part.
     fn visit(&mut self, part: Part<'_>) -> Result<(), Self::Stop>
-        ensures { OnOk result (self.new ≡ after self.old (part_of part.entry)) };
+        ensures { OnOk result (self.new ≡ after self.old (part_seen part.entry)) };
 }

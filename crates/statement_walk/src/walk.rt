@@ -6,7 +6,7 @@ ghost use Rattle.basic_tree.specs.Trees.{Modified, End};
 ghost use Rattle.basic_tree.specs.TreeViews.{tree_of, target_of, printed_of, item_of, print_channel_of, close_channel_of, field_part_of, modifier_of, using_item_of, matrix_of};
 ghost use Rattle.program_model.specs.Parts.{given, printed_expression, matrix_expressions};
 ghost use Rattle.program_model.specs.Program.{loops_outside};
-ghost use Rattle.statement_walk.specs.Walk.{own_expressions, parts_alone, modifier_parts, parts_in, parts_in_clause, visited, shown};
+ghost use Rattle.statement_walk.specs.Walk.{own_expressions, parts_alone, modifier_parts, parts_in, parts_in_clause, visited, visited_trees};
 
 use crate::parts::{Expression, Part, Simple, Visitor};
 use basic_tree::{
@@ -111,7 +111,7 @@ fn visit_simple<V: Visitor>(visitor: &mut V, statement: &Statement) -> Result<()
 #[tactic(auto, using(crate::proofs::Showing::showing))]
 fn visit_expressions<V: Visitor>(visitor: &mut V, statement: &Statement) -> Result<(), V::Stop>
     ensures { OnOk result (visitor.new
-        ≡ shown V.after visitor.old (own_expressions (statement_of statement.now))) }
+        ≡ visited_trees V.after visitor.old (own_expressions (statement_of statement.now))) }
 {
     match statement {
         Statement::For { from, to, step, .. } => visit_range(visitor, from, to, step),
@@ -214,14 +214,14 @@ fn visit_expressions<V: Visitor>(visitor: &mut V, statement: &Statement) -> Resu
 // Expressions of statements
 
 fn visit_tree<V: Visitor>(visitor: &mut V, e: &Expr) -> Result<(), V::Stop>
-    ensures { OnOk result (visitor.new ≡ shown V.after visitor.old (tree_of e.now ∷ [])) }
+    ensures { OnOk result (visitor.new ≡ visited_trees V.after visitor.old (tree_of e.now ∷ [])) }
 {
     visitor.visit(Part::Expression(Expression::Tree(e)))
 }
 
 fn visit_given<V: Visitor>(visitor: &mut V, e: &Option<Expr>) -> Result<(), V::Stop>
     ensures { OnOk result (visitor.new
-        ≡ shown V.after visitor.old (given (option_map tree_of e.now))) }
+        ≡ visited_trees V.after visitor.old (given (option_map tree_of e.now))) }
 {
     match e {
         None => Ok(()),
@@ -235,7 +235,7 @@ fn visit_pair<V: Visitor>(
     second: &Option<Expr>,
 ) -> Result<(), V::Stop>
     ensures { OnOk result (visitor.new
-        ≡ shown V.after visitor.old (tree_of first.now ∷ given (option_map tree_of second.now))) }
+        ≡ visited_trees V.after visitor.old (tree_of first.now ∷ given (option_map tree_of second.now))) }
 {
     visit_tree(visitor, first)?;
     visit_given(visitor, second)
@@ -248,7 +248,7 @@ fn visit_range<V: Visitor>(
     step: &Option<Expr>,
 ) -> Result<(), V::Stop>
     ensures { OnOk result (visitor.new
-        ≡ shown V.after visitor.old (tree_of from.now ∷ tree_of to.now ∷ given
+        ≡ visited_trees V.after visitor.old (tree_of from.now ∷ tree_of to.now ∷ given
         (option_map tree_of step.now))) }
 {
     visit_tree(visitor, from)?;
@@ -262,7 +262,7 @@ fn visit_assignment<V: Visitor>(
     value: &Expr,
 ) -> Result<(), V::Stop>
     ensures { OnOk result (visitor.new
-        ≡ shown V.after visitor.old (map target_of targets.now ++ tree_of value.now ∷ [])) }
+        ≡ visited_trees V.after visitor.old (map target_of targets.now ++ tree_of value.now ∷ [])) }
 {
     visit_targets(visitor, targets)?;
     visit_tree(visitor, value)
@@ -270,7 +270,7 @@ fn visit_assignment<V: Visitor>(
 
 fn visit_targets<V: Visitor>(visitor: &mut V, targets: &[Target]) -> Result<(), V::Stop>
     ensures { OnOk result (visitor.new
-        ≡ shown V.after visitor.old (map target_of targets.now)) }
+        ≡ visited_trees V.after visitor.old (map target_of targets.now)) }
 {
     for target in targets {
         visitor.visit(Part::Expression(Expression::Target(target)))?;
@@ -280,7 +280,7 @@ fn visit_targets<V: Visitor>(visitor: &mut V, targets: &[Target]) -> Result<(), 
 
 fn visit_printed<V: Visitor>(visitor: &mut V, printed: &Printed) -> Result<(), V::Stop>
     ensures { OnOk result (visitor.new
-        ≡ shown V.after visitor.old (printed_expression (printed_of printed.now) ∷ [])) }
+        ≡ visited_trees V.after visitor.old (printed_expression (printed_of printed.now) ∷ [])) }
 {
     match printed {
         Printed::Value(e) => visit_tree(visitor, e),
@@ -290,7 +290,7 @@ fn visit_printed<V: Visitor>(visitor: &mut V, printed: &Printed) -> Result<(), V
 
 fn visit_last<V: Visitor>(visitor: &mut V, last: &Option<Printed>) -> Result<(), V::Stop>
     ensures { OnOk result (visitor.new
-        ≡ shown V.after visitor.old (map printed_expression (given
+        ≡ visited_trees V.after visitor.old (map printed_expression (given
         (option_map printed_of last.now)))) }
 {
     match last {
@@ -304,7 +304,7 @@ fn visit_print_channel<V: Visitor>(
     channel: &Option<PrintChannel>,
 ) -> Result<(), V::Stop>
     ensures { OnOk result (visitor.new
-        ≡ shown V.after visitor.old (map (λ c. c.number) (given
+        ≡ visited_trees V.after visitor.old (map (λ c. c.number) (given
         (option_map print_channel_of channel.now)))) }
 {
     match channel {
@@ -315,7 +315,7 @@ fn visit_print_channel<V: Visitor>(
 
 fn visit_items<V: Visitor>(visitor: &mut V, items: &[PrintItem]) -> Result<(), V::Stop>
     ensures { OnOk result (visitor.new
-        ≡ shown V.after visitor.old (map (λ item. printed_expression item.printed)
+        ≡ visited_trees V.after visitor.old (map (λ item. printed_expression item.printed)
         (map item_of items.now))) }
 {
     for item in items {
@@ -326,7 +326,7 @@ fn visit_items<V: Visitor>(visitor: &mut V, items: &[PrintItem]) -> Result<(), V
 
 fn visit_channels<V: Visitor>(visitor: &mut V, channels: &[CloseChannel]) -> Result<(), V::Stop>
     ensures { OnOk result (visitor.new
-        ≡ shown V.after visitor.old (map (λ c. c.number) (map close_channel_of channels.now))) }
+        ≡ visited_trees V.after visitor.old (map (λ c. c.number) (map close_channel_of channels.now))) }
 {
     for channel in channels {
         visit_tree(visitor, &channel.number)?;
@@ -336,7 +336,7 @@ fn visit_channels<V: Visitor>(visitor: &mut V, channels: &[CloseChannel]) -> Res
 
 fn visit_widths<V: Visitor>(visitor: &mut V, fields: &[FieldPart]) -> Result<(), V::Stop>
     ensures { OnOk result (visitor.new
-        ≡ shown V.after visitor.old (map (λ part. part.width) (map field_part_of fields.now))) }
+        ≡ visited_trees V.after visitor.old (map (λ part. part.width) (map field_part_of fields.now))) }
 {
     for field in fields {
         visit_tree(visitor, &field.width)?;
@@ -346,7 +346,7 @@ fn visit_widths<V: Visitor>(visitor: &mut V, fields: &[FieldPart]) -> Result<(),
 
 fn visit_values<V: Visitor>(visitor: &mut V, values: &[UsingItem]) -> Result<(), V::Stop>
     ensures { OnOk result (visitor.new
-        ≡ shown V.after visitor.old (map (λ item. item.value) (map using_item_of values.now))) }
+        ≡ visited_trees V.after visitor.old (map (λ item. item.value) (map using_item_of values.now))) }
 {
     for item in values {
         visit_tree(visitor, &item.value)?;
@@ -356,7 +356,7 @@ fn visit_values<V: Visitor>(visitor: &mut V, values: &[UsingItem]) -> Result<(),
 
 fn visit_matrix<V: Visitor>(visitor: &mut V, value: &MatrixValue) -> Result<(), V::Stop>
     ensures { OnOk result (visitor.new
-        ≡ shown V.after visitor.old (matrix_expressions (matrix_of value.now))) }
+        ≡ visited_trees V.after visitor.old (matrix_expressions (matrix_of value.now))) }
 {
     match value {
         MatrixValue::Scaled { factor, .. } => visit_tree(visitor, factor),

@@ -35,7 +35,7 @@ returns g c =
     record {
       screens = screens;
       run = c.in_ok-ran.ensures;
-      reported = c.in_ok-push_history.ensures
+      reported = c.in_ok-push_history.ensures.text
           ∙ (λ i. c.in_ok-output.output.items ++ history_text (c.as_slice-3.ensures i))
           ∙ ap (λ (bytes : List ℕ). bytes ++ history_text c.in_ok-ran.ran.run)
           (c.in_ok-output.ensures

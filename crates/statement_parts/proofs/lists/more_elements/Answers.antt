@@ -10,4 +10,4 @@ pub returns-in_err-item : goal.returns-in_err-item
 returns-in_err-item g c =
     let e = c.in_err-item in
     on_err (PartsFrom c.args.levels c.args.words.now c.args.from (MoreOf (g.T.Element.sequence c.args.want) (g.T.Element.item c.args.first ∷ [])) (λ x h. h (map g.T.Element.item x))) _ e.field-0.0 (search rules)
-    (e.ensures.0, list_halts c.args.levels c.args.words.now (g.T.Element.sequence c.args.want) c.args.from c.more.end (g.T.Element.item c.args.first) (map g.T.Element.item c.more.items.items) c.has_room.result e.field-0.0 c.more.invariant c.more-test.ensures.adds (c.has_room.ensures _ _ (simp length-map (search rules))) e.ensures.1)
+    (e.ensures.0, list_halts c.args.levels c.args.words.now (g.T.Element.sequence c.args.want) c.args.from c.more.end (g.T.Element.item c.args.first) (map g.T.Element.item c.more.items.items) c.has_room.result e.field-0.0 c.more.invariant c.more-test.ensures.adds (c.has_room.ensures _ (simp length-map (search rules))) e.ensures.1)

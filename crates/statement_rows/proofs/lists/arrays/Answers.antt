@@ -1,0 +1,20 @@
+use Rattle.std.proofs.Common.{rules, ◌∙◌, Some, arith}
+use Rattle.basic_tree.specs.MachineForms.{names_in}
+use Rattle.statement_parts.proofs.ListSteps.{names_same}
+use Rattle.statement_parts.proofs.Steps.{on_err}
+use Rattle.statement_rows.specs.declared.piece.Piece.TheVariants as piece
+use Rattle.statement_rows.specs.Pieces.{PieceRead}
+use Rattle.statement_rows.specs.Slots.{ArraysPart}
+use Rattle.statement_rows.proofs.lists.arrays.Goals as goal
+
+pub returns-in_err-found : goal.returns-in_err-found
+returns-in_err-found c =
+    let e = c.in_err-found in
+    on_err (PieceRead c.args.levels c.args.words.now c.args.from piece.Arrays) _ e.field-0.0 (search rules)
+    (e.ensures.0, λ g halt is k vs. e.ensures.1 (λ items. g (Some (ArraysPart (names_in items)))) halt is k vs)
+
+pub returns : goal.returns
+returns c = (
+  (omega (arith, c.in_ok-found.ensures.0.0), c.in_ok-found.ensures.0.1),
+  λ g k vs. c.in_ok-found.ensures.1 (λ items. g (Some (ArraysPart (names_in items)))) k vs ∙ (simp names_same),
+)
