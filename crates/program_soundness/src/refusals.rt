@@ -292,11 +292,17 @@ fn any_stray(listing: &Listing<'_>, body: Option<usize>, names: &[Name]) -> bool
     ensures { result ≡ list_any (λ f. not (is_body_of (text_of listing.now) f body)) names.now }
 {
     for name in names {
-        if !listing.is_body_of(*name, body) {
+        if is_stray(listing, body, *name) {
             return true;
         }
     }
     false
+}
+
+fn is_stray(listing: &Listing<'_>, body: Option<usize>, function: Name) -> bool
+    ensures { result ≡ not (is_body_of (text_of listing.now) function body) }
+{
+    !listing.is_body_of(function, body)
 }
 
 // Calls
