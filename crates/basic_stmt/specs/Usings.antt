@@ -10,7 +10,7 @@ use Rattle.basic_tree.specs.MachineForms.{using_value_form}
 use Rattle.statement_parts.specs.Reading.{Behind, IsPlaced, Leads, Makes, Halts}
 use Rattle.statement_parts.specs.declared.read.Read.{Read}
 use Rattle.basic_expr.specs.declared.failures.Failure.{Failure}
-use Rattle.basic_stmt.specs.declared.using.Using.{Using}
+use Rattle.basic_stmt.specs.declared.using.UsedValues.{UsedValues}
 use Rattle.basic_stmt.specs.declared.using.Part.{Part}
 use Rattle.basic_stmt.specs.declared.using.Part.TheVariants as part
 
@@ -46,6 +46,6 @@ UsesPart n ws from (Ok x) = Behind ws from x.end × UsedAt n ws from x.end x.val
 UsesPart n ws from (Err e) = IsPlaced ws e × ((c : Option Tree) (format : Tree) (values : List UsingItemTree) → Halts n ws from (value_form c format values) e)
 
 -- all values
-abbrev pub UsesAll : ℕ → List Word → ℕ → Result (Read Using) Failure → Type 0
+abbrev pub UsesAll : ℕ → List Word → ℕ → Result (Read UsedValues) Failure → Type 0
 UsesAll n ws from (Ok x) = Behind ws from x.end × ((c : Option Tree) (format : Tree) → Makes n ws from x.end (value_form c format []) (Stated (PrintUsing c format (map using_item_of x.value.values) (option_map tree_of x.value.last))))
 UsesAll n ws from (Err e) = IsPlaced ws e × ((c : Option Tree) (format : Tree) → Halts n ws from (value_form c format []) e)

@@ -21,7 +21,7 @@ pub(crate) enum Part {
 
 /// The values of PRINT USING, and the last one, where no separator ends them.
 #[derive(Drop)]
-pub(crate) struct Using {
+pub(crate) struct UsedValues {
     pub values: Series<UsingItem>,
     pub last: Option<Expr>,
 }
@@ -78,7 +78,7 @@ fn all_values(
     words: &Words<'_>,
     from: usize,
     levels: usize,
-) -> Result<Read<Using>, Failure>
+) -> Result<Read<UsedValues>, Failure>
     requires { from ≤ length words.now }
     ensures { UsesAll levels words.now from result }
 {
@@ -96,7 +96,7 @@ fn all_values(
                 if !if_value(words, end) {
                     let values = Series::from_vec(values);
                     return Ok(Read {
-                        value: Using { values, last: None },
+                        value: UsedValues { values, last: None },
                         end,
                     });
                 }
@@ -104,7 +104,7 @@ fn all_values(
             Part::Last(last) => {
                 let values = Series::from_vec(values);
                 return Ok(Read {
-                    value: Using {
+                    value: UsedValues {
                         values,
                         last: Some(last),
                     },
@@ -117,7 +117,7 @@ fn all_values(
 
 /// Behind USING: the format, a comma and the values, to be written to this channel.
 #[tactic(auto, using(statement_parts::proofs::Steps::leading))]
-pub(crate) fn using(
+pub(crate) fn print_using(
     alloc: Global,
     words: &Words<'_>,
     from: usize,
