@@ -6,5 +6,5 @@ use Rattle.lowering.proofs.loops.count_clause_loops.Goals as goal
 
 pub returns : goal.returns
 returns c =
-    c.in_ok-visit_clause.ensures ∙ summed c.args.total.now (parts_in_clause (clause_of c.args.clause.now))
+    c.loops.view_is ∙ c.in_ok-visit_clause.ensures ∙ summed c.args.total.now (parts_in_clause (clause_of c.args.clause.now))
     ∙ ap (λ n. c.args.total.now + n) (loop_parts_clause (clause_of c.args.clause.now))

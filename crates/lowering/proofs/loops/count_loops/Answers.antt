@@ -6,5 +6,5 @@ use Rattle.lowering.proofs.loops.count_loops.Goals as goal
 
 pub returns : goal.returns
 returns c =
-    c.in_ok-visit_parts.ensures ∙ summed c.args.total.now (parts_in (statement_of c.args.statement.now))
+    c.loops.view_is ∙ c.in_ok-visit_parts.ensures ∙ summed c.args.total.now (parts_in (statement_of c.args.statement.now))
     ∙ ap (λ n. c.args.total.now + n) (loop_parts (statement_of c.args.statement.now))
