@@ -21,7 +21,7 @@ enum Step {
 }
 
 /// The number by which a step is refused; 0 where it is done.
-fn refused(printer: &mut Printer, job: u32, step: Step) -> u8 {
+fn refusal(printer: &mut Printer, job: u32, step: Step) -> u8 {
     let answer = match step {
         Step::Assign => printer.assign(job),
         Step::Deassign => printer.deassign(job),
@@ -72,15 +72,22 @@ static ROWS: [(u32, Step, u8); 26] = [
 fn the_printer_is_one_job_s(rt: HostRuntime) -> Result<(), Fail> {
     let mut printer = Printer::new();
     for (place, (job, step, number)) in ROWS.iter().enumerate() {
-        let found = refused(&mut printer, *job, *step);
+        let found = refusal(&mut printer, *job, *step);
         assert_eq!(rt; found, *number, "row {place}");
     }
     Ok(())
 }
 
-fn print(alloc: Global, text: &[u8]) -> Result<Request, Fail> {
-    let text = Text::of(alloc, text).ok().ok_or("no text")?;
-    Ok(Request::Print { text })
+/// A Print; where memory is wanting a Tick, of which nothing is printed.
+fn print(alloc: Global, text: &[u8]) -> Request {
+    match Text::of(alloc, text) {
+        Ok(text) => Request::Print { text },
+        Err(_) => Request::Tick,
+    }
+}
+
+fn refused(number: u8) -> Reply {
+    Reply::Failed(Fault::new(number))
 }
 
 fn terminal(name: &[u8]) -> Result<TerminalName, Fail> {
@@ -102,18 +109,17 @@ fn entry(job: u32, request: Request, reply: Reply) -> Entry
 fn listings_stand_in_the_order_of_their_beginning(rt: HostRuntime) -> Result<(), Fail> {
     let alloc = rt.alloc();
     let names = [terminal(b"T1")?, terminal(b"CONSOLE")?];
-    let refused = || Reply::Failed(Fault::new(8));
     let history = [
         entry(1, Request::OpenPrinter, Reply::Done),
-        entry(0, Request::OpenPrinter, refused()),
-        entry(1, print(alloc, b"10 PRINT\r\n")?, Reply::Done),
-        entry(0, print(alloc, b"LOST")?, Reply::Failed(Fault::new(9))),
-        entry(1, print(alloc, b"20 END\r\n")?, Reply::Done),
+        entry(0, Request::OpenPrinter, refused(8)),
+        entry(1, print(alloc, b"10 PRINT\r\n"), Reply::Done),
+        entry(0, print(alloc, b"LOST"), refused(9)),
+        entry(1, print(alloc, b"20 END\r\n"), Reply::Done),
         entry(1, Request::ClosePrinter, Reply::Done),
         entry(0, Request::OpenPrinter, Reply::Done),
         entry(0, Request::Logout, Reply::Done),
         entry(1, Request::OpenPrinter, Reply::Done),
-        entry(1, print(alloc, b"A")?, Reply::Done),
+        entry(1, print(alloc, b"A"), Reply::Done),
         entry(1, Request::Tick, Reply::Expired),
     ];
     let bytes = printed(alloc, &names, &history)?;
