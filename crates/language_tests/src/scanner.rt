@@ -365,8 +365,8 @@ fn is_refused(line: &[u8], place: u16, cause: Cause) -> bool {
     }
 }
 
-fn first_not_taken() -> Option<usize> {
-    for (place, (line, wanted)) in TAKEN.iter().enumerate() {
+fn first_not_taken(rows: &[(&[u8], &[Wanted<'_>])]) -> Option<usize> {
+    for (place, (line, wanted)) in rows.iter().enumerate() {
         if !is_taken(line, wanted) {
             return Some(place);
         }
@@ -374,8 +374,8 @@ fn first_not_taken() -> Option<usize> {
     None
 }
 
-fn first_not_refused() -> Option<usize> {
-    for (row, (line, place, cause)) in REFUSED.iter().enumerate() {
+fn first_not_refused(rows: &[(&[u8], u16, Cause)]) -> Option<usize> {
+    for (row, (line, place, cause)) in rows.iter().enumerate() {
         if !is_refused(line, *place, *cause) {
             return Some(row);
         }
@@ -385,7 +385,7 @@ fn first_not_refused() -> Option<usize> {
 
 #[test]
 fn lines_have_their_tokens_or_are_refused(rt: HostRuntime) -> Result<(), Fail> {
-    let wrong = (first_not_taken(), first_not_refused());
+    let wrong = (first_not_taken(&TAKEN), first_not_refused(&REFUSED));
     assert_eq!(rt; wrong, (None, None));
     Ok(())
 }
