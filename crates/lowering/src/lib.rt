@@ -13,8 +13,8 @@
 
 mod emitted;
 mod expressions;
-mod loops;
 mod lookups;
+mod loops;
 mod lowered;
 mod placement;
 mod program;
