@@ -90,10 +90,10 @@ impl Files {
 
     fn told_behind(&mut self, step: Step) -> Told {
         match step {
-            Step::Create(named, code) => answered(self.disk.create(self.name(named), code)),
+            Step::Create(named, code) => self.create(named, code),
             Step::Write(named, block, byte) => self.write(named, block, byte),
             Step::Read(named, block) => self.read(named, block),
-            Step::Remake(named, code) => answered(self.disk.remake(&self.name(named), code)),
+            Step::Remake(named, code) => self.remake(named, code),
             Step::Remove(named) => self.remove(named),
             Step::Size(named) => number(self.disk.size(&self.name(named))),
             Step::Code(named) => self.code(named),
@@ -101,9 +101,15 @@ impl Files {
         }
     }
 
+    fn create(&mut self, named: Named, code: u8) -> Told {
+        let name = self.name(named);
+        answered(self.disk.create(name, code))
+    }
+
     fn write(&mut self, named: Named, block: u16, byte: u8) -> Told {
+        let name = self.name(named);
         match page_of(self.alloc, byte) {
-            Ok(page) => answered(self.disk.write(&self.name(named), block, &page)),
+            Ok(page) => answered(self.disk.write(&name, block, &page)),
             Err(_) => Told::NoMemory,
         }
     }
@@ -118,8 +124,14 @@ impl Files {
         }
     }
 
+    fn remake(&mut self, named: Named, code: u8) -> Told {
+        let name = self.name(named);
+        answered(self.disk.remake(&name, code))
+    }
+
     fn remove(&mut self, named: Named) -> Told {
-        match self.disk.remove(&self.name(named)) {
+        let name = self.name(named);
+        match self.disk.remove(&name) {
             Ok(()) => Told::Done,
             Err(fault) => Told::Refused(fault.number()),
         }

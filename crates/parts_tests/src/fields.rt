@@ -2,20 +2,20 @@
 
 ghost use Rattle.record_fields.specs.Buffers.{IsChannel};
 
-use crate::memory::text_name;
+use basic_tree::Name;
 use basic_values::{Int, Trouble};
 use job_memory::Memory;
 use record_fields::{Buffers, Part, layout, lend, lset_part, rset_part};
 use std::alloc::Global;
 use std::test::Fail;
 
-/// The widths of three parts, and the offset and the length of each.
-type Widths = ([i16; 3], Option<[(u16, u16); 3]>);
+/// The widths of three parts, and the offset and the length of each in turn.
+type Widths = ([i16; 3], Option<[u16; 6]>);
 
 static LAYOUTS: [Widths; 6] = [
-    ([4, 6, 0], Some([(0, 4), (4, 6), (10, 0)])),
-    ([512, 0, 0], Some([(0, 512), (512, 0), (512, 0)])),
-    ([0, 0, 512], Some([(0, 0), (0, 0), (0, 512)])),
+    ([4, 6, 0], Some([0, 4, 4, 6, 10, 0])),
+    ([512, 0, 0], Some([0, 512, 512, 0, 512, 0])),
+    ([0, 0, 512], Some([0, 0, 0, 0, 0, 512])),
     ([512, 1, 0], None),
     ([4, -1, 0], None),
     ([32767, 32767, 2], None),
@@ -31,12 +31,20 @@ fn parts_of(alloc: Global, widths: [i16; 3]) -> Result<Option<Vec<Part>>, Fail> 
     }
 }
 
-fn are_at(parts: &[Part], places: &[(u16, u16)]) -> bool {
-    parts.len() == places.len()
-        && parts
-            .iter()
-            .zip(places)
-            .all(|(part, place)| (part.offset, part.length) == *place)
+fn are_at(parts: &[Part], places: &[u16; 6]) -> bool {
+    match parts {
+        [first, second, third] => {
+            [
+                first.offset,
+                first.length,
+                second.offset,
+                second.length,
+                third.offset,
+                third.length,
+            ] == *places
+        }
+        _ => false,
+    }
 }
 
 fn is_laid_out(alloc: Global, row: &Widths) -> Result<bool, Fail> {
@@ -143,22 +151,32 @@ fn a_field_may_be_the_whole_buffer(rt: HostRuntime) -> Result<(), Fail> {
     Ok(())
 }
 
-/// How long a text is that is lent from the whole buffer of channel 3.
-fn lent_length(memory: &mut Memory, buffers: &Buffers) -> Option<usize> {
-    let name = text_name(b'A');
+const NAME: Name = Name {
+    letter: b'A',
+    digit: Some(b'1'),
+    text: true,
+};
+
+/// A memory in which a text is lent from the whole buffer of channel 3, and how long the text is.
+fn lent(alloc: Global, buffers: &Buffers) -> Result<(Memory, usize), Fail> {
+    let name = NAME;
     let part = Part {
         offset: 0,
         length: 512,
     };
+    let mut memory = Memory::new(alloc);
     match memory.bind_part(name, 3, part) {
-        Ok(()) => Some(memory.text(name, buffers).len()),
-        Err(_) => None,
+        Ok(()) => {
+            let length = memory.text(name, buffers).len();
+            Ok((memory, length))
+        }
+        Err(_) => Err("not bound")?,
     }
 }
 
 /// Whether a call with the text as its parameter is entered and left.
 fn is_called(memory: &mut Memory) -> bool {
-    match memory.enter(&[text_name(b'A')]) {
+    match memory.enter(&[NAME]) {
         Ok(()) => {
             memory.leave();
             true
@@ -170,9 +188,8 @@ fn is_called(memory: &mut Memory) -> bool {
 #[test]
 fn a_closed_channel_empties_its_fields(rt: HostRuntime) -> Result<(), Fail> {
     let buffers = Buffers::new(rt.alloc())?;
-    let mut memory = Memory::new(rt.alloc());
-    let length = lent_length(&mut memory, &buffers);
-    assert_eq!(rt; length, Some(512));
+    let (mut memory, length) = lent(rt.alloc(), &buffers)?;
+    assert_eq!(rt; length, 512);
     memory.forget_channel(2);
     memory.forget_channel(3);
     assert!(rt; is_called(&mut memory));

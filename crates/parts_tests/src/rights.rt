@@ -7,21 +7,21 @@ use protection::allows;
 use std::test::Fail;
 
 /// A protection code, and what it leaves to a caller of the owner's account [10,1], of another
-/// account of its project, and of one of another project: reading and writing.
-type Row = (u8, [(bool, bool); 3]);
+/// account of its project, and of one of another project: reading and writing, each in turn.
+type Row = (u8, [bool; 6]);
 
 static ROWS: [Row; 11] = [
-    (0, [(true, true), (true, true), (true, true)]),
-    (1, [(false, true), (true, true), (true, true)]),
-    (2, [(true, false), (true, true), (true, true)]),
-    (4, [(true, true), (false, true), (true, true)]),
-    (8, [(true, true), (true, false), (true, true)]),
-    (16, [(true, true), (true, true), (false, true)]),
-    (32, [(true, true), (true, true), (true, false)]),
-    (40, [(true, true), (true, false), (true, false)]),
-    (60, [(true, true), (false, false), (false, false)]),
-    (63, [(false, false), (false, false), (false, false)]),
-    (64, [(true, true), (true, true), (true, true)]),
+    (0, [true, true, true, true, true, true]),
+    (1, [false, true, true, true, true, true]),
+    (2, [true, false, true, true, true, true]),
+    (4, [true, true, false, true, true, true]),
+    (8, [true, true, true, false, true, true]),
+    (16, [true, true, true, true, false, true]),
+    (32, [true, true, true, true, true, false]),
+    (40, [true, true, true, false, true, false]),
+    (60, [true, true, false, false, false, false]),
+    (63, [false, false, false, false, false, false]),
+    (64, [true, true, true, true, true, true]),
 ];
 
 /// Whether a caller may read and write a file of [10,1] with this code.
@@ -31,11 +31,17 @@ fn rights(caller: Account, code: u8) -> (bool, bool) {
     (read, allows(caller, owner, code, Right::Write))
 }
 
-fn all_rights(code: u8) -> [(bool, bool); 3] {
+fn all_rights(code: u8) -> [bool; 6] {
+    let own = rights(account(10, 1), code);
+    let neighbour = rights(account(10, 2), code);
+    let stranger = rights(account(20, 1), code);
     [
-        rights(account(10, 1), code),
-        rights(account(10, 2), code),
-        rights(account(20, 1), code),
+        own.0,
+        own.1,
+        neighbour.0,
+        neighbour.1,
+        stranger.0,
+        stranger.1,
     ]
 }
 
