@@ -154,7 +154,7 @@ struct Ran {
 }
 
 /// Runs these items from the first one on, over a port with so many replies.
-fn ran(alloc: Global, items: Vec<Item>, replies: Vec<Reply>) -> Result<Ran, Fail> {
+fn run_of(alloc: Global, items: Vec<Item>, replies: Vec<Reply>) -> Result<Ran, Fail> {
     let code = Code::new(items, Vec::new(alloc), Vec::new(alloc));
     let mut state = at_rest(alloc)?;
     let mut clock = Clock::new();
@@ -182,7 +182,7 @@ type Row = (
 
 /// Fails with how a run ended, unless it comes to this.
 fn expect(alloc: Global, row: &Row) -> Result<(), Fail> {
-    let ran = ran(alloc, items(alloc, row.0)?, done(alloc, row.1)?)?;
+    let ran = run_of(alloc, items(alloc, row.0)?, done(alloc, row.1)?)?;
     let is_written = ran.written.as_slice() == row.3;
     if ran.ended == row.2 && is_written && (ran.asked, ran.line, ran.frames) == (row.4, row.5, 0) {
         Ok(())
