@@ -8,6 +8,7 @@
 //! is given back without memory. It stands on `polish_code`, which has the items and their acts.
 #![tactic(auto)]
 
+mod asking;
 mod calls;
 pub mod exits;
 mod functions;
@@ -22,14 +23,14 @@ pub mod spots;
 pub mod stack;
 pub mod state;
 mod step;
-pub mod storage;
 mod traps;
 mod values;
 mod variables;
 
 pub use exits::{Exit, Move};
+pub use job_storage::Storage;
 pub use spots::Spot;
 pub use stack::Stack;
 pub use state::Running;
-pub use step::is_call;
-pub use storage::Storage;
+pub use step::{is_ask, is_call};
+pub use variables::exit_at;

@@ -2,7 +2,7 @@
 
 ghost use Rattle.std.specs.Prelude.{◌≡◌, ◌-◌, false};
 ghost use Rattle.polish_code.specs.Walk.{item_act};
-ghost use Rattle.basic_eval.specs.Acting.{Acts, alone, is_call, seen, told};
+ghost use Rattle.basic_eval.specs.Acting.{Acts, alone, is_call, is_ask, seen, told};
 
 use crate::exits::{Exit, Move};
 use crate::spots::Spot;
@@ -14,8 +14,8 @@ use polish_code::Item;
 use program_model::Value;
 
 impl Running {
-    /// Does what an item does that calls no function of the program: `behind` items stand up to it
-    /// and with it. What it leads to is given; where that is no further the state has the reason,
+    /// Does what an item does that calls no function of the program and asks nothing: `behind`
+    /// items stand up to it and with it. What it leads to is given; where that is no further the state has the reason,
     /// and where memory runs out nothing more is told of it. Each act stays out of line, so that
     /// this has no frame of its own.
     pub fn step(
@@ -25,7 +25,8 @@ impl Running {
         item: &Item,
         stack: &mut Stack<Value>,
     ) -> Move
-        requires { is_call item.now ≡ false }
+        requires call { is_call item.now ≡ false }
+        requires ask { is_ask item.now ≡ false }
         ensures { Acts
             (item_act (alone words.now) behind item.now stack.old (seen self.old))
             (seen self.new) (told self.new.exit stack.new result) }
@@ -56,7 +57,7 @@ impl Running {
             Item::PrintTab => self.print_tab(stack),
             Item::Zone => self.next_zone(),
             Item::EndLine => self.end_line(),
-            Item::Call { .. } => unreachable!(),
+            Item::Call { .. } | Item::Ask(_) => unreachable!(),
             Item::AskItems { prompt, count } => self.ask_items(prompt, *count as usize, stack),
             Item::AskLine => self.ask_line(stack),
             Item::TakeItem => self.take_item(words, stack),
@@ -148,6 +149,16 @@ pub fn is_call(item: &Item) -> bool
 {
     match item {
         Item::Call { .. } => true,
+        _ => false,
+    }
+}
+
+/// Whether an item asks the monitor.
+pub fn is_ask(item: &Item) -> bool
+    ensures { result ≡ is_ask item.now }
+{
+    match item {
+        Item::Ask(_) => true,
         _ => false,
     }
 }

@@ -16,12 +16,12 @@ use Rattle.basic_tree.specs.SpellingExpressions.{is_text, want_of}
 use Rattle.basic_tree.specs.Trees.{Tree, Trees, FunctionOf, Literal, Quoted, Variable, Call, NoTrees, AndTrees}
 use Rattle.basic_tree.specs.TreeViews.{tree_of}
 use Rattle.basic_tree.specs.GrammarTables.{arguments_of, gives_text}
-use Rattle.basic_tree.specs.GrammarWords.{function_of, is_same_sign}
-use Rattle.basic_tree.specs.MachineStack.{Action, Arguments, Close, Collect, Do, Expect, Level, MakeCall, MakeComparison, MakeElement, MakeFunction, MakeParenthesized, More, MoreArguments, Opening, SecondSubscript, Several, Subscripts, Symbol, Term, Values, loosest, made, others, with_last}
-use Rattle.basic_tree.specs.MachineStarts.{Start, Chain, arguments_expected, function_start, more_expected, rank_of, relations, side, takes}
-use Rattle.basic_tree.specs.MachineMoves.{begun}
-use Rattle.basic_tree.specs.MachineRun.{TooDeep, Wrong, moved, run, turn, turned}
-use Rattle.basic_tree.proofs.MachineSteps.{run_chain, run_relations, run_do, run_close}
+use Rattle.grammar_machine.specs.GrammarWords.{function_of, is_same_sign}
+use Rattle.grammar_machine.specs.MachineStack.{Action, Arguments, Close, Collect, Do, Expect, Level, MakeCall, MakeComparison, MakeElement, MakeFunction, MakeParenthesized, More, MoreArguments, Opening, SecondSubscript, Several, Subscripts, Symbol, Term, Values, loosest, made, others, with_last}
+use Rattle.grammar_machine.specs.MachineStarts.{Start, Chain, arguments_expected, function_start, more_expected, rank_of, relations, side, takes}
+use Rattle.grammar_machine.specs.MachineMoves.{begun}
+use Rattle.grammar_machine.specs.MachineRun.{TooDeep, Wrong, moved, run, turn, turned}
+use Rattle.grammar_machine.proofs.MachineSteps.{run_chain, run_relations, run_do, run_close}
 use Rattle.basic_expr.specs.declared.failures.Failure.{Failure}
 use Rattle.basic_expr.specs.declared.failures.Failure.TheVariants as failure
 use Rattle.basic_expr.specs.declared.failures.Found.{Found}
@@ -29,7 +29,7 @@ use Rattle.basic_expr.specs.declared.signs.Prefix.{Prefix}
 use Rattle.basic_expr.specs.declared.signs.Prefix.TheVariants as prefix
 use Rattle.basic_expr.specs.declared.words.Word.{Word as CodeWord}
 use Rattle.basic_expr.specs.Views.{as_word}
-use Rattle.basic_expr.specs.Reading.{First, IsChain, PrefixAt, ReadsAll, RefusesAll, RefusesSign, RelationAt, action_of, begins_atom, fits_function, function_expected, is_sign, prefixed, takes_relations, trees_in}
+use Rattle.basic_expr.specs.ParsedSymbols.{First, IsChain, PrefixAt, ReadsAll, RefusesAll, RefusesSign, RelationAt, action_of, begins_atom, fits_function, function_expected, is_sign, prefixed, takes_relations, trees_in}
 
 -- ---- contracts
 

@@ -1,12 +1,12 @@
 -- What passes the test for a word is that word.
 use Rattle.std.proofs.Common.{◌≡◌, ◌||◌, true, refl, sym, ap}
 use Rattle.basic_tree.specs.declared.tokens.Keyword.TheVariants as keyword
-use Rattle.basic_tree.specs.MachineForms.{is_known, key_begins}
-use Rattle.basic_tree.specs.GrammarWords.{function_of, is_same_keyword}
+use Rattle.grammar_machine.specs.MachineForms.{is_known, key_begins}
+use Rattle.grammar_machine.specs.GrammarWords.{function_of, is_same_keyword}
 use Rattle.basic_tree.specs.declared.tokens.Keyword.{Keyword}
 use Rattle.basic_tree.specs.SpellingWords.{Word, Key, Punctuation, Named, FnNamed, Number, Quotation, Item}
-use Rattle.basic_tree.proofs.FormBack.{same_key}
-use Rattle.basic_expr.specs.Reading.{is_key}
+use Rattle.grammar_machine.proofs.FormBack.{same_key}
+use Rattle.basic_expr.specs.ParsedSymbols.{is_key}
 
 pub is_that_key : (k : Keyword) (t : Word) → is_key k t ≡ true → t ≡ Key k
 is_that_key k (Key j) h = ap Key (sym (same_key k j h))

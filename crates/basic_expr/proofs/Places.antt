@@ -4,16 +4,16 @@ use Rattle.basic_tree.specs.declared.kinds.Want.{Want}
 use Rattle.basic_tree.specs.SpellingWords.{Word, most_levels}
 use Rattle.basic_tree.specs.Trees.{Tree}
 use Rattle.basic_tree.specs.GrammarPlaces.{IsRead}
-use Rattle.basic_tree.specs.MachineStack.{Term, Values, Symbol, Level, loosest}
-use Rattle.basic_tree.specs.MachineRun.{run}
-use Rattle.basic_tree.proofs.MachinePasses.{left}
-use Rattle.basic_tree.proofs.BetweenLemmas.{stops_behind}
-use Rattle.basic_tree.proofs.ExpressionPlaces.{expression_read, expression_wrong, expression_deep}
+use Rattle.grammar_machine.specs.MachineStack.{Term, Values, Symbol, Level, loosest}
+use Rattle.grammar_machine.specs.MachineRun.{run}
+use Rattle.grammar_machine.proofs.MachinePasses.{left}
+use Rattle.grammar_machine.proofs.BetweenLemmas.{stops_behind}
+use Rattle.grammar_machine.proofs.ExpressionPlaces.{expression_read, expression_wrong, expression_deep}
 use Rattle.basic_expr.specs.declared.failures.Failure.{Failure}
 use Rattle.basic_expr.specs.declared.failures.Failure.TheVariants as failure
 use Rattle.basic_expr.specs.Failures.{IsNear, trouble_of}
 use Rattle.basic_expr.specs.Parsing.{ParsesExpr}
-use Rattle.basic_expr.specs.Reading.{RefusesAt}
+use Rattle.basic_expr.specs.ParsedSymbols.{RefusesAt}
 use Rattle.basic_expr.specs.Views.{most_words}
 
 -- with nothing expected the machine ends

@@ -11,12 +11,12 @@ use Rattle.basic_tree.specs.declared.kinds.Want.TheVariants as want
 use Rattle.basic_tree.specs.SpellingWords.{Word, Key, Punctuation, Named, FnNamed, Number, Quotation, Item}
 use Rattle.basic_tree.specs.SpellingExpressions.{is_text}
 use Rattle.basic_tree.specs.Trees.{Tree}
-use Rattle.basic_tree.specs.GrammarWords.{is_same_sign, operator_of, relation_of, sign_number}
-use Rattle.basic_tree.specs.MachineStack.{Exponent, Level, Symbol, Term, Values}
-use Rattle.basic_tree.specs.MachineMoves.{related}
-use Rattle.basic_tree.specs.MachineRun.{Wrong, moved, run, turn, turned}
+use Rattle.grammar_machine.specs.GrammarWords.{is_same_sign, operator_of, relation_of, sign_number}
+use Rattle.grammar_machine.specs.MachineStack.{Exponent, Level, Symbol, Term, Values}
+use Rattle.grammar_machine.specs.MachineMoves.{related}
+use Rattle.grammar_machine.specs.MachineRun.{Wrong, moved, run, turn, turned}
 use Rattle.basic_expr.specs.declared.signs.Prefix.TheVariants as prefix
-use Rattle.basic_expr.specs.Reading.{First, OperatorAt, PrefixAt, RelationAt, always, exponents, goes_on, is_key, is_sign, number_atom, signed_level, takes_number}
+use Rattle.basic_expr.specs.ParsedSymbols.{First, OperatorAt, PrefixAt, RelationAt, always, exponents, goes_on, is_key, is_sign, number_atom, signed_level, takes_number}
 
 -- ---- operators
 

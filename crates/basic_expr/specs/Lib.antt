@@ -1,4 +1,4 @@
 pub mod Failures
 pub mod Parsing
-pub mod Reading
+pub mod ParsedSymbols
 pub mod Views

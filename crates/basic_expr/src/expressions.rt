@@ -1,11 +1,11 @@
 //! Expressions by recursive descent: one function for each sort of symbol of the grammar's machine.
 
 ghost use Rattle.std.specs.Prelude.{◌≡◌, ◌≤◌, ◌<◌, ◌+◌, ◌∷◌, [], length, drop, IfOk};
-ghost use Rattle.basic_expr.specs.Reading.{EndsBehind, EndsFrom, IsChain, IsPrefixed, ReadsAll, ReadsAt, ReadsSecond, Stands, begins_atom, function_expected, prefixed, second_tree, trees_in};
+ghost use Rattle.basic_expr.specs.ParsedSymbols.{EndsBehind, EndsFrom, IsChain, IsPrefixed, ReadsAll, ReadsAt, ReadsSecond, WordStands, begins_atom, function_expected, prefixed, second_tree, trees_in};
 ghost use Rattle.basic_expr.specs.Views.{as_word, most_words};
-ghost use Rattle.basic_tree.specs.MachineMoves.{right_of};
-ghost use Rattle.basic_tree.specs.MachineStack.{Arguments, Exponent, Level, Several, Subscripts, loosest};
-ghost use Rattle.basic_tree.specs.MachineStarts.{Chain, rank_of, takes};
+ghost use Rattle.grammar_machine.specs.MachineMoves.{right_of};
+ghost use Rattle.grammar_machine.specs.MachineStack.{Arguments, Exponent, Level, Several, Subscripts, loosest};
+ghost use Rattle.grammar_machine.specs.MachineStarts.{Chain, rank_of, takes};
 ghost use Rattle.basic_tree.specs.SpellingExpressions.{is_text};
 ghost use Rattle.basic_tree.specs.SpellingWords.{Punctuation};
 ghost use Rattle.basic_tree.specs.TreeViews.{tree_of};
@@ -17,7 +17,7 @@ use crate::signs::{
     Prefix, expect, is_same_sign, next_is_sign, next_operator, next_prefix, next_relation,
     next_sign, right_level,
 };
-use crate::tables::{arguments_of, function_of, gives_text, side, takes, takes_relations, want_of};
+use crate::tables::{arguments_of, function_of, side, takes, takes_relations, want_of};
 use crate::words::{Word, Words, text_of};
 use basic_tree::{Expr, Function, Name, Operator, Relation, Sign, Want};
 use basic_values::NoMemory;
@@ -276,7 +276,7 @@ fn begins_atom(want: Want, word: Word<'_>) -> bool
         Word::Punctuation(sign) => is_same_sign(Sign::Opening, sign),
         Word::Key(key) => match function_of(key) {
             None => false,
-            Some(function) => takes(want, gives_text(function)),
+            Some(function) => takes(want, function.gives_text()),
         },
         Word::Item(_) => false,
     }
@@ -333,7 +333,7 @@ fn parse_parenthesized(
     want: Want,
     levels: usize,
 ) -> Result<Found, Failure>
-    requires stands { Stands words.now (Punctuation Opening) from }
+    requires stands { WordStands words.now (Punctuation Opening) from }
     requires few { length words.now ≤ most_words }
     ensures reads { ReadsAt levels words.now (Level 0 want) from result }
     ensures ends { EndsBehind words.now from result }
@@ -460,7 +460,7 @@ fn parse_function(
     if wants.is_empty() {
         return Ok(Found {
             tree: applied(function, arguments),
-            text: gives_text(function),
+            text: function.gives_text(),
             end: from,
         });
     }
@@ -483,7 +483,7 @@ fn parse_function(
     let end = expect(words, place, Sign::Closing)?;
     Ok(Found {
         tree: applied(function, arguments),
-        text: gives_text(function),
+        text: function.gives_text(),
         end,
     })
 }

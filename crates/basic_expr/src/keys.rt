@@ -1,7 +1,7 @@
 //! A number for each word of the grammar.
 
 ghost use Rattle.std.specs.Prelude.{◌≡◌};
-ghost use Rattle.basic_tree.specs.GrammarWords.{is_same_keyword, keyword_number};
+ghost use Rattle.grammar_machine.specs.GrammarWords.{is_same_keyword, keyword_number};
 
 use basic_tree::Keyword;
 

@@ -2,10 +2,10 @@
 
 ghost use Rattle.std.specs.Prelude.{◌≡◌, ◌≤◌, ◌<◌, ◌+◌, ◌∷◌, [], drop, length, ◌-◌, MatchBool};
 ghost use Rattle.basic_expr.specs.Views.{as_word, most_words};
-ghost use Rattle.basic_expr.specs.Reading.{First, IsPrefixed, IsRightLevel, OperatorAt, goes_on, PrefixAt, ReadsSign, RelationAt, Stands, always, exponents, is_key, is_sign, number_atom, signed_level, takes_number};
-ghost use Rattle.basic_tree.specs.MachineStack.{Level, Exponent};
-ghost use Rattle.basic_tree.specs.MachineForms.{begins_value, is_known, key_begins};
-ghost use Rattle.basic_tree.specs.GrammarWords.{function_of, operator_of, relation_of, is_same_sign};
+ghost use Rattle.basic_expr.specs.ParsedSymbols.{First, IsPrefixed, IsRightLevel, OperatorAt, goes_on, PrefixAt, ReadsSign, RelationAt, WordStands, always, exponents, is_key, is_sign, number_atom, signed_level, takes_number};
+ghost use Rattle.grammar_machine.specs.MachineStack.{Level, Exponent};
+ghost use Rattle.grammar_machine.specs.MachineForms.{begins_value, is_known, key_begins};
+ghost use Rattle.grammar_machine.specs.GrammarWords.{function_of, operator_of, relation_of, is_same_sign};
 ghost use Rattle.basic_tree.specs.SpellingWords.{Punctuation, Key as KeyWord};
 ghost use Rattle.basic_tree.specs.declared.kinds.Want.TheVariants.{Number};
 
@@ -53,7 +53,7 @@ fn is_key(word: Word<'_>, key: Keyword) -> bool
 #[tactic(auto, using(crate::proofs::Steps::is_that_sign))]
 pub fn next_is_sign(words: &Words<'_>, place: usize, sign: Sign) -> bool
     requires { place ≤ length words.now }
-    ensures stands { MatchBool result (Stands words.now (Punctuation sign) place)
+    ensures stands { MatchBool result (WordStands words.now (Punctuation sign) place)
         (First (is_sign sign) (drop place words.now)) }
     ensures few { length words.now ≤ most_words }
 {
@@ -67,7 +67,7 @@ pub fn next_is_sign(words: &Words<'_>, place: usize, sign: Sign) -> bool
 #[tactic(auto, using(crate::proofs::KeyNumbers::is_that_key))]
 pub fn next_is_key(words: &Words<'_>, place: usize, key: Keyword) -> bool
     requires { place ≤ length words.now }
-    ensures stands { MatchBool result (Stands words.now (KeyWord key) place)
+    ensures stands { MatchBool result (WordStands words.now (KeyWord key) place)
         (First (is_key key) (drop place words.now)) }
     ensures few { length words.now ≤ most_words }
 {

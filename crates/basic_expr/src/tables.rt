@@ -1,10 +1,10 @@
 //! The tables of the grammar: kinds, levels, operators, and functions with their arguments.
 
 ghost use Rattle.std.specs.Prelude.{◌≡◌, ◌≤◌, ◌<◌, ◌+◌, ◌∷◌, [], drop, length, MatchOption, None, Some};
-ghost use Rattle.basic_tree.specs.GrammarTables.{operator_level, joins_texts, arguments_of, gives_text};
-ghost use Rattle.basic_tree.specs.GrammarWords.{sign_operator, key_operator, sign_relation, function_of, sign_number};
-ghost use Rattle.basic_tree.specs.MachineStarts.{takes, side};
-ghost use Rattle.basic_expr.specs.Reading.{takes_relations};
+ghost use Rattle.basic_tree.specs.GrammarTables.{operator_level, joins_texts, arguments_of};
+ghost use Rattle.grammar_machine.specs.GrammarWords.{sign_operator, key_operator, sign_relation, function_of, sign_number};
+ghost use Rattle.grammar_machine.specs.MachineStarts.{takes, side};
+ghost use Rattle.basic_expr.specs.ParsedSymbols.{takes_relations};
 ghost use Rattle.basic_tree.specs.SpellingExpressions.{want_of};
 
 use basic_tree::{Function, Keyword, Operator, Relation, Sign, Want};
@@ -139,25 +139,6 @@ pub(crate) fn function_of(key: Keyword) -> Option<Function>
         Keyword::Sys => Some(Function::Sys),
         _ => None,
     }
-}
-
-pub(crate) fn gives_text(function: Function) -> bool
-    ensures { result ≡ gives_text function }
-{
-    matches!(
-        function,
-        Function::Left
-            | Function::Right
-            | Function::Mid
-            | Function::Chr
-            | Function::Space
-            | Function::StringOf
-            | Function::Num1
-            | Function::Num
-            | Function::CvtToText
-            | Function::Xlate
-            | Function::Sys
-    )
 }
 
 /// The kinds of a function's arguments.

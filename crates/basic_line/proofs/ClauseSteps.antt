@@ -3,28 +3,28 @@ use Rattle.std.proofs.Common.{◌≡◌, ℕ, suc, Bool, true, false, cond, ◌+
 use Rattle.std.proofs.lemmas.List.{drop-drop, take-append-drop}
 use Rattle.basic_expr.specs.declared.failures.Failure.{Failure}
 use Rattle.basic_expr.specs.declared.failures.Failure.TheVariants as failure
-use Rattle.basic_expr.specs.Reading.{First, Stands}
+use Rattle.basic_expr.specs.ParsedSymbols.{First, WordStands}
 use Rattle.basic_tree.specs.declared.tokens.Keyword.{Keyword}
 use Rattle.basic_tree.specs.declared.tokens.Keyword.TheVariants as keyword
 use Rattle.basic_tree.specs.declared.kinds.Want.TheVariants as want
 use Rattle.basic_tree.specs.SpellingWords.{Word, Key, Number}
 use Rattle.basic_tree.specs.SpellingStatements.{is_if, wants_else, else_wants_else, clause_wants_else}
 use Rattle.basic_tree.specs.Trees.{Tree, ClauseTree, LineClause, StatementClause, ElseTree, NoElse, Else, StatementTree, IfThen, IfGoto}
-use Rattle.basic_tree.specs.MachineStack.{Value, Values, Stated, Symbol, Go, Form, IfKey, TakeKey, ExprOf, LiteralIn, ClauseIn, AwaitClause, Modifiers, Close, Do, AddStatement, OneStatement, LineNumber, within}
-use Rattle.basic_tree.specs.MachineForms.{says, else_form}
-use Rattle.basic_tree.specs.MachineSentences as sentences
-use Rattle.basic_tree.specs.MachineSentences.{Sentence, key_sentence, sentence_of, if_form}
-use Rattle.basic_tree.specs.MachineMoves.{behind_class}
-use Rattle.basic_tree.specs.MachineRun.{Halt, Wrong, TooDeep, run}
-use Rattle.basic_tree.proofs.MachineSteps.{run_close}
-use Rattle.basic_tree.proofs.MachineStops.{finished}
-use Rattle.basic_tree.proofs.FormSteps.{run_made, if_key_opens, literal_taken}
-use Rattle.basic_tree.proofs.FormWords.{key_is_same}
-use Rattle.basic_tree.proofs.FormLeads.{Says, OfClass}
-use Rattle.basic_tree.proofs.SoundSentences.{sentence_sound}
-use Rattle.basic_tree.proofs.LineSteps as steps
+use Rattle.grammar_machine.specs.MachineStack.{Value, Values, Stated, Symbol, Go, Form, IfKey, TakeKey, ExprOf, LiteralIn, ClauseIn, AwaitClause, Modifiers, Close, Do, AddStatement, OneStatement, LineNumber, within}
+use Rattle.grammar_machine.specs.MachineForms.{says, else_form}
+use Rattle.grammar_machine.specs.MachineSentences as sentences
+use Rattle.grammar_machine.specs.MachineSentences.{Sentence, key_sentence, sentence_of, if_form}
+use Rattle.grammar_machine.specs.MachineMoves.{behind_class}
+use Rattle.grammar_machine.specs.MachineRun.{Halt, Wrong, TooDeep, run}
+use Rattle.grammar_machine.proofs.MachineSteps.{run_close}
+use Rattle.grammar_machine.proofs.MachineStops.{finished}
+use Rattle.grammar_machine.proofs.FormSteps.{run_made, if_key_opens, literal_taken}
+use Rattle.grammar_machine.proofs.FormWords.{key_is_same}
+use Rattle.grammar_machine.proofs.FormLeads.{Says, OfClass}
+use Rattle.grammar_machine.proofs.SoundSentences.{sentence_sound}
+use Rattle.grammar_machine.proofs.LineSteps as steps
 use Rattle.statement_parts.proofs.Steps.{key_stands_not}
-use Rattle.statement_parts.specs.Reading.{Leads, Makes, Halts, SkipsKey, Behind}
+use Rattle.statement_parts.specs.ParsedForms.{Leads, Makes, Halts, SkipsKey, Behind}
 use Rattle.basic_stmt.specs.Plain.{MakesPlain, HaltsPlain, is_choice}
 use Rattle.basic_line.specs.Structure.{class_in, IsLineNumber, LeadsOut, Modifies, NoLineNumber, OpensKey, SentenceAt, StatesClause, StatesLine, StopsAt, StopsClause, StopsModifying, class_as, goto_form, is_line_number, line_in, then_form}
 use Rattle.basic_line.specs.declared.sentences.Class.{Class}
@@ -39,7 +39,7 @@ too_deep : (key : Keyword) (f h : Form) (ws : List Word) (k : List Symbol) (vs :
 unfolding run
 too_deep key f h ws k vs = rw (key_is_same key) refl
 
-pub key_opens : (ws : List Word) (from : ℕ) (key : Keyword) → Stands ws (Key key) from → OpensKey ws from key
+pub key_opens : (ws : List Word) (from : ℕ) (key : Keyword) → WordStands ws (Key key) from → OpensKey ws from key
 key_opens ws from key at = (
   at.0,
   λ n f h some k vs.

@@ -4,7 +4,7 @@ use Rattle.std.proofs.lemmas.List.{drop_all, map-append}
 use Rattle.basic_expr.specs.declared.failures.Failure.{Failure}
 use Rattle.basic_expr.specs.declared.failures.Failure.TheVariants as failure
 use Rattle.basic_expr.specs.Failures.{trouble_of}
-use Rattle.basic_expr.specs.Reading.{First, Stands, is_sign}
+use Rattle.basic_expr.specs.ParsedSymbols.{First, WordStands, is_sign}
 use Rattle.basic_tree.specs.declared.statements.Statement.{Statement}
 use Rattle.basic_tree.specs.declared.programs.Line.{Line}
 use Rattle.basic_tree.specs.declared.tokens.Cause.TheVariants as cause
@@ -17,16 +17,16 @@ use Rattle.basic_tree.specs.SpellingWords.{Word, Punctuation, words_of, most_lev
 use Rattle.basic_tree.specs.SpellingStatements.{statements_of, line_statements}
 use Rattle.basic_tree.specs.Trees.{StatementTree, LineTree}
 use Rattle.basic_tree.specs.StatementViews.{statement_of, line_of}
-use Rattle.basic_tree.specs.MachineStack.{Values, Stated, Parsed, AddStatement, OneStatement, MoreStatements}
-use Rattle.basic_tree.specs.MachineSentences.{if_form}
+use Rattle.grammar_machine.specs.MachineStack.{Values, Stated, Parsed, AddStatement, OneStatement, MoreStatements}
+use Rattle.grammar_machine.specs.MachineSentences.{if_form}
 use Rattle.basic_tree.specs.GrammarPlaces.{IsReadLine, RefusesLine}
-use Rattle.basic_tree.specs.MachineJudge.{line_symbols, line_values}
-use Rattle.basic_tree.specs.MachineRun.{Wrong, TooDeep, run}
-use Rattle.basic_tree.proofs.MachineSteps.{run_do}
-use Rattle.basic_tree.proofs.LineSteps as steps
-use Rattle.basic_tree.proofs.LinePlaces.{line_read, line_wrong, line_stops, line_deep}
-use Rattle.basic_tree.proofs.LineReads.{made_line, reads_lines}
-use Rattle.statement_parts.specs.Reading.{Makes, Halts, IsPlaced}
+use Rattle.grammar_machine.specs.MachineJudge.{line_symbols, line_values}
+use Rattle.grammar_machine.specs.MachineRun.{Wrong, TooDeep, run}
+use Rattle.grammar_machine.proofs.MachineSteps.{run_do}
+use Rattle.grammar_machine.proofs.LineSteps as steps
+use Rattle.grammar_machine.proofs.LinePlaces.{line_read, line_wrong, line_stops, line_deep}
+use Rattle.grammar_machine.proofs.LineReads.{made_line, reads_lines}
+use Rattle.statement_parts.specs.ParsedForms.{Makes, Halts, IsPlaced}
 use Rattle.basic_stmt.specs.Plain.{MakesPlain, HaltsPlain}
 use Rattle.basic_line.specs.Structure.{IsPlace, LineEnds, LineSoFar, LineStops, Nothing, SentenceAt, StatesLine, StopsAt, in_list}
 use Rattle.basic_line.specs.declared.sentences.Class.{Class}
@@ -77,7 +77,7 @@ line_begun ws end o before items h inside none e = record {
   within = inside;
 }
 
-pub line_more : (ws : List Word) (place end : ℕ) (o : Option Statement) (items more : List Statement) → LineSoFar ws place items → Stands ws (Punctuation sign.Colon) place → IsPlace most_levels ws (place + 1) end o → end ≤ length ws → more ≡ items ++ in_list o → LineSoFar ws end more
+pub line_more : (ws : List Word) (place end : ℕ) (o : Option Statement) (items more : List Statement) → LineSoFar ws place items → WordStands ws (Punctuation sign.Colon) place → IsPlace most_levels ws (place + 1) end o → end ≤ length ws → more ≡ items ++ in_list o → LineSoFar ws end more
 line_more ws place end o items more h at next inside e = record {
   first = h.first;
   others = h.others ++ option_map statement_of o ∷ [];
@@ -112,7 +112,7 @@ line_ended ws place items h missing = record {
 pub line_stops_first : (ws : List Word) (e : Failure) → StopsAt most_levels ws 0 OneStatement e → LineStops ws e
 line_stops_first ws e h = λ halt same. h halt same (MoreStatements ∷ []) line_values
 
-pub line_stops_later : (ws : List Word) (place : ℕ) (items : List Statement) (e : Failure) → LineSoFar ws place items → Stands ws (Punctuation sign.Colon) place → StopsAt most_levels ws (place + 1) OneStatement e → LineStops ws e
+pub line_stops_later : (ws : List Word) (place : ℕ) (items : List Statement) (e : Failure) → LineSoFar ws place items → WordStands ws (Punctuation sign.Colon) place → StopsAt most_levels ws (place + 1) OneStatement e → LineStops ws e
 line_stops_later ws place items e h at stops = λ halt same.
     h.runs
     ∙ ap (λ (x : List Word). run most_levels x (MoreStatements ∷ []) (Parsed (h.first ∷ h.others) ∷ [])) at.1

@@ -7,7 +7,7 @@ use Rattle.basic_tree.specs.declared.tokens.Refusal.{Refusal}
 use Rattle.basic_tree.specs.Tokens.{Lexeme, Reading, tokens_of}
 use Rattle.basic_tree.specs.Trees.{LineTree}
 use Rattle.basic_tree.specs.LineVerdicts.{SpelledBy, Spells, RefusedBy, Refuses}
-use Rattle.basic_tree.proofs.OneAnswer.{one_bytes_answer}
+use Rattle.grammar_machine.proofs.OneAnswer.{one_bytes_answer}
 use Rattle.basic_line.specs.Parsing.{Parses, Reads}
 
 -- the tokens of the bytes answer for them

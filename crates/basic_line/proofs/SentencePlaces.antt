@@ -1,12 +1,12 @@
 -- Which statement begins at a place, and what the machine does there.
 use Rattle.std.proofs.Common.{◌≡◌, ℕ, false, List, [], ◌∷◌, drop, Option, Some, None, MatchOption, Err, refl, ap, sym, ◌∙◌, subst}
-use Rattle.basic_expr.specs.Reading.{First}
+use Rattle.basic_expr.specs.ParsedSymbols.{First}
 use Rattle.basic_tree.specs.SpellingWords.{Word, Number}
 use Rattle.basic_tree.specs.Trees.{ClauseTree}
-use Rattle.basic_tree.specs.MachineStack.{Values, Parsed, Symbol, Go, Form, ClauseIn}
-use Rattle.basic_tree.specs.MachineSentences.{Sentence, sentence_of}
-use Rattle.basic_tree.specs.MachineRun.{Halt, Wrong, run}
-use Rattle.basic_tree.proofs.LineSteps as steps
+use Rattle.grammar_machine.specs.MachineStack.{Values, Parsed, Symbol, Go, Form, ClauseIn}
+use Rattle.grammar_machine.specs.MachineSentences.{Sentence, sentence_of}
+use Rattle.grammar_machine.specs.MachineRun.{Halt, Wrong, run}
+use Rattle.grammar_machine.proofs.LineSteps as steps
 use Rattle.basic_line.specs.Structure.{Nothing, SentenceAt, class_as, class_in, classes, is_line_number}
 use Rattle.basic_line.specs.declared.sentences.Class.{Class}
 

@@ -3,7 +3,7 @@ use Rattle.std.specs.Prelude.{◌≡◌, ℕ, ◌+◌, ◌-◌, ◌<◌, ◌≤�
 use Rattle.std.specs.Global.{Vec}
 use Rattle.basic_expr.specs.declared.failures.Failure.{Failure}
 use Rattle.basic_expr.specs.declared.failures.Failure.TheVariants as failure
-use Rattle.basic_expr.specs.Reading.{First}
+use Rattle.basic_expr.specs.ParsedSymbols.{First}
 use Rattle.basic_tree.specs.declared.statements.Statement.{Statement}
 use Rattle.basic_tree.specs.declared.statements.Clause.{Clause}
 use Rattle.basic_tree.specs.declared.tokens.Keyword.{Keyword}
@@ -14,13 +14,13 @@ use Rattle.basic_tree.specs.SpellingStatements.{wants_else, else_wants_else, cla
 use Rattle.basic_tree.specs.Trees.{Tree, ClauseTree, LineClause, ElseTree, NoElse, Else, StatementTree, IfThen, IfGoto, If, Unless, While, Until, ForModifier}
 use Rattle.basic_tree.specs.TreeViews as views
 use Rattle.basic_tree.specs.StatementViews.{statement_of, clause_of}
-use Rattle.basic_tree.specs.MachineStack.{Value, Values, Stated, Parsed, Modifying, Symbol, Go, Form, Made, IfKey, TakeKey, ExprOf, LiteralIn, ClauseIn, AwaitClause, Modifiers, Close, Do, AddStatement, OneStatement, MoreStatements, LineNumber, within}
-use Rattle.basic_tree.specs.MachineForms.{says, range_form, else_form}
-use Rattle.basic_tree.specs.MachineSentences as sentences
-use Rattle.basic_tree.specs.MachineSentences.{Sentence, modifier_of, sentence_of}
-use Rattle.basic_tree.specs.MachineJudge.{line_symbols, line_values}
-use Rattle.basic_tree.specs.MachineRun.{Halt, run}
-use Rattle.statement_parts.specs.Reading.{halt_at, Behind, From, IsPlaced, Leads, Makes, Halts}
+use Rattle.grammar_machine.specs.MachineStack.{Value, Values, Stated, Parsed, Modifying, Symbol, Go, Form, Made, IfKey, TakeKey, ExprOf, LiteralIn, ClauseIn, AwaitClause, Modifiers, Close, Do, AddStatement, OneStatement, MoreStatements, LineNumber, within}
+use Rattle.grammar_machine.specs.MachineForms.{says, range_form, else_form}
+use Rattle.grammar_machine.specs.MachineSentences as sentences
+use Rattle.grammar_machine.specs.MachineSentences.{Sentence, modifier_of, sentence_of}
+use Rattle.grammar_machine.specs.MachineJudge.{line_symbols, line_values}
+use Rattle.grammar_machine.specs.MachineRun.{Halt, run}
+use Rattle.statement_parts.specs.ParsedForms.{halt_at, Behind, From, IsPlaced, Leads, Makes, Halts}
 use Rattle.statement_parts.specs.declared.read.Read.{Read}
 use Rattle.basic_line.specs.declared.choices.Stated.{Stated as ReadStatement}
 use Rattle.basic_line.specs.declared.choices.ClauseRead.{ClauseRead}

@@ -6,8 +6,8 @@ ghost use Rattle.basic_expr.specs.declared.failures.Failure.TheVariants.{NoMemor
 ghost use Rattle.basic_tree.specs.Trees.{IfThen, IfGoto, StatementClause};
 ghost use Rattle.basic_tree.specs.TreeViews.{tree_of};
 ghost use Rattle.basic_tree.specs.StatementViews.{statement_of, clause_of};
-ghost use Rattle.basic_tree.specs.MachineSentences.{if_form};
-ghost use Rattle.statement_parts.specs.Reading.{SkipsKey};
+ghost use Rattle.grammar_machine.specs.MachineSentences.{if_form};
+ghost use Rattle.statement_parts.specs.ParsedForms.{SkipsKey};
 ghost use Rattle.basic_line.specs.Structure.{IsLineNumber, NoLineNumber, OpensKey, SentenceAt, StatesClauseIn, StatesElse, StatesIf, StatesSimple, StatesThen, else_tree, goto_form, line_in};
 ghost use Rattle.basic_line.specs.declared.sentences.Class.TheVariants.{Simple};
 

@@ -1,7 +1,7 @@
 //! Modifiers, behind the statements that they change.
 
 ghost use Rattle.std.specs.Prelude.{◌≡◌, ◌≤◌, length, drop, IfOk, IfErr, MatchOption};
-ghost use Rattle.basic_expr.specs.Reading.{Stands};
+ghost use Rattle.basic_expr.specs.ParsedSymbols.{WordStands};
 ghost use Rattle.basic_expr.specs.Views.{as_word, most_words};
 ghost use Rattle.basic_tree.specs.SpellingWords.{Key};
 ghost use Rattle.basic_tree.specs.Trees.{Modified};
@@ -55,7 +55,7 @@ fn word_kind(word: Word<'_>) -> Option<Modifying>
 fn next_modifier(words: &Words<'_>, from: usize) -> Option<Modifying>
     requires { from ≤ length words.now }
     ensures kind { MatchOption result (NoModifier (drop from words.now))
-        (λ m. Stands words.now (Key (key_as m)) from) }
+        (λ m. WordStands words.now (Key (key_as m)) from) }
     ensures few { length words.now ≤ most_words }
 {
     match words.peek(from) {

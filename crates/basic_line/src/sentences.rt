@@ -2,7 +2,7 @@
 
 ghost use Rattle.std.specs.Prelude.{◌≡◌, ◌≤◌, length, MatchOption};
 ghost use Rattle.basic_expr.specs.Views.{as_word};
-ghost use Rattle.basic_tree.specs.MachineSentences.{key_sentence, sentence_of};
+ghost use Rattle.grammar_machine.specs.MachineSentences.{key_sentence, sentence_of};
 ghost use Rattle.basic_line.specs.Structure.{Nothing, SentenceAt, class_in, classes};
 
 use basic_expr::{Word, Words};

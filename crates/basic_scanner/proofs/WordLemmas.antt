@@ -4,7 +4,7 @@ use Rattle.std.specs.Prelude.{◌==◌, ◌&&◌, max, if◌then◌else◌, find
 use Rattle.std.specs.Option.{option_map}
 use Rattle.std.specs.Borrow.{Bor}
 use Rattle.std.specs.Char.{to_ascii_uppercase}
-use Rattle.basic_tree.specs.Tokens.{stands, longest_length, is_word, spelled}
+use Rattle.basic_tree.specs.Tokens.{is_at_front, longest_length, is_word, spelled}
 use Rattle.basic_scanner.specs.Tables.{entries}
 use Rattle.std.proofs.lemmas.List.{map_more}
 use Rattle.std.proofs.lemmas.List.Sums.{fold_push}
@@ -18,25 +18,25 @@ and_right true b e = e
 and_right false b e = absurd (cc)
 
 -- a rest that is shorter than the word does not begin with it
-pub stands_short : (word rest : List ℕ) → length rest < length word → stands word rest ≡ false
+pub stands_short : (word rest : List ℕ) → length rest < length word → is_at_front word rest ≡ false
 stands_short [] rest lt = absurd (omega arith)
 stands_short (letter ∷ word) [] lt = refl
 stands_short (letter ∷ word) (b ∷ rest) lt =
     ap (λ s. to_ascii_uppercase b == letter && s) (stands_short word rest (omega arith)) ∙ and_false (to_ascii_uppercase b == letter)
 
 -- whether the words agree from a place on is decided by the letters there and by what stands behind
-pub stands_step : (k : ℕ) (word rest : List ℕ) → k < length word → k < length rest → stands (drop k word) (drop k rest) ≡ (to_ascii_uppercase (get_or rest k 0) == get_or word k 0 && stands (drop (k + 1) word) (drop (k + 1) rest))
+pub stands_step : (k : ℕ) (word rest : List ℕ) → k < length word → k < length rest → is_at_front (drop k word) (drop k rest) ≡ (to_ascii_uppercase (get_or rest k 0) == get_or word k 0 && is_at_front (drop (k + 1) word) (drop (k + 1) rest))
 stands_step k word rest in_word in_rest = rw (add-one, drop-cons word k 0, drop-cons rest k 0) refl
 
 -- one entry more of a table
-pub longest_more : {W : Type 0} (table : List (W × Bor (List ℕ))) (rest : List ℕ) (i : ℕ) (d : W × Bor (List ℕ)) → i < length table → longest_length (entries (take (i + 1) table)) rest ≡ (if stands (get_or table i d).1.now rest then max (longest_length (entries (take i table)) rest) (length (get_or table i d).1.now) else longest_length (entries (take i table)) rest)
+pub longest_more : {W : Type 0} (table : List (W × Bor (List ℕ))) (rest : List ℕ) (i : ℕ) (d : W × Bor (List ℕ)) → i < length table → longest_length (entries (take (i + 1) table)) rest ≡ (if is_at_front (get_or table i d).1.now rest then max (longest_length (entries (take i table)) rest) (length (get_or table i d).1.now) else longest_length (entries (take i table)) rest)
 longest_more table rest i d lt = ap (λ front. longest_length front rest) (map_more (λ entry. (entry.0, entry.1.now)) table i d lt) ∙ fold_push _ 0 (entries (take i table)) ((get_or table i d).0, (get_or table i d).1.now)
 
 -- a word that stands there is no longer than the rest
-pub stands_within : (word rest : List ℕ) → stands word rest ≡ true → length word ≤ length rest
+pub stands_within : (word rest : List ℕ) → is_at_front word rest ≡ true → length word ≤ length rest
 stands_within [] rest e = omega arith
 stands_within (letter ∷ word) [] e = absurd (cc)
-stands_within (letter ∷ word) (b ∷ rest) e = omega (arith, stands_within word rest (and_right (to_ascii_uppercase b == letter) (stands word rest) e))
+stands_within (letter ∷ word) (b ∷ rest) e = omega (arith, stands_within word rest (and_right (to_ascii_uppercase b == letter) (is_at_front word rest) e))
 
 -- what is found from an entry of a table on
 pub spelled_step : {W : Type 0} (table : List (W × Bor (List ℕ))) (bytes : List ℕ) (i : ℕ) (d : W × Bor (List ℕ)) → i < length table → spelled (entries (drop i table)) bytes ≡ (if is_word (get_or table i d).1.now bytes then Some (get_or table i d).0 else spelled (entries (drop (i + 1) table)) bytes)

@@ -7,7 +7,7 @@ ghost use Rattle.std.specs.Str.Parse.{AllDigits, digits_value};
 ghost use Rattle.basic_tree.specs.Tokens.{is_quote, is_type_mark, keyword_front, name_end, name_front, begins_function, letter_front, has_exponent, is_floating, digit_front, quote_front, sign_front, front_of};
 ghost use Rattle.basic_scanner.specs.Scan.{value_in_front};
 
-use crate::words::{is_word, keyword_length, sign_length, stands};
+use crate::words::{is_at_front, is_word, keyword_length, sign_length};
 use basic_tree::{Cause, Front, TokenKind};
 use basic_values::{digits_in_front, is_blank};
 
@@ -75,7 +75,7 @@ fn name_front(kind: TokenKind, end: usize, rest: &[u8]) -> Front
 fn begins_function(rest: &[u8]) -> bool
     ensures { result ≡ begins_function rest.now }
 {
-    stands(b"FN", rest) && byte_at(rest, 2).is_ascii_alphabetic()
+    is_at_front(b"FN", rest) && byte_at(rest, 2).is_ascii_alphabetic()
 }
 
 /// The longest keyword, else a name.

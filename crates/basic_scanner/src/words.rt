@@ -1,7 +1,7 @@
 //! The words of the language, as the bytes that spell them.
 
 ghost use Rattle.std.specs.Prelude.{◌≡◌, ◌≤◌, length, max, if◌then◌else◌};
-ghost use Rattle.basic_tree.specs.Tokens.{stands, is_word, longest_length, spelled, keyword_of, sign_of};
+ghost use Rattle.basic_tree.specs.Tokens.{is_at_front, is_word, longest_length, spelled, keyword_of, sign_of};
 ghost use Rattle.basic_tree.specs.Words.{keywords, signs};
 ghost use Rattle.basic_scanner.specs.Tables.{entries};
 
@@ -126,8 +126,8 @@ static SIGNS: [(Sign, &[u8]); 20] = [
 
 /// Whether the word stands at the front of the rest, in letters of either case.
 #[tactic(auto, using(crate::proofs::WordLemmas::stands_step))]
-pub fn stands(word: &[u8], rest: &[u8]) -> bool
-    ensures { result ≡ stands word.now rest.now }
+pub fn is_at_front(word: &[u8], rest: &[u8]) -> bool
+    ensures { result ≡ is_at_front word.now rest.now }
 {
     if rest.len() < word.len() {
         return false;
@@ -144,7 +144,7 @@ pub fn stands(word: &[u8], rest: &[u8]) -> bool
 pub fn is_word(word: &[u8], bytes: &[u8]) -> bool
     ensures { result ≡ is_word word.now bytes.now }
 {
-    bytes.len() == word.len() && stands(word, bytes)
+    bytes.len() == word.len() && is_at_front(word, bytes)
 }
 
 /// The greater of the length so far and that of the word, where the word stands at the front of
@@ -152,10 +152,10 @@ pub fn is_word(word: &[u8], bytes: &[u8]) -> bool
 #[tactic(auto, using(crate::proofs::WordLemmas::stands_within))]
 fn longer(longest: usize, word: &[u8], rest: &[u8]) -> usize
     ensures value { let more = max longest (length word.now) in
-        result ≡ (if stands word.now rest.now then more else longest) }
+        result ≡ (if is_at_front word.now rest.now then more else longest) }
     ensures within { longest ≤ length rest.now → result ≤ length rest.now }
 {
-    if stands(word, rest) {
+    if is_at_front(word, rest) {
         longest.max(word.len())
     } else {
         longest

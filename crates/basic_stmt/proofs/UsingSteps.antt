@@ -1,16 +1,15 @@
 -- Steps of the machine at the values of PRINT USING.
-use Rattle.std.proofs.Common.{◌≡◌, ℕ, Bool, true, false, ◌+◌, ◌<◌, ◌≤◌, List, [], ◌∷◌, ◌++◌, length, drop, map, Option, Some, None, refl, ap, sym, ◌∙◌, arith}
+use Rattle.std.proofs.Common.{◌≡◌, ℕ, Bool, true, false, ◌+◌, ◌<◌, ◌≤◌, List, [], ◌∷◌, ◌++◌, length, drop, map, Option, refl, ap, sym, ◌∙◌, arith}
 use Rattle.std.specs.Prelude.{MatchBool}
 use Rattle.basic_expr.specs.declared.failures.Failure.{Failure}
 use Rattle.basic_tree.specs.declared.parts.UsingItem.{UsingItem}
 use Rattle.basic_tree.specs.SpellingWords.{Word}
 use Rattle.basic_tree.specs.Trees.{Tree, UsingItemTree}
 use Rattle.basic_tree.specs.TreeViews.{using_item_of}
-use Rattle.basic_tree.specs.MachineStack.{MoreUsing}
-use Rattle.basic_tree.specs.MachineForms.{begins_value}
-use Rattle.basic_tree.specs.MachineRun.{run}
-use Rattle.basic_tree.proofs.FormSteps.{value_used, nothing_used}
-use Rattle.statement_parts.specs.Reading.{Leads, Halts}
+use Rattle.grammar_machine.specs.MachineStack.{MoreUsing}
+use Rattle.grammar_machine.specs.MachineForms.{begins_value}
+use Rattle.grammar_machine.proofs.FormSteps.{value_used, nothing_used}
+use Rattle.statement_parts.specs.ParsedForms.{Leads, Halts}
 use Rattle.basic_stmt.specs.Usings.{value_form, UsesValue, UsesNone, Uses}
 
 -- ---- what stands at a place

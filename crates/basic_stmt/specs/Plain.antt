@@ -5,10 +5,10 @@ use Rattle.basic_tree.specs.SpellingWords.{Word}
 use Rattle.basic_tree.specs.declared.statements.Statement.{Statement}
 use Rattle.basic_tree.specs.StatementViews.{statement_of}
 use Rattle.basic_tree.specs.Trees.{StatementTree}
-use Rattle.basic_tree.specs.MachineStack.{Stated}
-use Rattle.basic_tree.specs.MachineSentences as sentences
-use Rattle.basic_tree.specs.MachineSentences.{Sentence, sentence_of}
-use Rattle.statement_parts.specs.Reading.{Behind, IsPlaced, Makes, Halts}
+use Rattle.grammar_machine.specs.MachineStack.{Stated}
+use Rattle.grammar_machine.specs.MachineSentences as sentences
+use Rattle.grammar_machine.specs.MachineSentences.{Sentence, sentence_of}
+use Rattle.statement_parts.specs.ParsedForms.{Behind, IsPlaced, Makes, Halts}
 use Rattle.statement_parts.specs.declared.read.Read.{Read}
 
 abbrev pub is_choice : sentences.Class → Bool

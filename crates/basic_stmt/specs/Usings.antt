@@ -1,13 +1,13 @@
 -- The values of PRINT USING, as the machine reads them.
-use Rattle.std.specs.Prelude.{ℕ, ◌<◌, ◌≤◌, List, [], ◌∷◌, ◌++◌, length, map, Option, Some, None, option_map, Result, Ok, Err}
+use Rattle.std.specs.Prelude.{ℕ, ◌≤◌, List, [], ◌∷◌, ◌++◌, length, map, Option, Some, None, option_map, Result, Ok, Err}
 use Rattle.basic_tree.specs.declared.kinds.Want.TheVariants as want
 use Rattle.basic_tree.specs.declared.parts.UsingItem.{UsingItem}
 use Rattle.basic_tree.specs.SpellingWords.{Word}
 use Rattle.basic_tree.specs.Trees.{Tree, UsingItemTree, PrintUsing}
 use Rattle.basic_tree.specs.TreeViews.{tree_of, using_item_of}
-use Rattle.basic_tree.specs.MachineStack.{Stated, Form, ExprOf, MoreUsing}
-use Rattle.basic_tree.specs.MachineForms.{using_value_form}
-use Rattle.statement_parts.specs.Reading.{Behind, IsPlaced, Leads, Makes, Halts}
+use Rattle.grammar_machine.specs.MachineStack.{Stated, Form, ExprOf, MoreUsing}
+use Rattle.grammar_machine.specs.MachineForms.{using_value_form}
+use Rattle.statement_parts.specs.ParsedForms.{Behind, IsPlaced, Leads, Makes, Halts}
 use Rattle.statement_parts.specs.declared.read.Read.{Read}
 use Rattle.basic_expr.specs.declared.failures.Failure.{Failure}
 use Rattle.basic_stmt.specs.declared.using.UsedValues.{UsedValues}

@@ -3,9 +3,9 @@
 ghost use Rattle.std.specs.Prelude.{◌≤◌, length, option_map, MatchBool};
 ghost use Rattle.basic_expr.specs.Views.{most_words};
 ghost use Rattle.basic_tree.specs.TreeViews.{tree_of};
-ghost use Rattle.basic_tree.specs.MachineSentences.{using_form};
+ghost use Rattle.grammar_machine.specs.MachineSentences.{using_form};
 ghost use Rattle.basic_stmt.specs.Usings.{UsesAll, UsesNone, UsesPart, UsesValue};
-ghost use Rattle.statement_parts.specs.Reading.{States};
+ghost use Rattle.statement_parts.specs.ParsedForms.{States};
 
 use basic_expr::{Failure, Words, begins_value};
 use basic_tree::{Expr, Separator, Series, Sign, Statement, UsingItem, Want};

@@ -8,7 +8,7 @@ use Rattle.std.proofs.lemmas.Bool.{eqb-true}
 use Rattle.std.proofs.lemmas.List.Quantifiers.{position-Some}
 use Rattle.std.proofs.lemmas.List.Sums.{prefix_len-le-length}
 use Rattle.basic_tree.specs.Words.{keywords, signs}
-use Rattle.basic_tree.specs.Tokens.{is_blank, is_quote, is_type_mark, stands, is_word, longest_length, keyword_front, name_end, name_front, begins_function, letter_front, is_floating, digit_front, closed_front, quote_front, sign_front, front_of}
+use Rattle.basic_tree.specs.Tokens.{is_blank, is_quote, is_type_mark, is_at_front, is_word, longest_length, keyword_front, name_end, name_front, begins_function, letter_front, is_floating, digit_front, closed_front, quote_front, sign_front, front_of}
 use Rattle.basic_tree.specs.TokenLaws.{LiesIn}
 use Rattle.basic_tree.specs.declared.tokens.TokenKind.{TokenKind}
 use Rattle.basic_tree.specs.declared.tokens.TokenKind.TheVariants as kind
@@ -43,17 +43,17 @@ chosen_length true m n rest first second = first refl
 chosen_length false m n rest first second = second refl
 
 -- a word that stands there is no longer than the rest
-pub stands_within : (word rest : List ℕ) → stands word rest ≡ true → length word ≤ length rest
+pub stands_within : (word rest : List ℕ) → is_at_front word rest ≡ true → length word ≤ length rest
 stands_within [] rest e = omega arith
 stands_within (letter ∷ word) [] e = absurd (cc)
-stands_within (letter ∷ word) (b ∷ rest) e = omega (arith, stands_within word rest (and_right (to_ascii_uppercase b == letter) (stands word rest) e))
+stands_within (letter ∷ word) (b ∷ rest) e = omega (arith, stands_within word rest (and_right (to_ascii_uppercase b == letter) (is_at_front word rest) e))
 
 -- nor is the longest word of a table
-longest_from : {W : Type 0} (table : List (W × List ℕ)) (rest : List ℕ) (n : ℕ) → n ≤ length rest → fold (λ longest word. if stands word.1 rest then max longest (length word.1) else longest) n table ≤ length rest
+longest_from : {W : Type 0} (table : List (W × List ℕ)) (rest : List ℕ) (n : ℕ) → n ≤ length rest → fold (λ longest word. if is_at_front word.1 rest then max longest (length word.1) else longest) n table ≤ length rest
 longest_from [] rest n le = le
 longest_from (entry ∷ table) rest n le =
     longest_from table rest _
-    (at_most (length rest) (stands entry.1 rest) (max n (length entry.1)) n (λ e. omega (arith, stands_within entry.1 rest e)) (λ e. le))
+    (at_most (length rest) (is_at_front entry.1 rest) (max n (length entry.1)) n (λ e. omega (arith, stands_within entry.1 rest e)) (λ e. le))
 
 pub longest_within : {W : Type 0} (table : List (W × List ℕ)) (rest : List ℕ) → longest_length table rest ≤ length rest
 longest_within table rest = longest_from table rest 0 (omega arith)
@@ -72,7 +72,7 @@ percent_within (b ∷ rest) zero e = omega arith
 percent_within (b ∷ rest) (suc i) e = omega (arith, percent_within rest i e)
 
 four_letters : (bytes : List ℕ) → is_word (codes "DATA") bytes ≡ true → length bytes ≡ 4
-four_letters bytes e = eqb-true (length bytes) 4 (and_left (length bytes == 4) (stands (codes "DATA") bytes) e)
+four_letters bytes e = eqb-true (length bytes) 4 (and_left (length bytes == 4) (is_at_front (codes "DATA") bytes) e)
 
 keyword_fits : (word rest : List ℕ) → 0 < length word → length word ≤ length rest → Within (keyword_front word) rest
 keyword_fits word rest some within =
@@ -154,23 +154,23 @@ pub at_least : (least : ℕ) (b : Bool) (x y : ℕ) → (b ≡ true → least �
 at_least least true x y first second = first refl
 at_least least false x y first second = second refl
 
-pub longest_grows : {W : Type 0} (table : List (W × List ℕ)) (rest : List ℕ) (n : ℕ) → n ≤ fold (λ longest word. if stands word.1 rest then max longest (length word.1) else longest) n table
+pub longest_grows : {W : Type 0} (table : List (W × List ℕ)) (rest : List ℕ) (n : ℕ) → n ≤ fold (λ longest word. if is_at_front word.1 rest then max longest (length word.1) else longest) n table
 longest_grows [] rest n = omega arith
 longest_grows (entry ∷ table) rest n =
-    let m : ℕ = if stands entry.1 rest then max n (length entry.1) else n in
-    let step : n ≤ m = at_least n (stands entry.1 rest) (max n (length entry.1)) n (λ e. omega arith) (λ e. omega arith) in
+    let m : ℕ = if is_at_front entry.1 rest then max n (length entry.1) else n in
+    let step : n ≤ m = at_least n (is_at_front entry.1 rest) (max n (length entry.1)) n (λ e. omega arith) (λ e. omega arith) in
     omega (arith, longest_grows table rest m)
 
-most_from : {W : Type 0} (table : List (W × List ℕ)) (word rest : List ℕ) (n k : ℕ) → k < length (map (λ entry. entry.1) table) → slice_index_or (map (λ entry. entry.1) table) k word ≡ word → stands word rest ≡ true → length word ≤ fold (λ longest entry. if stands entry.1 rest then max longest (length entry.1) else longest) n table
+most_from : {W : Type 0} (table : List (W × List ℕ)) (word rest : List ℕ) (n k : ℕ) → k < length (map (λ entry. entry.1) table) → slice_index_or (map (λ entry. entry.1) table) k word ≡ word → is_at_front word rest ≡ true → length word ≤ fold (λ longest entry. if is_at_front entry.1 rest then max longest (length entry.1) else longest) n table
 most_from [] word rest n k inside at e = absurd (omega arith)
 most_from (entry ∷ table) word rest n zero inside at e =
-    let here : stands entry.1 rest ≡ true = ap (λ w. stands w rest) at ∙ e in
+    let here : is_at_front entry.1 rest ≡ true = ap (λ w. is_at_front w rest) at ∙ e in
     let same : length entry.1 ≡ length word = ap length at in
-    let m : ℕ = if stands entry.1 rest then max n (length entry.1) else n in
-    let step : length word ≤ m = at_least (length word) (stands entry.1 rest) (max n (length entry.1)) n (λ _. omega arith) (λ no. absurd (cc)) in
+    let m : ℕ = if is_at_front entry.1 rest then max n (length entry.1) else n in
+    let step : length word ≤ m = at_least (length word) (is_at_front entry.1 rest) (max n (length entry.1)) n (λ _. omega arith) (λ no. absurd (cc)) in
     omega (arith, longest_grows table rest m)
 most_from (entry ∷ table) word rest n (suc k) inside at e = most_from table word rest _ k (omega arith) at e
 
 -- no word of a table that stands there is longer than the longest
-pub longest_is_most : {W : Type 0} (table : List (W × List ℕ)) (word rest : List ℕ) → Contains (map (λ entry. entry.1) table) word → stands word rest ≡ true → length word ≤ longest_length table rest
+pub longest_is_most : {W : Type 0} (table : List (W × List ℕ)) (word rest : List ℕ) → Contains (map (λ entry. entry.1) table) word → is_at_front word rest ≡ true → length word ≤ longest_length table rest
 longest_is_most table word rest inside e = most_from table word rest 0 inside.0 inside.1 inside.2 e

@@ -7,7 +7,7 @@ use Rattle.std.proofs.lemmas.Bool.{eqb-true, false_from_ne_true}
 use Rattle.std.proofs.Math.Seq.{get_or-append_seam}
 use Rattle.std.proofs.lemmas.List.{take-append-le, get_or_append_left, length-take-le}
 use Rattle.basic_tree.specs.Words.{keywords, signs}
-use Rattle.basic_tree.specs.Tokens.{is_blank, is_type_mark, stands, is_word, longest_length, keyword_front, name_end, name_front, begins_function, letter_front, sign_front}
+use Rattle.basic_tree.specs.Tokens.{is_blank, is_type_mark, is_at_front, is_word, longest_length, keyword_front, name_end, name_front, begins_function, letter_front, sign_front}
 use Rattle.basic_tree.specs.declared.tokens.TokenKind.{TokenKind}
 use Rattle.basic_tree.specs.declared.tokens.TokenKind.TheVariants as kind
 use Rattle.basic_tree.specs.declared.tokens.Cause.TheVariants as cause
@@ -35,28 +35,28 @@ denied true e = absurd (cc)
 denied false e = refl
 
 -- the byte is in no word: whether a word stands there is seen before it
-stands_same : (g : ℕ) (word x y : List ℕ) → lacks g word ≡ true → (stands word (x ++ y) ≡ true → length word ≤ length x) → stands word (x ++ g ∷ y) ≡ stands word (x ++ y)
+stands_same : (g : ℕ) (word x y : List ℕ) → lacks g word ≡ true → (is_at_front word (x ++ y) ≡ true → length word ≤ length x) → is_at_front word (x ++ g ∷ y) ≡ is_at_front word (x ++ y)
 stands_same g [] x y free fits = refl
 stands_same g (letter ∷ word) [] y free fits =
     let other : (to_ascii_uppercase g == letter) ≡ false = denied (to_ascii_uppercase g == letter) (first_of _ _ free) in
-    let never : stands (letter ∷ word) y ≡ false = false_from_ne_true _ (λ e. let le = fits e in absurd (omega arith)) in
-    ap (λ c. c && stands word y) other ∙ sym never
+    let never : is_at_front (letter ∷ word) y ≡ false = false_from_ne_true _ (λ e. let le = fits e in absurd (omega arith)) in
+    ap (λ c. c && is_at_front word y) other ∙ sym never
 stands_same g (letter ∷ word) (b ∷ x) y free fits =
     go (to_ascii_uppercase b == letter) fits (λ inner. stands_same g word x y (second_of (not (to_ascii_uppercase g == letter)) (lacks g word) free) inner) where
-      go : (t : Bool) → ((t && stands word (x ++ y)) ≡ true → length (letter ∷ word) ≤ length (b ∷ x)) → ((stands word (x ++ y) ≡ true → length word ≤ length x) → stands word (x ++ g ∷ y) ≡ stands word (x ++ y)) → (t && stands word (x ++ g ∷ y)) ≡ (t && stands word (x ++ y))
+      go : (t : Bool) → ((t && is_at_front word (x ++ y)) ≡ true → length (letter ∷ word) ≤ length (b ∷ x)) → ((is_at_front word (x ++ y) ≡ true → length word ≤ length x) → is_at_front word (x ++ g ∷ y) ≡ is_at_front word (x ++ y)) → (t && is_at_front word (x ++ g ∷ y)) ≡ (t && is_at_front word (x ++ y))
       go true inner again = again (λ e. let le = inner e in omega arith)
       go false inner again = refl
 
 -- so is the longest word of a table
-longest_from_same : {W : Type 0} (g : ℕ) (table : List (W × List ℕ)) (x y : List ℕ) (n : ℕ) → all_lack g table ≡ true → fold (λ longest word. if stands word.1 (x ++ y) then max longest (length word.1) else longest) n table ≤ length x → fold (λ longest word. if stands word.1 (x ++ g ∷ y) then max longest (length word.1) else longest) n table ≡ fold (λ longest word. if stands word.1 (x ++ y) then max longest (length word.1) else longest) n table
+longest_from_same : {W : Type 0} (g : ℕ) (table : List (W × List ℕ)) (x y : List ℕ) (n : ℕ) → all_lack g table ≡ true → fold (λ longest word. if is_at_front word.1 (x ++ y) then max longest (length word.1) else longest) n table ≤ length x → fold (λ longest word. if is_at_front word.1 (x ++ g ∷ y) then max longest (length word.1) else longest) n table ≡ fold (λ longest word. if is_at_front word.1 (x ++ y) then max longest (length word.1) else longest) n table
 longest_from_same g [] x y n free small = refl
 longest_from_same {W} g (entry ∷ table) x y n free small =
-    let m : ℕ = if stands entry.1 (x ++ y) then max n (length entry.1) else n in
+    let m : ℕ = if is_at_front entry.1 (x ++ y) then max n (length entry.1) else n in
     let grown = longest_grows table (x ++ y) m in
-    let fits : stands entry.1 (x ++ y) ≡ true → length entry.1 ≤ length x =
-    λ e. let le : length entry.1 ≤ m = at_least (length entry.1) (stands entry.1 (x ++ y)) (max n (length entry.1)) n (λ _. omega arith) (λ no_more. absurd (cc)) in omega arith in
-    let same : stands entry.1 (x ++ g ∷ y) ≡ stands entry.1 (x ++ y) = stands_same g entry.1 x y (first_of (lacks g entry.1) (all_lack g table) free) fits in
-    ap (λ b. fold (λ longest word. if stands word.1 (x ++ g ∷ y) then max longest (length word.1) else longest) (if b then max n (length entry.1) else n) table) same
+    let fits : is_at_front entry.1 (x ++ y) ≡ true → length entry.1 ≤ length x =
+    λ e. let le : length entry.1 ≤ m = at_least (length entry.1) (is_at_front entry.1 (x ++ y)) (max n (length entry.1)) n (λ _. omega arith) (λ no_more. absurd (cc)) in omega arith in
+    let same : is_at_front entry.1 (x ++ g ∷ y) ≡ is_at_front entry.1 (x ++ y) = stands_same g entry.1 x y (first_of (lacks g entry.1) (all_lack g table) free) fits in
+    ap (λ b. fold (λ longest word. if is_at_front word.1 (x ++ g ∷ y) then max longest (length word.1) else longest) (if b then max n (length entry.1) else n) table) same
     ∙ longest_from_same g table x y m (second_of (lacks g entry.1) (all_lack g table) free) small
 
 longest_same : {W : Type 0} (g : ℕ) (table : List (W × List ℕ)) (x y : List ℕ) → all_lack g table ≡ true → longest_length table (x ++ y) ≤ length x → longest_length table (x ++ g ∷ y) ≡ longest_length table (x ++ y)
@@ -156,7 +156,7 @@ and_false false = refl
 function_same : (g : ℕ) (x y : List ℕ) → Gap g → 2 < length x → begins_function (x ++ g ∷ y) ≡ begins_function (x ++ y)
 function_same g x y gap lt =
     ap (λ s. s && is_ascii_alphabetic (slice_index (x ++ g ∷ y) 2)) (stands_same g (codes "FN") x y gap.in_fn (λ _. omega arith))
-    ∙ ap (λ b. stands (codes "FN") (x ++ y) && is_ascii_alphabetic b) (byte_same g x y 2 lt)
+    ∙ ap (λ b. is_at_front (codes "FN") (x ++ y) && is_ascii_alphabetic b) (byte_same g x y 2 lt)
 
 function_stays_away : (g : ℕ) (x y : List ℕ) → Gap g → 2 ≤ length x → begins_function (x ++ y) ≡ false → begins_function (x ++ g ∷ y) ≡ false
 function_stays_away g x y gap le e = go (nat_lt 2 (length x)) refl where
@@ -166,9 +166,9 @@ function_stays_away g x y gap le e = go (nat_lt 2 (length x)) refl where
       let most = ltb-false 2 (length x) more in
       let two : length x ≡ 2 = omega arith in
       let there : slice_index (x ++ g ∷ y) 2 ≡ g = ap (λ n. slice_index (x ++ g ∷ y) n) (sym two) ∙ get_or-append_seam x g y 0 in
-      ap (λ b. stands (codes "FN") (x ++ g ∷ y) && is_ascii_alphabetic b) there
-      ∙ ap (λ b. stands (codes "FN") (x ++ g ∷ y) && b) gap.letter
-      ∙ and_false (stands (codes "FN") (x ++ g ∷ y))
+      ap (λ b. is_at_front (codes "FN") (x ++ g ∷ y) && is_ascii_alphabetic b) there
+      ∙ ap (λ b. is_at_front (codes "FN") (x ++ g ∷ y) && b) gap.letter
+      ∙ and_false (is_at_front (codes "FN") (x ++ g ∷ y))
 
 -- the two names, or a keyword
 abbrev names_front : List ℕ → Front

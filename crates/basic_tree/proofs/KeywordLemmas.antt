@@ -7,7 +7,7 @@ use Rattle.std.proofs.lemmas.Bool.{eqb-true, eq-eqb}
 use Rattle.std.proofs.lemmas.List.{length-take-le}
 use Rattle.basic_tree.specs.declared.tokens.Keyword.{Keyword}
 use Rattle.basic_tree.specs.Words.{keywords}
-use Rattle.basic_tree.specs.Tokens.{is_blank, stands, is_word, longest_length, keyword_of, keyword_front, letter_front, front_of}
+use Rattle.basic_tree.specs.Tokens.{is_blank, is_at_front, is_word, longest_length, keyword_of, keyword_front, letter_front, front_of}
 use Rattle.basic_tree.specs.TokenLaws.{IsTaken, LongestIsTaken}
 use Rattle.basic_tree.proofs.FrontLemmas.{longest_within, longest_is_most}
 
@@ -29,7 +29,7 @@ record Attained {W : Type 0} (table : List (W × List ℕ)) (rest : List ℕ) (l
   pub entry : W × List ℕ
   pub inside : place < length table
   pub at : slice_index_or table place entry ≡ entry
-  pub there : stands entry.1 rest ≡ true
+  pub there : is_at_front entry.1 rest ≡ true
   pub long : length entry.1 ≡ len
 
 max_is : (a b : ℕ) → (max a b ≡ a) ⊎ (max a b ≡ b)
@@ -46,9 +46,9 @@ chosen true n len = go (max_is n len) where
   go (inr e) = inr (e, refl)
 
 abbrev longest_behind : {W : Type 0} → ℕ → List (W × List ℕ) → List ℕ → ℕ
-longest_behind n table rest = fold (λ longest word. if stands word.1 rest then max longest (length word.1) else longest) n table
+longest_behind n table rest = fold (λ longest word. if is_at_front word.1 rest then max longest (length word.1) else longest) n table
 
-one_more : {W : Type 0} (table : List (W × List ℕ)) (rest : List ℕ) (entry : W × List ℕ) (n m : ℕ) → (longest_behind m table rest ≡ m) ⊎ Attained table rest (longest_behind m table rest) → (m ≡ n) ⊎ ((m ≡ length entry.1) × (stands entry.1 rest ≡ true)) → (longest_behind m table rest ≡ n) ⊎ Attained (entry ∷ table) rest (longest_behind m table rest)
+one_more : {W : Type 0} (table : List (W × List ℕ)) (rest : List ℕ) (entry : W × List ℕ) (n m : ℕ) → (longest_behind m table rest ≡ m) ⊎ Attained table rest (longest_behind m table rest) → (m ≡ n) ⊎ ((m ≡ length entry.1) × (is_at_front entry.1 rest ≡ true)) → (longest_behind m table rest ≡ n) ⊎ Attained (entry ∷ table) rest (longest_behind m table rest)
 one_more table rest entry n m (inr a) x = inr (record { place = suc a.place; entry = a.entry; inside = omega (arith, a.inside); at = a.at; there = a.there; long = a.long })
 one_more table rest entry n m (inl e) (inl x) = inl (e ∙ x)
 one_more table rest entry n m (inl e) (inr x) = inr (record { place = 0; entry = entry; inside = omega arith; at = refl; there = x.1; long = sym (e ∙ x.0) })
@@ -56,7 +56,7 @@ one_more table rest entry n m (inl e) (inr x) = inr (record { place = 0; entry =
 attains : {W : Type 0} (table : List (W × List ℕ)) (rest : List ℕ) (n : ℕ) → (longest_behind n table rest ≡ n) ⊎ Attained table rest (longest_behind n table rest)
 attains [] rest n = inl refl
 attains (entry ∷ table) rest n =
-    one_more table rest entry n (if stands entry.1 rest then max n (length entry.1) else n) (attains table rest (if stands entry.1 rest then max n (length entry.1) else n)) (chosen (stands entry.1 rest) n (length entry.1))
+    one_more table rest entry n (if is_at_front entry.1 rest then max n (length entry.1) else n) (attains table rest (if is_at_front entry.1 rest then max n (length entry.1) else n)) (chosen (is_at_front entry.1 rest) n (length entry.1))
 
 -- ---- what the bytes spell
 
@@ -85,20 +85,20 @@ found [] bytes place entry inside at h = absurd (omega arith)
 found (e ∷ table) bytes place entry inside at h = found_more e table bytes entry place inside at h (λ p i a. found table bytes p entry i a h)
 
 -- a word stands in the bytes that it takes, and where it stands in some it stands in all
-stands_taken : (word rest : List ℕ) → stands word rest ≡ true → stands word (take (length word) rest) ≡ true
+stands_taken : (word rest : List ℕ) → is_at_front word rest ≡ true → is_at_front word (take (length word) rest) ≡ true
 stands_taken [] rest e = refl
 stands_taken (letter ∷ word) [] e = absurd cc
 stands_taken (letter ∷ word) (b ∷ rest) e =
-    both (to_ascii_uppercase b == letter) (stands word (take (length word) rest)) (and_left (to_ascii_uppercase b == letter) (stands word rest) e)
-    (stands_taken word rest (and_right (to_ascii_uppercase b == letter) (stands word rest) e))
+    both (to_ascii_uppercase b == letter) (is_at_front word (take (length word) rest)) (and_left (to_ascii_uppercase b == letter) (is_at_front word rest) e)
+    (stands_taken word rest (and_right (to_ascii_uppercase b == letter) (is_at_front word rest) e))
 
-stands_back : (word rest : List ℕ) (n : ℕ) → stands word (take n rest) ≡ true → stands word rest ≡ true
+stands_back : (word rest : List ℕ) (n : ℕ) → is_at_front word (take n rest) ≡ true → is_at_front word rest ≡ true
 stands_back [] rest n e = refl
 stands_back (letter ∷ word) rest zero e = absurd cc
 stands_back (letter ∷ word) [] (suc n) e = absurd cc
 stands_back (letter ∷ word) (b ∷ rest) (suc n) e =
-    both (to_ascii_uppercase b == letter) (stands word rest) (and_left (to_ascii_uppercase b == letter) (stands word (take n rest)) e)
-    (stands_back word rest n (and_right (to_ascii_uppercase b == letter) (stands word (take n rest)) e))
+    both (to_ascii_uppercase b == letter) (is_at_front word rest) (and_left (to_ascii_uppercase b == letter) (is_at_front word (take n rest)) e)
+    (stands_back word rest n (and_right (to_ascii_uppercase b == letter) (is_at_front word (take n rest)) e))
 
 same_length : (a b : List ℕ) → length a ≡ length b → (length a == length b) ≡ true
 same_length a b e = eq-eqb (length a) (length b) e
@@ -129,15 +129,15 @@ taken_keyword rest letter some = go (attains keywords rest 0) where
       let cut : take (length a.entry.1) rest ≡ bytes = ap (λ n. take n rest) a.long in
       let inside : length bytes ≡ longest_length keywords rest = length-take-le (longest_length keywords rest) rest (longest_within keywords rest) in
       let long : length bytes ≡ length a.entry.1 = inside ∙ sym a.long in
-      let spells : is_word a.entry.1 bytes ≡ true = both (length bytes == length a.entry.1) (stands a.entry.1 bytes) (same_length bytes a.entry.1 long) (subst (λ (x : List ℕ). stands a.entry.1 x ≡ true) cut (stands_taken a.entry.1 rest a.there)) in
+      let spells : is_word a.entry.1 bytes ≡ true = both (length bytes == length a.entry.1) (is_at_front a.entry.1 bytes) (same_length bytes a.entry.1 long) (subst (λ (x : List ℕ). is_at_front a.entry.1 x ≡ true) cut (stands_taken a.entry.1 rest a.there)) in
       let f = found keywords bytes a.place a.entry a.inside a.at spells in
-      let whole : length bytes ≡ length f.entry.1 = eqb-true (length bytes) (length f.entry.1) (and_left (length bytes == length f.entry.1) (stands f.entry.1 bytes) f.word) in
+      let whole : length bytes ≡ length f.entry.1 = eqb-true (length bytes) (length f.entry.1) (and_left (length bytes == length f.entry.1) (is_at_front f.entry.1 bytes) f.word) in
       let same : take (length f.entry.1) rest ≡ bytes = ap (λ n. take n rest) (sym whole ∙ inside) in (
         f.entry.0,
         f.entry.1,
         record {
           listed = f.listed;
-          there = stands_back f.entry.1 rest (longest_length keywords rest) (and_right (length bytes == length f.entry.1) (stands f.entry.1 bytes) f.word);
+          there = stands_back f.entry.1 rest (longest_length keywords rest) (and_right (length bytes == length f.entry.1) (is_at_front f.entry.1 bytes) f.word);
           longest = sym whole ∙ inside;
           spelled = ap keyword_of same ∙ ap (λ (x : Option (Keyword × List ℕ)). option_map (λ entry. entry.0) x) f.is;
           front = at_letter rest letter ∙ some_keyword rest some ∙ ap keyword_front (sym same);

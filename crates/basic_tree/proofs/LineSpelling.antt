@@ -16,7 +16,7 @@ use Rattle.basic_tree.specs.declared.tokens.TokenKind.TheVariants as kind
 use Rattle.basic_tree.specs.declared.tokens.Cause.TheVariants as cause
 use Rattle.basic_tree.specs.declared.tokens.Front.{Front}
 use Rattle.basic_tree.specs.declared.tokens.Front.TheVariants as front
-use Rattle.basic_tree.specs.Limits.{most_number}
+use Rattle.basic_values.specs.declared.limits.TheConstants.{MOST_NUMBER}
 use Rattle.basic_tree.specs.Words.{keywords}
 use Rattle.basic_tree.specs.Tokens.{Lexeme, Reading, is_blank, is_floating, closed_front, letter_front, digit_front, quote_front, front_of, quote_after, items_from, with_tokens, tokens_from, tokens_of}
 use Rattle.basic_tree.specs.SpellingWords.{Word, Key, Punctuation, Named, FnNamed, Number, Quotation, Item, word_of, words_of, words, too_deep}
@@ -68,7 +68,7 @@ wide_or wide f = if wide then front.Refused cause.NumberTooWide else f
 abbrev by_run : List ℕ → ℕ → Front
 by_run rest len =
     if is_floating (drop len rest) then front.Refused cause.FloatingLiteral
-    else wide_or (nat_lt most_number (digits_value 10 (take len rest))) (front.Token kind.Literal (if slice_index rest len == 37 then len + 1 else len))
+    else wide_or (nat_lt MOST_NUMBER (digits_value 10 (take len rest))) (front.Token kind.Literal (if slice_index rest len == 37 then len + 1 else len))
 
 digits_front : (rest : List ℕ) → digit_front rest ≡ by_run rest (prefix_len is_ascii_digit rest)
 unfolding digit_front
@@ -78,7 +78,7 @@ at_digit : (rest : List ℕ) → DigitByte (slice_index rest 0) → front_of res
 unfolding front_of
 at_digit rest d = rw (d.blank, d.letter, d.digit) refl
 
-number_front : (ds rest : List ℕ) → 0 < length ds → AllDigits 10 ds → digits_value 10 ds ≤ most_number → front_of (ds ++ 32 ∷ rest) ≡ front.Token kind.Literal (length ds)
+number_front : (ds rest : List ℕ) → 0 < length ds → AllDigits 10 ds → digits_value 10 ds ≤ MOST_NUMBER → front_of (ds ++ 32 ∷ rest) ≡ front.Token kind.Literal (length ds)
 number_front [] rest some h small = absurd (omega (arith, some))
 number_front (c ∷ ds) rest some h small =
     let r = digit_from_value c h.0 in
@@ -86,15 +86,15 @@ number_front (c ∷ ds) rest some h small =
     let n : ℕ = length (c ∷ ds) in
     let left : drop n bytes ≡ 32 ∷ rest = drop_at (c ∷ ds) (32 ∷ rest) n refl in
     let whole : take n bytes ≡ c ∷ ds = take_at (c ∷ ds) (32 ∷ rest) n refl in
-    let narrow : nat_lt most_number (digits_value 10 (take n bytes)) ≡ false = ap (λ x. nat_lt most_number (digits_value 10 x)) whole ∙ le-ltb most_number (digits_value 10 (c ∷ ds)) small in
+    let narrow : nat_lt MOST_NUMBER (digits_value 10 (take n bytes)) ≡ false = ap (λ x. nat_lt MOST_NUMBER (digits_value 10 x)) whole ∙ le-ltb MOST_NUMBER (digits_value 10 (c ∷ ds)) small in
     at_digit bytes (digit_byte c r.0 r.1)
     ∙ digits_front bytes
     ∙ ap (λ len. by_run bytes len) (run_length (c ∷ ds) rest h)
-    ∙ ap (λ x. if is_floating x then front.Refused cause.FloatingLiteral else wide_or (nat_lt most_number (digits_value 10 (take n bytes))) (front.Token kind.Literal (if slice_index bytes n == 37 then n + 1 else n))) left
+    ∙ ap (λ x. if is_floating x then front.Refused cause.FloatingLiteral else wide_or (nat_lt MOST_NUMBER (digits_value 10 (take n bytes))) (front.Token kind.Literal (if slice_index bytes n == 37 then n + 1 else n))) left
     ∙ ap (λ b. wide_or b (front.Token kind.Literal (if slice_index bytes n == 37 then n + 1 else n))) narrow
     ∙ ap (λ x. front.Token kind.Literal (if x == 37 then n + 1 else n)) (behind_run (c ∷ ds) rest)
 
-number_spelled : (n : ℕ) → n ≤ most_number → SpelledWord (Number n)
+number_spelled : (n : ℕ) → n ≤ MOST_NUMBER → SpelledWord (Number n)
 number_spelled n small =
     let d = decimal_is_IsNumeral n (omega (arith, small)) in
     record {
@@ -103,12 +103,12 @@ number_spelled n small =
       some = d.0.0;
       front = λ rest. number_front (decimal n) rest d.0.0 d.0.1 (omega (arith, small, d.1));
       word =
-          ap (λ len. Number (min (most_number + 1) (digits_value 10 (take len (decimal n))))) (run_whole (decimal n) d.0.1)
-          ∙ ap (λ ds. Number (min (most_number + 1) (digits_value 10 ds))) (take_all (length (decimal n)) (decimal n) (omega arith))
-          ∙ ap (λ v. Number (min (most_number + 1) v)) d.1
+          ap (λ len. Number (min (MOST_NUMBER + 1) (digits_value 10 (take len (decimal n))))) (run_whole (decimal n) d.0.1)
+          ∙ ap (λ ds. Number (min (MOST_NUMBER + 1) (digits_value 10 ds))) (take_all (length (decimal n)) (decimal n) (omega arith))
+          ∙ ap (λ v. Number (min (MOST_NUMBER + 1) v)) d.1
           ∙ ap Number (least n small);
     } where
-      least : (n : ℕ) → n ≤ most_number → min (most_number + 1) n ≡ n
+      least : (n : ℕ) → n ≤ MOST_NUMBER → min (MOST_NUMBER + 1) n ≡ n
       least n h = omega (arith, h)
 
 -- ---- texts

@@ -7,7 +7,7 @@ use Rattle.basic_tree.specs.declared.names.Name.{Name}
 use Rattle.basic_tree.specs.declared.tokens.TokenKind.TheVariants as kind
 use Rattle.basic_tree.specs.declared.tokens.Front.{Front}
 use Rattle.basic_tree.specs.Words.{keywords}
-use Rattle.basic_tree.specs.Tokens.{stands, longest_length, keyword_front, name_end, name_front, begins_function, letter_front, front_of}
+use Rattle.basic_tree.specs.Tokens.{is_at_front, longest_length, keyword_front, name_end, name_front, begins_function, letter_front, front_of}
 use Rattle.basic_tree.specs.SpellingWords.{Named, FnNamed}
 use Rattle.basic_tree.specs.ReadableWords.{IsSpelledName}
 use Rattle.basic_tree.proofs.KeywordLemmas.{and_left, and_right, at_letter}
@@ -31,10 +31,10 @@ abbrev every : {W : Type 0} → (List ℕ → Bool) → List (W × List ℕ) →
 every test [] = true
 every test (entry ∷ table) = test entry.1 && every test table
 
-none_from : {W : Type 0} (test : List ℕ → Bool) (rest : List ℕ) → ((word : List ℕ) → test word ≡ true → stands word rest ≡ false) → (table : List (W × List ℕ)) (n : ℕ) → every test table ≡ true → fold (λ longest word. if stands word.1 rest then max longest (length word.1) else longest) n table ≡ n
+none_from : {W : Type 0} (test : List ℕ → Bool) (rest : List ℕ) → ((word : List ℕ) → test word ≡ true → is_at_front word rest ≡ false) → (table : List (W × List ℕ)) (n : ℕ) → every test table ≡ true → fold (λ longest word. if is_at_front word.1 rest then max longest (length word.1) else longest) n table ≡ n
 none_from test rest fails [] n e = refl
 none_from test rest fails (entry ∷ table) n e =
-    ap (λ b. fold (λ longest word. if stands word.1 rest then max longest (length word.1) else longest) (if b then max n (length entry.1) else n) table) (fails entry.1 (and_left (test entry.1) (every test table) e))
+    ap (λ b. fold (λ longest word. if is_at_front word.1 rest then max longest (length word.1) else longest) (if b then max n (length entry.1) else n) table) (fails entry.1 (and_left (test entry.1) (every test table) e))
     ∙ none_from test rest fails table n (and_right (test entry.1) (every test table) e)
 
 and_false : (a b : Bool) → b ≡ false → (a && b) ≡ false
@@ -51,11 +51,11 @@ abbrev second_is_letter : List ℕ → Bool
 second_is_letter (x ∷ y ∷ word) = nat_le 65 y
 second_is_letter other = false
 
-no_second : (word : List ℕ) (l c : ℕ) (more : List ℕ) → second_is_letter word ≡ true → c < 65 → stands word (l ∷ c ∷ more) ≡ false
+no_second : (word : List ℕ) (l c : ℕ) (more : List ℕ) → second_is_letter word ≡ true → c < 65 → is_at_front word (l ∷ c ∷ more) ≡ false
 no_second [] l c more e low = absurd cc
 no_second (x ∷ []) l c more e low = absurd cc
 no_second (x ∷ (y ∷ word)) l c more e low =
-    and_false (to_ascii_uppercase l == x) ((to_ascii_uppercase c == y) && stands word more) (ap (λ b. b && stands word more) (no_letter c y low e))
+    and_false (to_ascii_uppercase l == x) ((to_ascii_uppercase c == y) && is_at_front word more) (ap (λ b. b && is_at_front word more) (no_letter c y low e))
 
 second_letters : every second_is_letter keywords ≡ true
 unfolding keywords
@@ -135,14 +135,14 @@ apart_or true true false s e f = absurd cc
 apart_or true false t s e f = refl
 apart_or false b t s e f = refl
 
-no_fourth : (word : List ℕ) (l c : ℕ) (more : List ℕ) → fourth_is_letter word ≡ true → c < 65 → stands word (70 ∷ 78 ∷ l ∷ c ∷ more) ≡ false
+no_fourth : (word : List ℕ) (l c : ℕ) (more : List ℕ) → fourth_is_letter word ≡ true → c < 65 → is_at_front word (70 ∷ 78 ∷ l ∷ c ∷ more) ≡ false
 no_fourth [] l c more e low = absurd cc
 no_fourth (x ∷ []) l c more e low = absurd cc
 no_fourth (x ∷ (y ∷ [])) l c more e low = apart (70 == x) (78 == y) true e
 no_fourth (x ∷ (y ∷ (z ∷ []))) l c more e low = apart (70 == x) (78 == y) ((to_ascii_uppercase l == z) && true) e
 no_fourth (x ∷ (y ∷ (z ∷ (v ∷ word)))) l c more e low =
-    apart_or (70 == x) (78 == y) (nat_le 65 v) ((to_ascii_uppercase l == z) && ((to_ascii_uppercase c == v) && stands word more)) e
-    (λ at. and_false (to_ascii_uppercase l == z) ((to_ascii_uppercase c == v) && stands word more) (ap (λ b. b && stands word more) (no_letter c v low at)))
+    apart_or (70 == x) (78 == y) (nat_le 65 v) ((to_ascii_uppercase l == z) && ((to_ascii_uppercase c == v) && is_at_front word more)) e
+    (λ at. and_false (to_ascii_uppercase l == z) ((to_ascii_uppercase c == v) && is_at_front word more) (ap (λ b. b && is_at_front word more) (no_letter c v low at)))
 
 fourth_letters : every fourth_is_letter keywords ≡ true
 unfolding keywords

@@ -3,7 +3,7 @@ use Rattle.std.specs.Prelude.{◌≡◌, ◌⊎◌, ℕ, ◌+◌, ◌-◌, ◌<�
 use Rattle.basic_tree.specs.declared.kinds.Want.{Want}
 use Rattle.basic_tree.specs.declared.tokens.Cause.{Cause}
 use Rattle.basic_tree.specs.declared.tokens.Cause.TheVariants as cause
-use Rattle.basic_tree.specs.SpellingWords.{Word, Step, levels, most_levels, too_deep}
+use Rattle.basic_tree.specs.SpellingWords.{Word, LevelStep, levels, most_levels, too_deep}
 use Rattle.basic_tree.specs.Trees.{Tree, LineTree}
 use Rattle.basic_tree.specs.SpellingExpressions.{steps_of, IsExpr}
 use Rattle.basic_tree.specs.SpellingStatements.{IsLine, line_steps}
@@ -11,7 +11,7 @@ use Rattle.basic_tree.specs.SpellingStatements.{IsLine, line_steps}
 -- ---- wholes: which words are an expression of a kind, or a line, and the steps that spell it
 
 abbrev pub Whole : Type 1
-Whole = List Word → List Step → Type 0
+Whole = List Word → List LevelStep → Type 0
 
 abbrev pub ExprWhole : Want → Whole
 ExprWhole w ws steps = (t : Tree) × IsExpr w ws t × (steps ≡ steps_of t)
@@ -21,15 +21,15 @@ LineWhole ws steps = (l : LineTree) × IsLine ws l × (steps ≡ line_steps l)
 
 -- some whole begins with these words
 abbrev pub Begins : Whole → List Word → Type 0
-Begins whole ws = (rest : List Word) × (steps : List Step) × whole (ws ++ rest) steps
+Begins whole ws = (rest : List Word) × (steps : List LevelStep) × whole (ws ++ rest) steps
 
 -- the first words, up to a place, stand in no level that is too deep
-abbrev pub IsFlatTo : ℕ → List Step → Type 0
+abbrev pub IsFlatTo : ℕ → List LevelStep → Type 0
 IsFlatTo place steps = All (λ level. level ≤ most_levels) (take place (levels 0 steps))
 
 -- some whole begins with the words up to a place, and none of them is too deep in it
 abbrev pub BeginsFlat : Whole → List Word → ℕ → Type 0
-BeginsFlat whole ws k = (rest : List Word) × (steps : List Step) × whole (take k ws ++ rest) steps × IsFlatTo k steps
+BeginsFlat whole ws k = (rest : List Word) × (steps : List LevelStep) × whole (take k ws ++ rest) steps × IsFlatTo k steps
 
 -- the greatest place such that some whole begins with the words up to it
 pub record IsLimit (whole : Whole) (ws : List Word) (k : ℕ) : Type 0 where
@@ -41,12 +41,12 @@ pub record IsLimit (whole : Whole) (ws : List Word) (k : ℕ) : Type 0 where
 pub record IsWrong (whole : Whole) (ws : List Word) (k : ℕ) (all : List Word) : Type 0 where
   pub limit : IsLimit whole ws k
   pub flat : BeginsFlat whole ws k
-  pub none : (steps : List Step) → whole all steps → ⊥
+  pub none : (steps : List LevelStep) → whole all steps → ⊥
 
 -- some whole begins with the words up to and with this one, and in it this one is the first that opens a level too many
 pub record IsDeep (whole : Whole) (ws : List Word) (k : ℕ) : Type 0 where
   pub within : k < length ws
-  pub opens : (rest : List Word) × (steps : List Step) × whole (take (k + 1) ws ++ rest) steps × (too_deep steps ≡ Some k)
+  pub opens : (rest : List Word) × (steps : List LevelStep) × whole (take (k + 1) ws ++ rest) steps × (too_deep steps ≡ Some k)
 
 -- whichever cause stands first
 abbrev pub IsRefused : Whole → List Word → ℕ → List Word → Cause → Type 0

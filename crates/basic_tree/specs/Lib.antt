@@ -1,15 +1,6 @@
 pub mod AnswerLaws
-pub mod MachineForms
-pub mod MachineJudge
-pub mod MachineMoves
 pub mod GrammarPlaces
-pub mod MachineRun
-pub mod MachineSentences
-pub mod MachineStack
-pub mod MachineStarts
 pub mod GrammarTables
-pub mod GrammarWords
-pub mod Limits
 pub mod LineVerdicts
 pub mod ReadableWords
 pub mod SpellingExpressions
@@ -22,6 +13,6 @@ pub mod Tokens
 pub mod TreeViews
 pub mod Trees
 pub mod Words
-pub mod MachinePieces
-pub mod MachineParts
-pub mod MachineStatements
+pub mod ProgramLines
+pub mod LineNumbers
+pub mod FileLines

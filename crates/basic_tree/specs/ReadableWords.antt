@@ -1,7 +1,7 @@
 -- Which words bytes can spell, and that every line and expression of such words is spelled by some bytes.
 use Rattle.std.specs.Prelude.{◌≡◌, ◌≢◌, ◌⊎◌, ℕ, ◌≤◌, true, false, List, [], ◌∷◌, length, All, Option, Some, None, Ok}
 use Rattle.std.specs.Char.{is_ascii_digit}
-use Rattle.basic_tree.specs.Limits.{most_number}
+use Rattle.basic_values.specs.declared.limits.TheConstants.{MOST_NUMBER}
 use Rattle.basic_tree.specs.declared.names.Name.{Name}
 use Rattle.basic_tree.specs.declared.tokens.Keyword.TheVariants as keyword
 use Rattle.basic_tree.specs.declared.tokens.Sign.TheVariants as sign
@@ -35,7 +35,7 @@ IsReadable (Punctuation sign.DoubleStar) = ⊥
 IsReadable (Punctuation sign.Backslash) = ⊥
 IsReadable (Named name) = IsSpelledName name
 IsReadable (FnNamed name) = IsSpelledName name
-IsReadable (Number n) = n ≤ most_number
+IsReadable (Number n) = n ≤ MOST_NUMBER
 IsReadable (Quotation text) = IsQuotable text
 IsReadable (Item bytes) = ⊥
 IsReadable other = Unit {0}

@@ -1,6 +1,6 @@
 -- Which trees are expressions, and the words that spell each.
 use Rattle.std.specs.Prelude.{◌≡◌, ℕ, ◌<◌, ◌≤◌, Bool, true, false, not, ◌||◌, List, [], ◌∷◌, ◌++◌}
-use Rattle.basic_tree.specs.Limits.{most_number}
+use Rattle.basic_values.specs.declared.limits.TheConstants.{MOST_NUMBER}
 use Rattle.basic_tree.specs.declared.tokens.Keyword.TheVariants as keyword
 use Rattle.basic_tree.specs.declared.tokens.Sign.{Sign}
 use Rattle.basic_tree.specs.declared.tokens.Sign.TheVariants as sign
@@ -8,18 +8,18 @@ use Rattle.basic_tree.specs.declared.expressions.Operator.{Operator}
 use Rattle.basic_tree.specs.declared.expressions.Operator.TheVariants as operator
 use Rattle.basic_tree.specs.declared.kinds.Want.{Want}
 use Rattle.basic_tree.specs.declared.kinds.Want.TheVariants as want
-use Rattle.basic_tree.specs.SpellingWords.{Word, Key, Punctuation, Named, FnNamed, Number, Quotation, Step, Plain, Opens, Closes, words}
+use Rattle.basic_tree.specs.SpellingWords.{Word, Key, Punctuation, Named, FnNamed, Number, Quotation, LevelStep, Plain, Opens, Closes, words}
 use Rattle.basic_tree.specs.Trees.{Tree, Literal, Quoted, Variable, Element, FunctionOf, Call, Parenthesized, Negative, Positive, Not, Operation, Comparison, Trees, NoTrees, AndTrees}
 use Rattle.basic_tree.specs.GrammarTables.{sign_level, relation_level, not_level, operator_level, operator_word, joins_texts, relation_sign, function_keyword, arguments_of, gives_text}
 
 -- ---- spelling
 
-abbrev pub mark : Sign → Step
+abbrev pub mark : Sign → LevelStep
 mark s = Plain (Punctuation s)
 
 -- the words of an expression. Parentheses of every sort, signs and NOT open a level of nesting
 abbrev mutual
-  pub steps_of : Tree → List Step
+  pub steps_of : Tree → List LevelStep
   steps_of (Literal n) = Plain (Number n) ∷ []
   steps_of (Quoted text) = Plain (Quotation text) ∷ []
   steps_of (Variable name) = Plain (Named name) ∷ []
@@ -34,11 +34,11 @@ abbrev mutual
   steps_of (Comparison a r b) = steps_of a ++ mark (relation_sign r) ∷ steps_of b
 
   -- a list in parentheses; nothing where there is none
-  pub list_steps : Trees → List Step
+  pub list_steps : Trees → List LevelStep
   list_steps NoTrees = []
   list_steps (AndTrees a more) = Opens (Punctuation sign.Opening) ∷ (steps_of a ++ more_steps more)
 
-  pub more_steps : Trees → List Step
+  pub more_steps : Trees → List LevelStep
   more_steps NoTrees = mark sign.Closing ∷ Closes ∷ []
   more_steps (AndTrees a more) = mark sign.Comma ∷ (steps_of a ++ more_steps more)
 
@@ -107,7 +107,7 @@ AreSubscripts (AndTrees a (AndTrees b more)) = Fill (want.Number ∷ want.Number
 
 abbrev mutual
   pub IsTree : Tree → Type 0
-  IsTree (Literal n) = n ≤ most_number
+  IsTree (Literal n) = n ≤ MOST_NUMBER
   IsTree (Quoted text) = Unit {0}
   IsTree (Variable name) = Unit {0}
   IsTree (Element name subscripts) = AreTrees subscripts × AreSubscripts subscripts

@@ -1,7 +1,7 @@
 -- The parts of statements: of each the words that spell it, and when it is admissible.
 use Rattle.std.specs.Prelude.{◌≡◌, ℕ, ◌+◌, ◌&&◌, ◌||◌, Bool, true, false, not, nat_lt, if◌then◌else◌, List, [], ◌∷◌, ◌++◌, Option, Some, None}
 use Rattle.std.specs.Int.{is_power_of_two}
-use Rattle.basic_tree.specs.Limits.{most_number}
+use Rattle.basic_values.specs.declared.limits.TheConstants.{MOST_NUMBER}
 use Rattle.basic_tree.specs.declared.names.Name.{Name}
 use Rattle.basic_tree.specs.declared.tokens.Keyword.{Keyword}
 use Rattle.basic_tree.specs.declared.tokens.Keyword.TheVariants as keyword
@@ -15,40 +15,40 @@ use Rattle.basic_tree.specs.declared.parts.Separator.{Separator}
 use Rattle.basic_tree.specs.declared.parts.Separator.TheVariants as separator
 use Rattle.basic_tree.specs.declared.parts.OpenFor.{OpenFor}
 use Rattle.basic_tree.specs.declared.parts.OpenFor.TheVariants as purpose
-use Rattle.basic_tree.specs.SpellingWords.{Word, Key, Punctuation, Named, FnNamed, Number, Quotation, Step, Plain, Opens, Closes, words}
+use Rattle.basic_tree.specs.SpellingWords.{Word, Key, Punctuation, Named, FnNamed, Number, Quotation, LevelStep, Plain, Opens, Closes, words}
 use Rattle.basic_tree.specs.Trees.{Tree, Variable, Element, PrintedTree, Value, Tab, ModifierTree, If, Unless, While, Until, ForModifier, PrintItemTree, PrintChannelTree, UsingItemTree, MatrixTree, Zero, One, Identity, Copy, Sum, Difference, Product, Scaled, Transposed, PromptTree, ChainLineTree, CloseChannelTree, FieldPartTree}
 use Rattle.basic_tree.specs.SpellingExpressions.{steps_of, Fits, IsTree, is_text}
 
 -- words and expressions in the order of the text
 abbrev pub Spelling : Type 0
-Spelling = List (List Step)
+Spelling = List (List LevelStep)
 
-abbrev pub steps_in : Spelling → List Step
+abbrev pub steps_in : Spelling → List LevelStep
 steps_in [] = []
 steps_in (steps ∷ more) = steps ++ steps_in more
 
 -- ---- single words
 
-abbrev pub keyed : Keyword → List Step
+abbrev pub keyed : Keyword → List LevelStep
 keyed k = Plain (Key k) ∷ []
 
-abbrev pub signed : Sign → List Step
+abbrev pub signed : Sign → List LevelStep
 signed s = Plain (Punctuation s) ∷ []
 
 -- a word that opens a level of nesting, and the end of a level
-abbrev pub opens : Keyword → List Step
+abbrev pub opens : Keyword → List LevelStep
 opens k = Opens (Key k) ∷ []
 
-abbrev pub opens_list : List Step
+abbrev pub opens_list : List LevelStep
 opens_list = Opens (Punctuation sign.Opening) ∷ []
 
-abbrev pub closes : List Step
+abbrev pub closes : List LevelStep
 closes = Closes ∷ []
 
-abbrev pub named : Name → List Step
+abbrev pub named : Name → List LevelStep
 named n = Plain (Named n) ∷ []
 
-abbrev pub literal : ℕ → List Step
+abbrev pub literal : ℕ → List LevelStep
 literal n = Plain (Number n) ∷ []
 
 -- ---- parts that may be left out, and lists
@@ -102,11 +102,11 @@ IsOf w t = IsTree t × Fits w t
 
 -- the number of a line
 abbrev pub is_line_number : ℕ → Bool
-is_line_number n = nat_lt 0 n && nat_lt n (most_number + 1)
+is_line_number n = nat_lt 0 n && nat_lt n (MOST_NUMBER + 1)
 
 -- a bound of an array, the channel of DIM, or the number of a line or 0
 abbrev pub is_bound : ℕ → Bool
-is_bound n = nat_lt n (most_number + 1)
+is_bound n = nat_lt n (MOST_NUMBER + 1)
 
 -- a variable or an element of an array
 abbrev pub is_target : Tree → Bool
@@ -139,7 +139,7 @@ IsFileShape s = IsShape s.shape × IfThere (λ size. (s.shape.name.text ≡ true
 
 -- ---- PRINT, and the channels of PRINT and INPUT
 
-abbrev pub separator_steps : Separator → List Step
+abbrev pub separator_steps : Separator → List LevelStep
 separator_steps separator.Comma = signed sign.Comma
 separator_steps separator.Semicolon = signed sign.Semicolon
 

@@ -4,7 +4,7 @@ use Rattle.basic_tree.specs.declared.tokens.Keyword.{Keyword}
 use Rattle.basic_tree.specs.declared.tokens.Keyword.TheVariants as keyword
 use Rattle.basic_tree.specs.declared.tokens.Sign.TheVariants as sign
 use Rattle.basic_tree.specs.declared.kinds.Want.TheVariants as want
-use Rattle.basic_tree.specs.SpellingWords.{Word, FnNamed, Item, Step, Plain, words}
+use Rattle.basic_tree.specs.SpellingWords.{Word, FnNamed, Item, LevelStep, Plain, words}
 use Rattle.basic_tree.specs.Trees.{ClauseTree, LineClause, StatementClause, ElseTree, NoElse, Else, StatementTree, IfThen, IfGoto, Modified, For, Next, FnEnd, Data, Dim, DimFile, Def, Let, Result, Print, Input, InputLine, Read, Restore, Goto, Gosub, Return, OnGoto, OnGosub, OnErrorGoto, Resume, Stop, End, Chain, Sleep, Open, Close, Get, Put, Unlock, Field, Lset, Rset, Kill, Rename, PrintUsing, MatRead, MatPrint, MatLet, LineTree}
 use Rattle.basic_tree.specs.SpellingExpressions.{steps_of, want_of}
 use Rattle.basic_tree.specs.SpellingParts.{Spelling, steps_in, keyed, signed, opens, closes, named, literal, perhaps, optional, each, listed, IfThere, Every, has_some, OneOrMore, IsOf, is_line_number, is_bound, IsTarget, shape_spelling, IsShape, file_shape_spelling, IsFileShape, printed_spelling, IsPrinted, item_spelling, separator_steps, channel_spelling, print_channel_spelling, using_item_spelling, has_value, IsArray, matrix_spelling, IsMatrix, is_parted, channel_comma_spelling, prompt_spelling, is_one, range_spelling, IsRange, modifier_spelling, IsModifier, parameters_spelling, value_spelling, kind_of_first, chain_line_spelling, IsChainLine, purpose_spelling, option_spelling, close_channel_spelling, field_part_spelling, IsFieldPart}
@@ -201,7 +201,7 @@ line_spelling l =
     optional statement_spelling l.first
     ++ each (λ statement. signed sign.Colon ∷ optional statement_spelling statement) l.others
 
-abbrev pub line_steps : LineTree → List Step
+abbrev pub line_steps : LineTree → List LevelStep
 line_steps l = steps_in (line_spelling l)
 
 abbrev pub IsAdmissible : LineTree → Type 0

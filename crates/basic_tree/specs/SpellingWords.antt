@@ -3,7 +3,7 @@ use Rattle.std.specs.Prelude.{ℕ, ◌+◌, ◌-◌, ◌==◌, nat_lt, min, if�
 use Rattle.std.specs.Char.{is_ascii_digit, to_ascii_uppercase}
 use Rattle.std.specs.List.{prefix_len}
 use Rattle.std.specs.Str.Parse.{digits_value}
-use Rattle.basic_tree.specs.Limits.{most_number}
+use Rattle.basic_values.specs.declared.limits.TheConstants.{MOST_NUMBER}
 use Rattle.basic_tree.specs.Tokens.{Lexeme, keyword_of, sign_of}
 use Rattle.basic_tree.specs.declared.names.Name.{Name}
 use Rattle.basic_tree.specs.declared.tokens.Keyword.{Keyword}
@@ -54,7 +54,7 @@ abbrev pub word_with : TokenKind → List ℕ → Word
 word_with kind.Keyword bytes = key_or_item bytes (keyword_of bytes)
 word_with kind.FnName bytes = FnNamed (name_of (drop 2 bytes))
 word_with kind.Variable bytes = Named (name_of bytes)
-word_with kind.Literal bytes = Number (min (most_number + 1) (digits_value 10 (take (prefix_len is_ascii_digit bytes) bytes)))
+word_with kind.Literal bytes = Number (min (MOST_NUMBER + 1) (digits_value 10 (take (prefix_len is_ascii_digit bytes) bytes)))
 word_with kind.Quoted bytes = Quotation (take (length bytes - 2) (drop 1 bytes))
 word_with kind.DataItem bytes = Item bytes
 word_with kind.Sign bytes = sign_or_item bytes (sign_of bytes)
@@ -68,20 +68,20 @@ words_of tokens = map word_of tokens
 -- ---- words with the levels of nesting
 
 -- a word; a word that opens a level of nesting, and stands in it; the end of a level
-pub data Step : Type 0 where
-  Plain : Word → Step
-  Opens : Word → Step
-  Closes : Step
+pub data LevelStep : Type 0 where
+  Plain : Word → LevelStep
+  Opens : Word → LevelStep
+  Closes : LevelStep
 
 -- the words alone
-abbrev pub words : List Step → List Word
+abbrev pub words : List LevelStep → List Word
 words [] = []
 words (Plain w ∷ steps) = w ∷ words steps
 words (Opens w ∷ steps) = w ∷ words steps
 words (Closes ∷ steps) = words steps
 
 -- the level in which each word stands, where so many are open before
-abbrev pub levels : ℕ → List Step → List ℕ
+abbrev pub levels : ℕ → List LevelStep → List ℕ
 levels depth [] = []
 levels depth (Plain w ∷ steps) = depth ∷ levels depth steps
 levels depth (Opens w ∷ steps) = (depth + 1) ∷ levels (depth + 1) steps
@@ -92,5 +92,5 @@ abbrev pub most_levels : ℕ
 most_levels = 64
 
 -- the place of the first word that opens a level too many
-abbrev pub too_deep : List Step → Option ℕ
+abbrev pub too_deep : List LevelStep → Option ℕ
 too_deep steps = position (λ level. nat_lt most_levels level) (levels 0 steps)

@@ -3,7 +3,7 @@ use Rattle.basic_tree.specs.declared.tokens.TokenKind.TheVariants as kind
 use Rattle.std.specs.Prelude.{◌≢◌, ◌⊎◌, ◌++◌, nat_lt, if◌then◌else◌, ◌≡◌, ℕ, ◌+◌, ◌<◌, ◌≤◌, max, true, slice_index, List, [], ◌∷◌, length, map, take, drop, Contains, Some, Ok, Err}
 use Rattle.std.specs.Char.{is_ascii_alphabetic}
 use Rattle.basic_tree.specs.declared.tokens.Keyword.{Keyword}
-use Rattle.basic_tree.specs.Tokens.{Lexeme, Reading, is_blank, stands, longest_length, keyword_of, keyword_front, front_of, tokens_from, tokens_of}
+use Rattle.basic_tree.specs.Tokens.{Lexeme, Reading, is_blank, is_at_front, longest_length, keyword_of, keyword_front, front_of, tokens_from, tokens_of}
 use Rattle.basic_tree.specs.Words.{keywords}
 use Rattle.basic_tree.specs.declared.tokens.Front.{Front}
 use Rattle.basic_tree.specs.declared.tokens.Front.TheVariants as front
@@ -43,14 +43,14 @@ BlanksMoveTokens = (place blank : ℕ) (rest : List ℕ) → is_blank blank ≡ 
 -- a keyword that bytes at the front spell, as long as the longest, is what stands there: a comment for REM, items for DATA, else its token
 pub record IsTaken (rest : List ℕ) (k : Keyword) (word : List ℕ) : Type 0 where
   pub listed : Contains keywords (k, word)
-  pub there : stands word rest ≡ true
+  pub there : is_at_front word rest ≡ true
   pub longest : length word ≡ longest_length keywords rest
   pub spelled : keyword_of (take (length word) rest) ≡ Some k
   pub front : front_of rest ≡ keyword_front (take (length word) rest)
 
 -- of the keywords that stand at the front none is longer than the longest; where one stands at a letter, one as long is taken
 pub record LongestIsTaken : Type 0 where
-  pub none_longer : (word rest : List ℕ) → Contains (map (λ entry. entry.1) keywords) word → stands word rest ≡ true → length word ≤ longest_length keywords rest
+  pub none_longer : (word rest : List ℕ) → Contains (map (λ entry. entry.1) keywords) word → is_at_front word rest ≡ true → length word ≤ longest_length keywords rest
   pub taken : (rest : List ℕ) → is_ascii_alphabetic (slice_index rest 0) ≡ true → 0 < longest_length keywords rest → (k : Keyword) × (word : List ℕ) × IsTaken rest k word
 
 -- a blank put in at a place moves the tokens that start there or behind it

@@ -5,7 +5,7 @@ use Rattle.std.specs.List.{prefix_len}
 use Rattle.std.specs.Option.{option_map}
 use Rattle.std.specs.Str.Parse.{digits_value}
 pub use Rattle.basic_values.specs.Blanks.{is_blank}
-use Rattle.basic_tree.specs.Limits.{most_number}
+use Rattle.basic_values.specs.declared.limits.TheConstants.{MOST_NUMBER}
 use Rattle.basic_tree.specs.Words.{keywords, signs}
 use Rattle.basic_tree.specs.declared.tokens.Keyword.{Keyword}
 use Rattle.basic_tree.specs.declared.tokens.Sign.{Sign}
@@ -35,18 +35,18 @@ is_type_mark b = b == 37 || b == 36
 -- ---- words
 
 -- the word stands at the front of the rest, in letters of either case
-abbrev pub stands : List ℕ → List ℕ → Bool
-stands [] rest = true
-stands (letter ∷ word) [] = false
-stands (letter ∷ word) (b ∷ rest) = to_ascii_uppercase b == letter && stands word rest
+abbrev pub is_at_front : List ℕ → List ℕ → Bool
+is_at_front [] rest = true
+is_at_front (letter ∷ word) [] = false
+is_at_front (letter ∷ word) (b ∷ rest) = to_ascii_uppercase b == letter && is_at_front word rest
 
 -- the bytes are this word
 abbrev pub is_word : List ℕ → List ℕ → Bool
-is_word word bytes = length bytes == length word && stands word bytes
+is_word word bytes = length bytes == length word && is_at_front word bytes
 
 -- the length of the longest word of a table that stands at the front of the rest, 0 where none stands there
 abbrev pub longest_length : {W : Type 0} → List (W × List ℕ) → List ℕ → ℕ
-longest_length table rest = fold (λ longest word. if stands word.1 rest then max longest (length word.1) else longest) 0 table
+longest_length table rest = fold (λ longest word. if is_at_front word.1 rest then max longest (length word.1) else longest) 0 table
 
 -- what the bytes spell in a table
 abbrev pub spelled : {W : Type 0} → List (W × List ℕ) → List ℕ → Option W
@@ -78,7 +78,7 @@ name_front k end rest = if is_type_mark (slice_index rest end) then front.Token 
 
 -- FN and a letter
 abbrev pub begins_function : List ℕ → Bool
-begins_function rest = stands (codes "FN") rest && is_ascii_alphabetic (slice_index rest 2)
+begins_function rest = is_at_front (codes "FN") rest && is_ascii_alphabetic (slice_index rest 2)
 
 -- at a letter: the longest keyword; else FN with a letter and perhaps a digit; else a letter and perhaps a digit
 unfoldable pub letter_front : List ℕ → Front
@@ -103,7 +103,7 @@ unfoldable pub digit_front : List ℕ → Front
 digit_front rest =
     let len = prefix_len is_ascii_digit rest in
     if is_floating (drop len rest) then front.Refused cause.FloatingLiteral
-    else (if nat_lt most_number (digits_value 10 (take len rest)) then front.Refused cause.NumberTooWide
+    else (if nat_lt MOST_NUMBER (digits_value 10 (take len rest)) then front.Refused cause.NumberTooWide
     else front.Token kind.Literal (if slice_index rest len == 37 then len + 1 else len))
 
 -- at a quote: all up to the next quote of its kind

@@ -1,16 +1,12 @@
 //! The language: its tokens and its trees, and in `specs/` the grammar, which ties bytes, tokens,
-//! words and trees. Data and definitions alone: the scanner and the parsers stand above.
+//! words and trees. Data and definitions: the scanner and the parsers stand above.
 //!
 //! It stands on `basic_values`, for texts and lists.
 //!
-//! `laws` carries the promises, each as the contract of a function without parameters:
-//! - bytes and tokens: `tokens_are_slices`, `longest_is_taken`, `blanks_move_tokens` and
-//!   `blanks_separate_tokens`;
-//! - words and trees: `one_tree`, `one_line`, `trees_are_spelled` and `levels_are_settled`;
-//! - answers: `expressions_are_read`, `expressions_have_one_answer` and `lines_have_one_answer`;
-//! - verdicts on bytes: `lines_are_judged`, `bytes_have_one_answer` and `one_verdict`.
-//!
-//! The files `Machine..` of `specs/` carry proofs alone: no promise speaks of them.
+//! `laws` carries the promises on bytes and tokens (`tokens_are_slices`, `longest_is_taken`,
+//! `blanks_move_tokens`, `blanks_separate_tokens`) and that trees are spelled by bytes
+//! (`trees_are_spelled`), each as the contract of a function without parameters. That the grammar
+//! has one answer is proved in `grammar_machine`, which has the machine behind it.
 #![tactic(auto)]
 
 mod expressions;

@@ -1,5 +1,5 @@
-//! The limits of the monitor and of its decks that more than one crate speaks of, each with its unit. A limit of one
-//! part alone stands with that part.
+//! The limits that more than one crate speaks of, each with its unit: of the monitor and its decks, and of programs. A
+//! limit of one part alone stands with that part.
 
 /// Bytes of a block, which is a page of a file.
 pub const BLOCK_BYTES: usize = 512;
@@ -45,3 +45,9 @@ pub const MOST_LETTERS: u8 = 32;
 
 /// Bytes of a letter's text, and of a text that is printed at once, at the most.
 pub const LONGEST_MESSAGE: usize = 512;
+
+/// Lines of a program, at the most.
+pub const MOST_LINES: usize = 1000;
+
+/// The greatest number that is written, and the greatest number of a line; the least of a line is 1.
+pub const MOST_NUMBER: u16 = 32767;

@@ -3,7 +3,7 @@ use Rattle.std.proofs.Common.{◌≡◌, ℕ, List, [], ◌∷◌, ◌++◌, Opt
 use Rattle.std.specs.Prelude.{if◌then◌else◌}
 use Rattle.std.specs.Option.{option_map}
 use Rattle.basic_values.specs.declared.failures.Trouble.{Trouble}
-use Rattle.basic_tree.specs.MachineJudge.{judge_of}
+use Rattle.grammar_machine.specs.MachineJudge.{judge_of}
 use Rattle.basic_tree.specs.Trees.{StatementTree}
 use Rattle.error_trap.specs.Trapping.{untouched}
 use Rattle.monitor_calls.specs.declared.names.Account.{Account}
@@ -14,13 +14,15 @@ use Rattle.monitor_calls.specs.declared.calls.Reply.TheVariants.{Done, Failed}
 use Rattle.job_model.specs.Act.{Act, Gives, Breaks, Asks, Takes, Break, Faulted, Halted, Gone, Left, break_over, over}
 use Rattle.job_model.specs.Asking.{counts_as}
 use Rattle.file_names.specs.declared.spec.Spec.{Spec}
-use Rattle.program_files.specs.declared.catalogs.TheConstants.{MOST_FILES}
+use Rattle.basic_values.specs.declared.limits.TheConstants.{MOST_FILES}
 use Rattle.program_files.specs.Catalogs.{catalog_from}
 use Rattle.program_files.specs.Channels.{kills}
 use Rattle.program_files.specs.Programs.{reads_pages, writes_pages}
 use Rattle.program_model.specs.Program.{Program, Position, statements_of}
 use Rattle.program_model.specs.Job as program
 use Rattle.program_model.specs.Job.{Job}
+use Rattle.program_model.specs.Storage.{in_storage}
+use Rattle.program_model.specs.FileActs.{shut_act}
 use Rattle.program_model.specs.Control.{Doing}
 use Rattle.program_model.specs.Running.{Coming, cleared}
 use Rattle.polish_code.specs.Code.{start_of}
@@ -33,9 +35,9 @@ use Rattle.basic_interpreter.specs.Meaning.{Came, went, left_a_body, no_memory}
 use Rattle.session_model.specs.Commands.{Login, Naming, Nameless, Named, Misnamed, Range, Command, Hello, Bye, New, Rename, ListLines, Delete, Old, Save, Unsave, Catalog, Cataloging, OfOwn, OfAccount, OfNone, Numbered}
 use Rattle.session_model.specs.Editing.{Edited, Accepted, Refused, edited}
 use Rattle.session_model.specs.ProgramFiles.{spec_read, spec_or_own, is_blank_text, saved_pages, program_on}
-use Rattle.session_model.specs.Talk.{Session, Step, Leaving, with_job, says, with_lines, named, no_name, answered, entered, hello, leave, log_out, emptied, begins_new, renames, headed, lists, deletes, takes_edit, broken_off, tried, by_name, loaded, loads, reads_old, old, saves_as, saves, kills_file, unsaves, with_screen, catalogs_of, catalogs, rests, visitor_acts, outlives, reported, run_is_over, stop_by}
+use Rattle.session_model.specs.Talk.{Session, Step, SessionEnd, with_job, says, with_lines, named, no_name, answered, entered, hello, leave, log_out, emptied, begins_new, renames, headed, lists, deletes, takes_edit, broken_off, tried, with_storage, shut_down, by_name, loaded, loads, reads_old, old, saves_as, saves, kills_file, unsaves, with_screen, catalogs_of, catalogs, rests, visitor_acts, outlives, reported, run_is_over, stop_by}
 use Rattle.session_model.specs.Talk as talk
-use Rattle.line_editor.specs.Lines.{Lines}
+use Rattle.basic_tree.specs.ProgramLines.{Lines}
 use Rattle.session_model.specs.Texts.{illegal_file_name}
 use Rattle.session_model.proofs.Ends.{Ends}
 use Rattle.command_level.specs.Standing.{is_gone, low_session, StopFits, run_ends, line_ends}
@@ -56,16 +58,13 @@ module _ (p : Program) where
   abbrev pub lows : Step Position → Step Spot
   lows m = over (λ way. way) low m
 
-  -- NEW, where the state is that of a program that begins
-  abbrev new_from : Naming → Session Spot → Job Spot → Step Spot
-  new_from Nameless s j = answered [] (named no_name (with_lines [] (with_job j s)))
-  new_from (Named name) s j = answered [] (named name (with_lines [] (with_job j s)))
-  new_from Misnamed s j = answered illegal_file_name s
+  -- WHERE A PROGRAM BEGINS
 
-  new_low : (naming : Naming) (s : Session Position) → begins_new naming (low s) ≡ lows (begins_new naming s)
-  new_low Nameless s = ap (new_from Nameless (low s)) (sym (low_cleared p [] p s.job))
-  new_low (Named name) s = ap (new_from (Named name) (low s)) (sym (low_cleared p [] p s.job))
-  new_low Misnamed s = refl
+  abbrev new_from : List ℕ → Session Spot → Job Spot → Step Spot
+  new_from name s j = answered [] (named name (with_lines [] (with_job j s)))
+
+  named_low : (name : List ℕ) (s : Session Position) → answered [] (named name (emptied (low s))) ≡ lows (answered [] (named name (emptied s)))
+  named_low name s = ap (new_from name (low s)) (sym (low_cleared p [] p s.job))
 
   renames_low : (naming : Naming) (s : Session Position) → renames naming (low s) ≡ lows (renames naming s)
   renames_low Nameless s = refl
@@ -104,6 +103,15 @@ module _ (p : Program) where
   tried_low whole next next' (Asks r by) h = λ i. Asks r (λ x. tried_low whole next next' (by x) h i)
   tried_low whole next next' (Takes q rest) h = λ i. Takes (low (whole q)) (tried_low whole next next' rest h i)
 
+  -- all channels are closed
+  shut_low : (next : Session Spot → Step Spot) (next' : Session Position → Step Position) (s : Session Position) → ((s : Session Position) → next (low s) ≡ lows (next' s)) → shut_down next (low s) ≡ lows (shut_down next' s)
+  shut_low next next' s h = tried_low (with_storage s) (λ _ s. next s) (λ _ s. next' s) (shut_act (in_storage.part s.job)) (λ _ s. h s)
+
+  new_low : (naming : Naming) (s : Session Position) → begins_new naming (low s) ≡ lows (begins_new naming s)
+  new_low Nameless s = shut_low (λ s. answered [] (named no_name (emptied s))) (λ s. answered [] (named no_name (emptied s))) s (named_low no_name)
+  new_low (Named name) s = shut_low (λ s. answered [] (named name (emptied s))) (λ s. answered [] (named name (emptied s))) s (named_low name)
+  new_low Misnamed s = refl
+
   by_name_low : (named : Result Spec ℕ) (act : Spec → Session Spot → Step Spot) (act' : Spec → Session Position → Step Position) (s : Session Position) → ((spec : Spec) → act spec (low s) ≡ lows (act' spec s))
       → by_name named act (low s) ≡ lows (by_name named act' s)
   by_name_low (Ok spec) act act' s h = h spec
@@ -117,7 +125,7 @@ module _ (p : Program) where
 
   loads_low : (name : List ℕ) (o : Option Lines) (s : Session Position) → loads name o (low s) ≡ lows (loads name o s)
   loads_low name None s = refl
-  loads_low name (Some lines) s = ap (answered []) (loaded_low name lines s)
+  loads_low name (Some lines) s = shut_low (λ s. answered [] (loaded name lines s)) (λ s. answered [] (loaded name lines s)) s (λ s. ap (answered []) (loaded_low name lines s))
 
   old_low : (own : Account) (tail : List ℕ) (s : Session Position) → old judge_of own tail (low s) ≡ lows (old judge_of own tail s)
   old_low own tail s =
@@ -213,13 +221,8 @@ module _ (p : Program) where
 
   -- A STOP THAT FITS
 
-  abbrev pub Fit : {A : Type 0} → Act Leaving (Session Position) A → Type 0
+  abbrev pub Fit : {A : Type 0} → Act SessionEnd (Session Position) A → Type 0
   Fit m = Ends (StopFits p) m
-
-  new_fits : (naming : Naming) (s : Session Position) → StopFits p s → Fit (begins_new naming s)
-  new_fits Nameless s h = tt
-  new_fits (Named name) s h = tt
-  new_fits Misnamed s h = h
 
   renames_fits : (naming : Naming) (s : Session Position) → StopFits p s → Fit (renames naming s)
   renames_fits Nameless s h = h
@@ -255,13 +258,21 @@ module _ (p : Program) where
   tried_fits whole next (Asks r by) h f = λ x. tried_fits whole next (by x) h f
   tried_fits whole next (Takes q rest) h f = (h q, tried_fits whole next rest h f)
 
+  shut_fits : (next : Session Position → Step Position) (s : Session Position) → StopFits p s → ((s : Session Position) → Fit (next s)) → Fit (shut_down next s)
+  shut_fits next s h f = tried_fits (with_storage s) (λ _ s. next s) (shut_act (in_storage.part s.job)) (λ _. h) (λ _ s g. f s)
+
+  new_fits : (naming : Naming) (s : Session Position) → StopFits p s → Fit (begins_new naming s)
+  new_fits Nameless s h = shut_fits (λ s. answered [] (named no_name (emptied s))) s h (λ s. tt)
+  new_fits (Named name) s h = shut_fits (λ s. answered [] (named name (emptied s))) s h (λ s. tt)
+  new_fits Misnamed s h = h
+
   by_name_fits : (named : Result Spec ℕ) (act : Spec → Session Position → Step Position) (s : Session Position) → StopFits p s → ((spec : Spec) → Fit (act spec s)) → Fit (by_name named act s)
   by_name_fits (Ok spec) act s h f = f spec
   by_name_fits (Err number) act s h f = h
 
   loads_fits : (name : List ℕ) (o : Option Lines) (s : Session Position) → StopFits p s → Fit (loads name o s)
   loads_fits name None s h = h
-  loads_fits name (Some lines) s h = tt
+  loads_fits name (Some lines) s h = shut_fits (λ s. answered [] (loaded name lines s)) s h (λ s. tt)
 
   old_fits : (own : Account) (tail : List ℕ) (s : Session Position) → StopFits p s → Fit (old judge_of own tail s)
   old_fits own tail s h =

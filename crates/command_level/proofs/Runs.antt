@@ -1,12 +1,12 @@
 -- What the calls that run programs do of the session for which the code's stands.
 use Rattle.std.proofs.Common.{◌≡◌, ℕ, List, ◌++◌, Option, Some, None, Ok, Err, Result, refl, sym, ap, subst, ◌∙◌}
-use Rattle.std.specs.Prelude.{Bool, IfOk, OnOk}
+use Rattle.std.specs.Prelude.{Bool, true, false, IfOk, OnOk}
 use Rattle.std.specs.Option.{option_map, OnSome}
 use Rattle.std.specs.Result.{IsErrAnd}
 use Rattle.basic_values.specs.declared.failures.NoMemory.{NoMemory}
 use Rattle.basic_values.specs.declared.failures.Trouble.{Trouble}
 use Rattle.basic_tree.specs.declared.programs.Line.{Line}
-use Rattle.basic_tree.specs.MachineJudge.{judge_of}
+use Rattle.grammar_machine.specs.MachineJudge.{judge_of}
 use Rattle.basic_tree.specs.Trees.{StatementTree}
 use Rattle.monitor_calls.specs.Pairs.{Pair}
 use Rattle.job_model.specs.Act.{Gives, Breaks, Asks, Takes, Break, Faulted, Halted, Gone, Left}
@@ -16,8 +16,9 @@ use Rattle.job_model.specs.Texts.{line_end}
 use Rattle.job_model.proofs.Follows.{follows_from}
 use Rattle.monitor_calls.specs.declared.names.Account.{Account}
 use Rattle.session_model.specs.Commands.{Command, command_of}
-use Rattle.line_editor.specs.Lines.{Lines, AreTrees}
-use Rattle.program_soundness.specs.Texts.{program_of}
+use Rattle.basic_tree.specs.ProgramLines.{Lines}
+use Rattle.line_editor.specs.Lines.{AreTrees}
+use Rattle.program_model.specs.InMemory.{program_of}
 use Rattle.program_model.specs.declared.refusals.LowerRefusal.{LowerRefusal}
 use Rattle.program_model.specs.Program.{Program, Position}
 use Rattle.program_model.specs.Job as program
@@ -31,20 +32,20 @@ use Rattle.basic_eval.specs.declared.exits.Exit.{Exit}
 use Rattle.basic_eval.specs.Acting as acting
 use Rattle.basic_interpreter.specs.Meaning.{Means}
 use Rattle.session_model.specs.Talk as talk
-use Rattle.session_model.specs.Talk.{Step, says, with_job, headed, begun, runs, runs_unless, outlives, run_is_over, reported, goes_on, line_unless, does_line, answered, program_by, stop_by, acts, visitor_acts, user_acts, line_acts, rests}
+use Rattle.session_model.specs.Talk.{Step, says, with_job, headed, begun, runs_shut, runs_unless, outlives, run_is_over, reported, goes_on, line_unless, does_line, answered, program_by, stop_by, acts, visitor_acts, user_acts, line_acts, rests}
 use Rattle.session_model.specs.Texts.{lowering_text}
-use Rattle.entrances.specs.declared.stops.Stop.{Stop}
-use Rattle.entrances.specs.Stopping.{leaving_of}
+use Rattle.basic_interpreter.specs.declared.stops.Stop.{Stop}
+use Rattle.basic_interpreter.specs.Stopping.{leaving_of}
 use Rattle.command_level.specs.declared.session.Session.{Session}
-use Rattle.command_level.specs.declared.session.Onward.{Onward}
-use Rattle.command_level.specs.Onwards.{goes}
+use Rattle.command_level.specs.declared.session.AfterLine.{AfterLine}
+use Rattle.command_level.specs.AfterLines.{goes}
 use Rattle.command_level.specs.declared.commands.Command as code
 use Rattle.command_level.specs.declared.commands.Command.TheVariants as variant
 use Rattle.std.specs.Borrow.{Bor}
 use Rattle.command_level.specs.Seen.{seen, command_seen}
 use Rattle.command_level.specs.Standing.{low_session, StopFits, Stands, Serves, run_ends, line_ends}
 use Rattle.command_level.proofs.Ends.{ok_map}
-use Rattle.command_level.proofs.Lows.{Fit, low_cleared, headed_low, headed_lines, came_run, came_line, said, visitor_low, visitor_fits, rests_low, rests_fits}
+use Rattle.command_level.proofs.Lows.{Fit, low_cleared, headed_low, came_run, came_line, said, visitor_low, visitor_fits, rests_low, rests_fits}
 use Rattle.command_level.proofs.Serving.{serves_from, serves_nothing, serves_same, serves_rest, serves_run}
 use Rattle.command_level.proofs.Spelled.{trees_program}
 
@@ -53,7 +54,7 @@ use Rattle.command_level.proofs.Spelled.{trees_program}
 pub ok_fact : {T E : Type 0} {Fact : Type 0} (r : Result T E) (value : T) → r ≡ Ok value → OnOk r Fact → Fact
 ok_fact {T} {E} {Fact} r value is fact = subst (λ (r : Result T E). OnOk r Fact) is fact
 
-pub serves_lost : {P W : Type 0} {who : P → W} {log : P → List Pair} {p : P} {c : Clock} {step : ℕ → Step Position} {session : Session} (result : Result Onward NoMemory) (IsIt : NoMemory → Type 0) → IsErrAnd result IsIt → Serves who log p p c c step session result
+pub serves_lost : {P W : Type 0} {who : P → W} {log : P → List Pair} {p : P} {c : Clock} {step : ℕ → Step Position} {session : Session} (result : Result AfterLine NoMemory) (IsIt : NoMemory → Type 0) → IsErrAnd result IsIt → Serves who log p p c c step session result
 serves_lost (Ok on) IsIt is = absurd is
 serves_lost (Err e) IsIt is = serves_nothing e
 
@@ -77,41 +78,44 @@ run_fits p s h is sound m = outlives_fits p (run_is_over s) s h (λ why j. on_an
 
 -- RUN
 
+-- behind its name
+pub stands_headed : (old mid : Session) (s : talk.Session Position) (with_name : Bool) (st : Stands old s) → seen mid ≡ headed with_name (seen old) → Stands mid (headed with_name s)
+stands_headed old mid s with_name st written = record {
+  program = st.program;
+  low = sym (headed_low st.program with_name s) ∙ ap (headed with_name) st.low ∙ sym written;
+  fits = headed_fits with_name;
+}
+  where
+    headed_fits : (with_name : Bool) → StopFits st.program (headed with_name s)
+    headed_fits true = st.fits
+    headed_fits false = st.fits
+
 -- the state that a program finds that begins
-module _ (old mid : Session) (s : talk.Session Position) (with_name : Bool) (st : Stands old s) (written : seen mid ≡ headed with_name (seen old)) where
-  abbrev t : talk.Session Position
-  t = headed with_name s
+module _ (old : Session) (s : talk.Session Position) (st : Stands old s) where
+  pub same_text : old.text ≡ s.lines
+  same_text = sym (ap (λ (u : talk.Session Spot). u.lines) st.low)
 
-  stands_mid : low_session st.program t ≡ seen mid
-  stands_mid = sym (headed_low st.program with_name s) ∙ ap (headed with_name) st.low ∙ sym written
-
-  pub same_lines : mid.text ≡ s.lines
-  same_lines = sym (ap (λ (u : talk.Session Spot). u.lines) stands_mid) ∙ headed_lines with_name s
-
-  pub begun_low : (p : Program) (j : Job Spot) → j ≡ cleared p (seen mid).job → low_session p (begun p t) ≡ record (seen mid) { job = j; stop = None }
+  pub begun_low : (p : Program) (j : Job Spot) → j ≡ cleared p (seen old).job → low_session p (begun p s) ≡ record (seen old) { job = j; stop = None }
   begun_low p j is =
-      ap (λ (k : Job Spot). record (low_session st.program t) { job = k; stop = None }) (low_cleared p p st.program t.job)
-      ∙ ap (λ (u : talk.Session Spot). record u { job = cleared p u.job; stop = None }) stands_mid
-      ∙ ap (λ (k : Job Spot). record (seen mid) { job = k; stop = None }) (sym is)
+      ap (λ (k : Job Spot). record (low_session st.program s) { job = k; stop = None }) (low_cleared p p st.program s.job)
+      ∙ ap (λ (u : talk.Session Spot). record u { job = cleared p u.job; stop = None }) st.low
+      ∙ ap (λ (k : Job Spot). record (seen old) { job = k; stop = None }) (sym is)
 
 -- the program in memory
 pub program_here : (lines text : Lines) (trees : List (ℕ × Line)) → text ≡ lines → AreTrees text trees → program_of trees ≡ program_by judge_of lines
 program_here lines text trees same h = trees_program text trees h ∙ ap (program_by judge_of) same
 
 -- and behind the state that a program finds
-pub here_behind : (mid : Session) (s : talk.Session Position) (with_name : Bool) (prog : Program) (trees : List (ℕ × Line)) → low_session prog (begun prog (headed with_name s)) ≡ seen mid → AreTrees mid.text trees → program_of trees ≡ program_by judge_of s.lines
-here_behind mid s with_name prog trees low h = program_here s.lines mid.text trees (sym (ap (λ (u : talk.Session Spot). u.lines) low) ∙ headed_lines with_name s) h
-
-pub lines_behind : (with_name : Bool) (s : talk.Session Position) → program_by judge_of s.lines ≡ program_by judge_of (headed with_name s).lines
-lines_behind with_name s = ap (program_by judge_of) (sym (headed_lines with_name s))
+pub here_behind : (mid : Session) (s : talk.Session Position) (prog : Program) (trees : List (ℕ × Line)) → low_session prog (begun prog s) ≡ seen mid → AreTrees mid.text trees → program_of trees ≡ program_by judge_of s.lines
+here_behind mid s prog trees low h = program_here s.lines mid.text trees (sym (ap (λ (u : talk.Session Spot). u.lines) low)) h
 
 module _ {P W : Type 0} {who : P → W} {log : P → List Pair} where
   -- a program that is not refused, from the state that it finds
-  pub serves_program : {p q : P} {c d : Clock} (prog : Program) (s t : talk.Session Position) (mid after new : Session) (end : Result (Unit {0}) (Trouble Exit)) (result : Result Onward NoMemory)
+  pub serves_program : {p q : P} {c d : Clock} (prog : Program) (s t : talk.Session Position) (mid after new : Session) (end : Result (Unit {0}) (Trouble Exit)) (result : Result AfterLine NoMemory)
       → t ≡ begun prog s → low_session prog t ≡ seen mid → seen after ≡ with_job (acting.seen after.running) (seen mid) → prog ≡ program_by judge_of s.lines → refusal_of prog ≡ None
       → Means who log p q c d (low_leaving prog) (lowered prog) (λ most. runs_cleared prog most t.job) (acting.seen after.running) end
       → IfOk result (λ on. run_ends end (seen after) ≡ Some (goes on (seen new)))
-      → Serves who log p q c d (λ most. runs prog most s) new result
+      → Serves who log p q c d (λ most. runs_shut prog most s) new result
   serves_program {p} {q} {c} {d} prog s t mid after new end result is low changed here sound means told =
       serves_from (λ most. ap (λ (o : Option LowerRefusal). runs_unless o prog most (begun prog s)) sound ∙ ap (λ (t : talk.Session Position). outlives (run_is_over t) t (runs_cleared prog most t.job)) (sym is))
       (serves_run prog (low_leaving prog) (λ most. runs_cleared prog most t.job) (acting.seen after.running) end t (run_is_over t) (run_ends end (seen after)) new result means
@@ -120,22 +124,22 @@ module _ {P W : Type 0} {who : P → W} {log : P → List Pair} where
       (run_fits prog t (subst (StopFits prog) (sym is) tt) (here ∙ ap (λ (t : talk.Session Position). program_by judge_of t.lines) (sym is)) sound))
 
   -- a program that is refused
-  pub serves_refused : {p : P} {c : Clock} (prog : Program) (s : talk.Session Position) (mid new : Session) (refusal : LowerRefusal) (result : Result Onward NoMemory)
+  pub serves_refused : {p : P} {c : Clock} (prog : Program) (s : talk.Session Position) (mid new : Session) (refusal : LowerRefusal) (result : Result AfterLine NoMemory)
       → low_session prog (begun prog s) ≡ seen mid → refusal_of prog ≡ Some refusal
       → IfOk result (λ on. answered (lowering_text refusal) (seen mid) ≡ goes on (seen new))
-      → Serves who log p p c c (λ most. runs prog most s) new result
+      → Serves who log p p c c (λ most. runs_shut prog most s) new result
   serves_refused prog s mid new refusal result low is told =
       serves_from (λ most. ap (λ (o : Option LowerRefusal). runs_unless o prog most (begun prog s)) is)
       (serves_same prog new result (answered (lowering_text refusal) (begun prog s)) (ok_map result (λ on same. ap (answered (lowering_text refusal)) low ∙ same) told) tt)
 
   -- an answer without a run
-  pub serves_answer : {p : P} {c : Clock} (old new : Session) (s : talk.Session Position) (st : Stands old s) (text : List ℕ) (result : Result Onward NoMemory)
+  pub serves_answer : {p : P} {c : Clock} (old new : Session) (s : talk.Session Position) (st : Stands old s) (text : List ℕ) (result : Result AfterLine NoMemory)
       → IfOk result (λ on. answered text (seen old) ≡ goes on (seen new)) → Serves who log p p c c (λ most. answered text s) new result
   serves_answer old new s st text result told =
       serves_same st.program new result (answered text s) (ok_map result (λ on same. ap (answered text) st.low ∙ same) told) st.fits
 
   -- CONT
-  pub serves_stop : {p q : P} {c d : Clock} (old after new : Session) (s : talk.Session Position) (st : Stands old s) (way : program.Leaving Position) (end : Result (Unit {0}) (Trouble Exit)) (result : Result Onward NoMemory)
+  pub serves_stop : {p q : P} {c d : Clock} (old after new : Session) (s : talk.Session Position) (st : Stands old s) (way : program.Leaving Position) (end : Result (Unit {0}) (Trouble Exit)) (result : Result AfterLine NoMemory)
       → s.stop ≡ Some way → seen after ≡ with_job (acting.seen after.running) (seen old)
       → st.program ≡ program_by judge_of s.lines → refusal_of st.program ≡ None
       → Means who log p q c d (low_leaving st.program) (lowered st.program) (λ most. continues st.program most way s.job) (acting.seen after.running) end
@@ -149,7 +153,7 @@ module _ {P W : Type 0} {who : P → W} {log : P → List Pair} where
       (run_fits st.program s st.fits here sound))
 
   -- a line of immediate mode
-  pub serves_line : {p q : P} {c d : Clock} (old after new : Session) (s : talk.Session Position) (st : Stands old s) (statements : List StatementTree) (end : Result (Unit {0}) (Trouble Exit)) (result : Result Onward NoMemory)
+  pub serves_line : {p q : P} {c d : Clock} (old after new : Session) (s : talk.Session Position) (st : Stands old s) (statements : List StatementTree) (end : Result (Unit {0}) (Trouble Exit)) (result : Result AfterLine NoMemory)
       → refusal_now statements ≡ None → seen after ≡ with_job (acting.seen after.running) (seen old)
       → Means who log p q c d (low_leaving (line_alone statements)) (lowered st.program) (λ most. runs_line statements most s.job) (acting.seen after.running) end
       → IfOk result (λ on. line_ends end (seen after) ≡ Some (goes on (seen new)))
@@ -208,7 +212,7 @@ echoed_stands old mid s st line bytes screen same wrote is = record {
 
 module _ {P W : Type 0} {who : P → W} {log : P → List Pair} where
   -- before the login
-  pub serves_visitor : {p q : P} {c : Clock} (mid new : Session) (s : talk.Session Position) (line bytes : List ℕ) (command : Command) (result : Result Onward NoMemory) → Stands mid (says (line ++ line_end) s) → s.account ≡ None → command ≡ command_of bytes → bytes ≡ line
+  pub serves_visitor : {p q : P} {c : Clock} (mid new : Session) (s : talk.Session Position) (line bytes : List ℕ) (command : Command) (result : Result AfterLine NoMemory) → Stands mid (says (line ++ line_end) s) → s.account ≡ None → command ≡ command_of bytes → bytes ≡ line
       → Follows who log p q c c (visitor_acts command (seen mid)) (unless_memory result (λ on. goes on (seen new)))
       → Serves who log p q c c (λ most. line_acts judge_of most line s) new result
   serves_visitor {p} {q} {c} mid new s line bytes command result st none is same f =
@@ -217,7 +221,7 @@ module _ {P W : Type 0} {who : P → W} {log : P → List Pair} where
       (serves_rest st.program new result (visitor_acts command t) (follows_from (sym (visitor_low st.program command t) ∙ ap (visitor_acts command) st.low) f) (visitor_fits st.program command t st.fits))
 
   -- behind it
-  pub serves_user : {p q : P} {c d : Clock} (new : Session) (s : talk.Session Position) (line bytes : List ℕ) (command : Command) (account : Account) (result : Result Onward NoMemory) → s.account ≡ Some account → command ≡ command_of bytes → bytes ≡ line
+  pub serves_user : {p q : P} {c d : Clock} (new : Session) (s : talk.Session Position) (line bytes : List ℕ) (command : Command) (account : Account) (result : Result AfterLine NoMemory) → s.account ≡ Some account → command ≡ command_of bytes → bytes ≡ line
       → Serves who log p q c d (λ most. user_acts judge_of most account command (says (line ++ line_end) s)) new result
       → Serves who log p q c d (λ most. line_acts judge_of most line s) new result
   serves_user new s line bytes command account result known is same f =
@@ -225,7 +229,7 @@ module _ {P W : Type 0} {who : P → W} {log : P → List Pair} where
       serves_from (λ most. ap (λ (o : Option Account). acts judge_of most o (command_of line) t) known ∙ ap (λ (k : Command). user_acts judge_of most account k t) (sym (is ∙ ap command_of same))) f
 
   -- what runs no program
-  pub serves_other : {p q : P} {c : Clock} (old new : Session) (s : talk.Session Position) (st : Stands old s) (own : Account) (command : Command) (result : Result Onward NoMemory) → ((most : ℕ) → user_acts judge_of most own command s ≡ rests judge_of own command s)
+  pub serves_other : {p q : P} {c : Clock} (old new : Session) (s : talk.Session Position) (st : Stands old s) (own : Account) (command : Command) (result : Result AfterLine NoMemory) → ((most : ℕ) → user_acts judge_of most own command s ≡ rests judge_of own command s)
       → Follows who log p q c c (rests judge_of own command (seen old)) (unless_memory result (λ on. goes on (seen new)))
       → Serves who log p q c c (λ most. user_acts judge_of most own command s) new result
   serves_other old new s st own command result is f =

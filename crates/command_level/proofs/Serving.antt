@@ -19,12 +19,12 @@ use Rattle.polish_code.specs.Lowered.{lowered}
 use Rattle.basic_eval.specs.declared.exits.Exit.{Exit}
 use Rattle.basic_interpreter.specs.Meaning.{Came, Means}
 use Rattle.session_model.specs.Talk as talk
-use Rattle.session_model.specs.Talk.{Step, Leaving, outlives, with_job}
+use Rattle.session_model.specs.Talk.{Step, SessionEnd, outlives, with_job}
 use Rattle.session_model.proofs.Ends.{Ends}
 use Rattle.command_level.specs.declared.session.Session.{Session}
-use Rattle.command_level.specs.declared.session.Onward.{Onward}
-use Rattle.command_level.specs.declared.session.Onward.TheVariants as onward
-use Rattle.command_level.specs.Onwards.{goes}
+use Rattle.command_level.specs.declared.session.AfterLine.{AfterLine}
+use Rattle.command_level.specs.declared.session.AfterLine.TheVariants as onward
+use Rattle.command_level.specs.AfterLines.{goes}
 use Rattle.command_level.specs.Seen.{seen}
 use Rattle.command_level.specs.Standing.{low_session, StopFits, LeftBy, Serves}
 use Rattle.command_level.proofs.Lows.{lows, Fit}
@@ -74,7 +74,7 @@ path_outlives during s c d m left ps (gone {e = i} {s = j} {pairs = qs} h g p) =
 
 -- an act that goes onward with the places of a program's code goes so without
 module _ (p : Program) where
-  pub record GoesAs (m : Step Position) (on : Onward) (u : talk.Session Spot) : Type 0 where
+  pub record GoesAs (m : Step Position) (on : AfterLine) (u : talk.Session Spot) : Type 0 where
     pub state : talk.Session Position
     pub same : m ≡ goes on state
     pub low_state : low_session p state ≡ u
@@ -85,7 +85,7 @@ module _ (p : Program) where
   state_of d (Asks r by) = d
   state_of d (Takes s rest) = d
 
-  pub goes_as : (m : Step Position) (on : Onward) (u : talk.Session Spot) → lows p m ≡ goes on u → GoesAs m on u
+  pub goes_as : (m : Step Position) (on : AfterLine) (u : talk.Session Spot) → lows p m ≡ goes on u → GoesAs m on u
   goes_as (Gives a s) onward.Next u e = record { state = s; same = refl; low_state = ap (state_of u) e }
   goes_as (Gives a s) onward.Ended u e = absurd (cc)
   goes_as (Gives a s) onward.Expired u e = absurd (cc)
@@ -102,13 +102,13 @@ module _ (p : Program) where
   goes_as (Takes s rest) onward.Ended u e = absurd (cc)
   goes_as (Takes s rest) onward.Expired u e = absurd (cc)
 
-  fits_as : (m : Step Position) (on : Onward) (t : talk.Session Position) → m ≡ goes on t → Fit p m → StopFits p t
+  fits_as : (m : Step Position) (on : AfterLine) (t : talk.Session Position) → m ≡ goes on t → Fit p m → StopFits p t
   fits_as m onward.Next t e h = subst (λ m. Fit p m) e h
   fits_as m onward.Ended t e h = subst (λ m. Fit p m) e h
   fits_as m onward.Expired t e h = subst (λ m. Fit p m) e h
 
   -- a step to which the code's session came
-  pub leaves_by : (session : Session) (result : Result Onward NoMemory) (m : Step Position) → IfOk result (λ on. lows p m ≡ goes on (seen session)) → Fit p m
+  pub leaves_by : (session : Session) (result : Result AfterLine NoMemory) (m : Step Position) → IfOk result (λ on. lows p m ≡ goes on (seen session)) → Fit p m
       → LeftBy session result (option_map (λ t most. t) (unless_memory result (λ on. m)))
   leaves_by session (Ok on) m e h =
       let g = goes_as m on (seen session) e in
@@ -117,7 +117,7 @@ module _ (p : Program) where
 
 module _ {P W : Type 0} {who : P → W} {log : P → List Pair} where
   -- told in other words
-  pub serves_from : {p q : P} {c d : Clock} {step step' : ℕ → Step Position} {session : Session} {result : Result Onward NoMemory} → ((most : ℕ) → step most ≡ step' most) → Serves who log p q c d step' session result → Serves who log p q c d step session result
+  pub serves_from : {p q : P} {c d : Clock} {step step' : ℕ → Step Position} {session : Session} {result : Result AfterLine NoMemory} → ((most : ℕ) → step most ≡ step' most) → Serves who log p q c d step' session result → Serves who log p q c d step session result
   serves_from {p} {q} {c} {d} {step} {step'} {session} {result} same f = subst (λ (step : ℕ → Step Position). Serves who log p q c d step session result) (λ i most. sym (same most) i) f
 
   -- nothing was asked, and nothing is told
@@ -125,12 +125,12 @@ module _ {P W : Type 0} {who : P → W} {log : P → List Pair} where
   serves_nothing {p} {c} {step} e = record { left = None; leaves = refl; follows = record { pairs = []; grew = (refl, sym (append-nil (log p))); bound = 0; reaches = λ most le. (c, step most, here) } }
 
   -- a call that asks nothing
-  pub serves_same : {p : P} {c : Clock} (prog : Program) (session : Session) (result : Result Onward NoMemory) (m : Step Position) → IfOk result (λ on. lows prog m ≡ goes on (seen session)) → Fit prog m → Serves who log p p c c (λ most. m) session result
+  pub serves_same : {p : P} {c : Clock} (prog : Program) (session : Session) (result : Result AfterLine NoMemory) (m : Step Position) → IfOk result (λ on. lows prog m ≡ goes on (seen session)) → Fit prog m → Serves who log p p c c (λ most. m) session result
   serves_same {p} {c} prog session (Ok on) m e h = record { left = Some (λ most. m); leaves = leaves_by prog session (Ok on) m e h; follows = record { pairs = []; grew = (refl, sym (append-nil (log p))); bound = 0; reaches = λ most le. here } }
   serves_same {p} {c} prog session (Err none) m e h = serves_nothing none
 
   -- a call that runs no program
-  pub serves_rest : {p q : P} {c : Clock} (prog : Program) (session : Session) (result : Result Onward NoMemory) (m : Step Position)
+  pub serves_rest : {p q : P} {c : Clock} (prog : Program) (session : Session) (result : Result AfterLine NoMemory) (m : Step Position)
       → Follows who log p q c c (lows prog m) (unless_memory result (λ on. goes on (seen session))) → Fit prog m → Serves who log p q c c (λ most. m) session result
   serves_rest {p} {q} {c} prog session (Ok on) m f h =
       let u = path_under (λ way. way) (low_session prog) c c m f.pairs (goes on (seen session)) f.reaches in
@@ -148,7 +148,7 @@ module _ {P W : Type 0} {who : P → W} {log : P → List Pair} where
   -- A program was run, and what its end leads to was done. `ends` is that in the code, `during` in the meaning.
   pub serves_run : {p q : P} {c d : Clock} (prog : Program) (low_way : program.Leaving Position → program.Leaving Spot) (meaning : ℕ → Doing Coming) (after : Job Spot) (end : Result (Unit {0}) (Trouble Exit))
       (s : talk.Session Position) (during : Break (program.Leaving Position) → Job Position → talk.Session Position)
-      (ends : Option (Step Spot)) (session : Session) (result : Result Onward NoMemory)
+      (ends : Option (Step Spot)) (session : Session) (result : Result AfterLine NoMemory)
       → Means who log p q c d low_way (lowered prog) meaning after end
       → ((left : Option (Doing Coming)) → Came low_way (lowered prog) end after left → ends ≡ option_map (λ m. lows prog (outlives during s m)) left)
       → IfOk result (λ on. ends ≡ Some (goes on (seen session)))

@@ -10,7 +10,7 @@ use Rattle.basic_tree.specs.LineVerdicts.{Verdict, HasTree, RefusedFor}
 use Rattle.basic_tree.specs.SpellingStatements.{line_statements}
 use Rattle.basic_tree.specs.StatementViews.{line_of}
 use Rattle.basic_tree.specs.Trees.{LineTree}
-use Rattle.basic_tree.specs.MachineJudge.{judge_of}
+use Rattle.grammar_machine.specs.MachineJudge.{judge_of}
 use Rattle.monitor_calls.specs.Pairs.{Pair}
 use Rattle.job_model.specs.Act.{Gives, Left}
 use Rattle.job_model.specs.Play.{Clock}
@@ -26,8 +26,8 @@ use Rattle.session_model.specs.Serving.{FollowsSession}
 use Rattle.session_model.specs.Talk as talk
 use Rattle.session_model.specs.Talk.{Step, program_by, outlived, reported, run_is_over}
 use Rattle.command_level.specs.declared.session.Session.{Session}
-use Rattle.command_level.specs.declared.session.Onward.{Onward}
-use Rattle.command_level.specs.Onwards.{goes}
+use Rattle.command_level.specs.declared.session.AfterLine.{AfterLine}
+use Rattle.command_level.specs.AfterLines.{goes}
 use Rattle.command_level.specs.Seen.{seen}
 
 -- a session with the places of a program's code
@@ -51,13 +51,13 @@ pub record Stands (session : Session) (s : talk.Session Position) : Type 0 where
   pub fits : StopFits program s
 
 -- what is left behind an answer: onward in a session for which the code's stands; where memory ran out nothing is told
-abbrev pub LeftBy : Session → Result Onward NoMemory → Option (ℕ → Step Position) → Type 0
+abbrev pub LeftBy : Session → Result AfterLine NoMemory → Option (ℕ → Step Position) → Type 0
 LeftBy session (Ok onward) left = (t : talk.Session Position) × Stands session t × (left ≡ Some (λ most. goes onward t))
 LeftBy session (Err e) left = left ≡ None
 
 -- a call follows what is to be done, up to what is left
 pub record Serves {P W : Type 0} (who : P → W) (log : P → List Pair) (old new : P) (c d : Clock)
-    (step : ℕ → Step Position) (session : Session) (result : Result Onward NoMemory) : Type 0 where
+    (step : ℕ → Step Position) (session : Session) (result : Result AfterLine NoMemory) : Type 0 where
   pub left : Option (ℕ → Step Position)
   pub leaves : LeftBy session result left
   pub follows : FollowsSession who log old new c d step left

@@ -1,35 +1,37 @@
 //! RUN, CONT, and lines of immediate mode.
 
 ghost use Rattle.std.specs.Prelude.{◌≡◌, ◌≤◌, length, IfOk, OnOk, Some};
-ghost use Rattle.basic_tree.specs.MachineJudge.{judge_of};
+ghost use Rattle.grammar_machine.specs.MachineJudge.{judge_of};
 ghost use Rattle.basic_tree.specs.StatementViews.{line_of};
 ghost use Rattle.program_model.specs.Program.{Position, loops_of};
 ghost use Rattle.session_model.specs.Talk as talk;
 ghost use Rattle.std.specs.Option.{option_map};
 ghost use Rattle.basic_eval.specs.Acting.{break_of};
-ghost use Rattle.entrances.specs.Stopping.{leaving_of};
+ghost use Rattle.basic_interpreter.specs.Stopping.{leaving_of};
 ghost use Rattle.session_model.specs.Talk.{answered, begun, does_line, goes_on, headed, immediate};
 ghost use Rattle.session_model.specs.Talk.{program_by, outlived, reads_and_runs, reported};
-ghost use Rattle.session_model.specs.Talk.{run_is_over, runs, runs_file, runs_loaded, stop_by};
+ghost use Rattle.session_model.specs.Talk.{run_is_over, runs, runs_file, runs_loaded, runs_shut, stop_by};
 ghost use Rattle.session_model.specs.ProgramFiles.{program_on};
 ghost use Rattle.session_model.specs.Texts.{lowering_text};
-ghost use Rattle.command_level.specs.Onwards.{goes};
+ghost use Rattle.command_level.specs.AfterLines.{goes};
 ghost use Rattle.command_level.specs.Seen.{seen};
 ghost use Rattle.command_level.specs.Standing.{Serves, Stands, is_gone, line_ends, low_session};
 ghost use Rattle.command_level.specs.Standing.{run_ends};
 
 use crate::filing::{is_blank_text, program_on, spec_read};
 use crate::judging::{cause_text, refusal_text, tree_of};
-use crate::session::{ILLEGAL_COMMAND, NOT_IN_STAGE, Onward, Session};
+use crate::session::{AfterLine, ILLEGAL_COMMAND, NOT_IN_STAGE, Session};
+use basic_interpreter::{
+    Clock, Exit, Stop, clear, continue_program, run_line, run_program, write_ending,
+};
 use basic_tree::Line;
 use basic_values::errors::DATA_FORMAT_ERROR;
 use basic_values::{Fault, LINE_LENGTH, NoMemory, Trouble};
-use entrances::{Clock, Exit, Stop, clear, continue_program, run_line, run_program, write_ending};
 use file_names::Spec;
 use itoa::Buffer;
 use lowering::{loops_in_line, loops_in_program, lower, lower_now};
 use monitor_calls::{Account, Page, Port, Short};
-use program_code::Code;
+use polish_code::Code;
 use program_files::read_pages;
 use program_model::LowerRefusal;
 use stage_forms::is_in_stage;
@@ -46,12 +48,30 @@ impl Session {
         with_name: bool,
         clock: &mut Clock,
         port: &mut P,
-    ) -> Result<Onward, NoMemory>
+    ) -> Result<AfterLine, NoMemory>
         ensures { (s : talk.Session Position) → Stands self.old s
             → Serves P.who P.log port.old port.new clock.old clock.new
             (λ most. runs (program_by judge_of s.lines) most (headed with_name s)) self.new result }
     {
-        self.begin_run(alloc, with_name)?;
+        self.write_name(with_name)?;
+        match self.running.storage.shut_all(alloc, port) {
+            Ok(()) => self.run_shut(alloc, clock, port),
+            Err(stop) => self.break_off(stop),
+        }
+    }
+
+    /// The same, behind its name and the closing of all channels.
+    fn run_shut<P: Port>(
+        &mut self,
+        alloc: Global,
+        clock: &mut Clock,
+        port: &mut P,
+    ) -> Result<AfterLine, NoMemory>
+        ensures { (s : talk.Session Position) → Stands self.old s
+            → Serves P.who P.log port.old port.new clock.old clock.new
+            (λ most. runs_shut (program_by judge_of s.lines) most s) self.new result }
+    {
+        self.begin_run(alloc)?;
         match lower(alloc, self.text.program()) {
             Ok(code) => {
                 let end = run_program(self.text.program(), &code, &mut self.running, clock, port);
@@ -62,13 +82,12 @@ impl Session {
         }
     }
 
-    /// What a program finds that begins, behind its name where that is wanted.
-    fn begin_run(&mut self, alloc: Global, with_name: bool) -> Result<(), NoMemory>
+    /// What a program finds that begins.
+    fn begin_run(&mut self, alloc: Global) -> Result<(), NoMemory>
         ensures { (s : talk.Session Position) → Stands self.old s
             → OnOk result (low_session (program_by judge_of s.lines)
-            (begun (program_by judge_of s.lines) (headed with_name s)) ≡ seen self.new) }
+            (begun (program_by judge_of s.lines) s) ≡ seen self.new) }
     {
-        self.write_name(with_name)?;
         self.stop = None;
         let loops = loops_in_program(alloc, self.text.program())?;
         clear(&mut self.running, loops)
@@ -82,7 +101,7 @@ impl Session {
         tail: &[u8],
         clock: &mut Clock,
         port: &mut P,
-    ) -> Result<Onward, NoMemory>
+    ) -> Result<AfterLine, NoMemory>
         ensures { (s : talk.Session Position) → Stands self.old s
             → Serves P.who P.log port.old port.new clock.old clock.new
             (λ most. runs_file judge_of most own tail.now s) self.new result }
@@ -103,7 +122,7 @@ impl Session {
         spec: &Spec,
         clock: &mut Clock,
         port: &mut P,
-    ) -> Result<Onward, NoMemory>
+    ) -> Result<AfterLine, NoMemory>
         ensures { (s : talk.Session Position) → Stands self.old s
             → Serves P.who P.log port.old port.new clock.old clock.new
             (λ most. reads_and_runs judge_of most spec.now s) self.new result }
@@ -122,7 +141,7 @@ impl Session {
         pages: &[Page],
         clock: &mut Clock,
         port: &mut P,
-    ) -> Result<Onward, NoMemory>
+    ) -> Result<AfterLine, NoMemory>
         ensures { (s : talk.Session Position) → Stands self.old s
             → Serves P.who P.log port.old port.new clock.old clock.new
             (λ most. runs_loaded judge_of most name (program_on judge_of pages.now) s)
@@ -144,7 +163,7 @@ impl Session {
         alloc: Global,
         clock: &mut Clock,
         port: &mut P,
-    ) -> Result<Onward, NoMemory>
+    ) -> Result<AfterLine, NoMemory>
         ensures { (s : talk.Session Position) → Stands self.old s
             → Serves P.who P.log port.old port.new clock.old clock.new
             (λ most. goes_on (program_by judge_of s.lines) most s.stop s) self.new result }
@@ -162,7 +181,7 @@ impl Session {
         stop: Stop,
         clock: &mut Clock,
         port: &mut P,
-    ) -> Result<Onward, NoMemory>
+    ) -> Result<AfterLine, NoMemory>
         requires { self.old.stop ≡ Some stop }
         ensures { (s : talk.Session Position) → Stands self.old s
             → Serves P.who P.log port.old port.new clock.old clock.new
@@ -185,7 +204,7 @@ impl Session {
         statement: &[u8],
         clock: &mut Clock,
         port: &mut P,
-    ) -> Result<Onward, NoMemory>
+    ) -> Result<AfterLine, NoMemory>
         requires { length statement.now ≤ LINE_LENGTH }
         ensures { (s : talk.Session Position) → Stands self.old s
             → Serves P.who P.log port.old port.new clock.old clock.new
@@ -205,7 +224,7 @@ impl Session {
         line: &Line,
         clock: &mut Clock,
         port: &mut P,
-    ) -> Result<Onward, NoMemory>
+    ) -> Result<AfterLine, NoMemory>
         ensures { (s : talk.Session Position) → Stands self.old s
             → Serves P.who P.log port.old port.new clock.old clock.new
             (λ most. does_line (line_of line.now) most s) self.new result }
@@ -226,7 +245,7 @@ impl Session {
 
     /// The end of a program that ran. Where it left the body of a function that was not called,
     /// that is an end as any other.
-    fn end_run(&mut self, end: Result<(), Trouble<Exit>>) -> Result<Onward, NoMemory>
+    fn end_run(&mut self, end: Result<(), Trouble<Exit>>) -> Result<AfterLine, NoMemory>
         ensures { IfOk result (λ onward.
             run_ends end (seen self.old) ≡ Some (goes onward (seen self.new))) }
     {
@@ -239,23 +258,23 @@ impl Session {
 
     /// Its report, the STOP for CONT, and Ready.
     #[tactic(auto, using(crate::proofs::Lows::outlived))]
-    fn end_run_by(&mut self, why: Exit) -> Result<Onward, NoMemory>
+    fn end_run_by(&mut self, why: Exit) -> Result<AfterLine, NoMemory>
         ensures { IfOk result (λ onward.
             outlived (run_is_over (seen self.old)) (seen self.old) (break_of why)
             (seen self.old).job
             ≡ goes onward (seen self.new)) }
     {
         if is_gone(&why) {
-            return Ok(Onward::Expired);
+            return Ok(AfterLine::Expired);
         }
         let stop = stop_by(&why);
         self.report(why)?;
         self.stop = stop;
-        Ok(Onward::Next)
+        Ok(AfterLine::Next)
     }
 
     /// The end of a line of immediate mode.
-    fn end_line(&mut self, end: Result<(), Trouble<Exit>>) -> Result<Onward, NoMemory>
+    fn end_line(&mut self, end: Result<(), Trouble<Exit>>) -> Result<AfterLine, NoMemory>
         ensures { IfOk result (λ onward.
             line_ends end (seen self.old) ≡ Some (goes onward (seen self.new))) }
     {
@@ -268,16 +287,16 @@ impl Session {
 
     /// Its report, and Ready.
     #[tactic(auto, using(crate::proofs::Lows::outlived))]
-    fn end_line_by(&mut self, why: Exit) -> Result<Onward, NoMemory>
+    fn end_line_by(&mut self, why: Exit) -> Result<AfterLine, NoMemory>
         ensures { IfOk result (λ onward.
             outlived (reported (seen self.old)) (seen self.old) (break_of why) (seen self.old).job
             ≡ goes onward (seen self.new)) }
     {
         if is_gone(&why) {
-            return Ok(Onward::Expired);
+            return Ok(AfterLine::Expired);
         }
         self.report(why)?;
-        Ok(Onward::Next)
+        Ok(AfterLine::Next)
     }
 
     /// What is written at an end, and Ready.
@@ -290,7 +309,7 @@ impl Session {
     }
 
     /// A program or a line that is refused before it runs.
-    fn refuse(&mut self, refusal: LowerRefusal) -> Result<Onward, NoMemory>
+    fn refuse(&mut self, refusal: LowerRefusal) -> Result<AfterLine, NoMemory>
         ensures { IfOk result (λ onward.
             answered (lowering_text refusal) (seen self.old) ≡ goes onward (seen self.new)) }
     {

@@ -9,7 +9,7 @@ ghost use Rattle.std.specs.Prelude.{◌≡◌, ◌≤◌, ℕ, List, length, IfO
 ghost use Rattle.monitor_calls.specs.Pairs.{Pair, requests, replies, Grew};
 ghost use Rattle.monitor_calls.specs.declared.calls.Request.TheVariants as request;
 ghost use Rattle.basic_eval.specs.Acting as acting;
-ghost use Rattle.basic_tree.specs.MachineJudge.{judge_of};
+ghost use Rattle.grammar_machine.specs.MachineJudge.{judge_of};
 ghost use Rattle.job_model.specs.Asking.{counts_as};
 ghost use Rattle.job_model.specs.Play as play;
 ghost use Rattle.job_model.specs.Follow.{Follows, unless_memory};
@@ -20,13 +20,13 @@ ghost use Rattle.session_model.specs.Talk.{log_out, new_job, rests, visitor_acts
 ghost use Rattle.session_model.specs.Talk.{line_acts, leave, TakesKey, IsTalk, BeginsTalk};
 ghost use Rattle.command_level.specs.Seen.{seen, login_seen, command_seen, IsShort};
 ghost use Rattle.command_level.specs.Standing.{Serves, Stands};
-ghost use Rattle.command_level.specs.Onwards.{goes};
+ghost use Rattle.command_level.specs.AfterLines.{goes};
 ghost use Rattle.std.specs.Option.{option_map};
 
 use crate::commands::{Command, command_of};
 use crate::logins::LoginForm;
+use basic_interpreter::{Clock, Exit, Running, Stack, Stop, Storage};
 use basic_values::{KeyLine, LINE_LENGTH, NoMemory, Trouble};
-use entrances::{Clock, Exit, Running, Stack, Stop, Storage};
 use error_trap::Trap;
 use job_model::is_error;
 use line_editor::ProgramText;
@@ -42,9 +42,15 @@ pub(crate) const NOT_IN_STAGE: &[u8] = b"?Not in this stage\r\n";
 /// The answer to a command with a wrong tail.
 pub(crate) const ILLEGAL_COMMAND: &[u8] = b"?Illegal command\r\n";
 
+/// What stands for an account before a login.
+const NO_ACCOUNT: Account = Account {
+    project: 0,
+    programmer: 0,
+};
+
 /// Whether the session goes on behind a line.
 #[derive(Clone, Copy)]
-pub(crate) enum Onward {
+pub(crate) enum AfterLine {
     Next,
     /// It has ended by BYE.
     Ended,
@@ -80,9 +86,9 @@ pub fn serve<P: Port>(alloc: Global, keys: &[KeyLine], port: &mut P) -> Result<S
     let mut clock = Clock::new();
     while let Some(line) = session.next_key() {
         match session.take_line(alloc, &line, &mut clock, port)? {
-            Onward::Next => {}
-            Onward::Ended => return Ok(session.into_screen()),
-            Onward::Expired => {
+            AfterLine::Next => {}
+            AfterLine::Ended => return Ok(session.into_screen()),
+            AfterLine::Expired => {
                 session.expire()?;
                 return Ok(session.into_screen());
             }
@@ -114,7 +120,7 @@ fn at_rest(alloc: Global, keys: &[KeyLine]) -> Result<Running, NoMemory>
     let buffers = Buffers::new(alloc)?;
     Ok(Running {
         alloc,
-        storage: Storage::new(alloc, buffers),
+        storage: Storage::new(alloc, NO_ACCOUNT, buffers),
         screen: Screen::new(alloc),
         keys,
         trap: Trap::new(),
@@ -147,7 +153,7 @@ impl Session {
         line: &KeyLine,
         clock: &mut Clock,
         port: &mut P,
-    ) -> Result<Onward, NoMemory>
+    ) -> Result<AfterLine, NoMemory>
         ensures { (s : talk.Session Position) → Stands self.old s
             → Serves P.who P.log port.old port.new clock.old clock.new
             (λ most. line_acts judge_of most line.now s) self.new result }
@@ -168,18 +174,18 @@ impl Session {
         alloc: Global,
         command: &Command<'_>,
         port: &mut P,
-    ) -> Result<Onward, NoMemory>
+    ) -> Result<AfterLine, NoMemory>
         ensures { (clock : play.Clock) → Follows P.who P.log port.old port.new clock clock
             (visitor_acts (command_seen command.now) (seen self.old))
             (unless_memory result (λ onward. goes onward (seen self.new))) }
     {
         match command {
             Command::Hello(form) => self.hello(alloc, *form, port),
-            Command::Bye => Ok(Onward::Ended),
+            Command::Bye => Ok(AfterLine::Ended),
             Command::BadBye => self.answer(ILLEGAL_COMMAND),
             _ => {
                 self.running.screen.write(b"Please say HELLO\r\n")?;
-                Ok(Onward::Next)
+                Ok(AfterLine::Next)
             }
         }
     }
@@ -192,7 +198,7 @@ impl Session {
         command: &Command<'_>,
         clock: &mut Clock,
         port: &mut P,
-    ) -> Result<Onward, NoMemory>
+    ) -> Result<AfterLine, NoMemory>
         requires { IsShort (command_seen command.now) }
         ensures { (s : talk.Session Position) → Stands self.old s
             → Serves P.who P.log port.old port.new clock.old clock.new
@@ -215,7 +221,7 @@ impl Session {
         account: Account,
         command: &Command<'_>,
         port: &mut P,
-    ) -> Result<Onward, NoMemory>
+    ) -> Result<AfterLine, NoMemory>
         requires { IsShort (command_seen command.now) }
         ensures { (clock : play.Clock) → Follows P.who P.log port.old port.new clock clock
             (rests judge_of account (command_seen command.now) (seen self.old))
@@ -225,11 +231,11 @@ impl Session {
             Command::Hello(_) => self.answer(b"?Already logged in\r\n"),
             Command::Bye => {
                 self.log_out(alloc, port)?;
-                Ok(Onward::Ended)
+                Ok(AfterLine::Ended)
             }
             Command::BadBye => self.answer(ILLEGAL_COMMAND),
-            Command::Idle => Ok(Onward::Next),
-            Command::New(naming) => self.begin_new(alloc, *naming),
+            Command::Idle => Ok(AfterLine::Next),
+            Command::New(naming) => self.begin_new(alloc, *naming, port),
             Command::Rename(naming) => self.rename(*naming),
             Command::ListLines { with_name, range } => self.list(*with_name, *range),
             Command::Delete(range) => self.delete(*range),
@@ -238,20 +244,20 @@ impl Session {
             Command::Save { kind, tail } => self.save(alloc, account, *kind, tail, port),
             Command::Unsave(tail) => self.unsave(alloc, account, tail, port),
             Command::Catalog(of) => self.catalog(alloc, account, *of, port),
-            Command::Numbered(line) => self.edit(alloc, line),
-            _ => Ok(Onward::Next),
+            Command::Numbered(line) => self.put_line(line),
+            _ => Ok(AfterLine::Next),
         }
     }
 
     /// A command that is done: its text, and Ready at the start of a line.
-    pub(crate) fn answer(&mut self, text: &[u8]) -> Result<Onward, NoMemory>
+    pub(crate) fn answer(&mut self, text: &[u8]) -> Result<AfterLine, NoMemory>
         ensures { IfOk result (λ onward.
             answered text.now (seen self.old)
             ≡ goes onward (seen self.new)) }
     {
         self.running.screen.write(text)?;
         self.be_ready()?;
-        Ok(Onward::Next)
+        Ok(AfterLine::Next)
     }
 
     /// Ready, at the start of a line.
@@ -285,7 +291,7 @@ impl Session {
         alloc: Global,
         form: Option<LoginForm>,
         port: &mut P,
-    ) -> Result<Onward, NoMemory>
+    ) -> Result<AfterLine, NoMemory>
         ensures { (clock : play.Clock) → Follows P.who P.log port.old port.new clock clock
             (hello (option_map login_seen form) (seen self.old))
             (unless_memory result (λ onward. goes onward (seen self.new))) }
@@ -293,7 +299,7 @@ impl Session {
         match form {
             None => {
                 self.running.screen.write(b"Invalid entry - try again\r\n")?;
-                Ok(Onward::Next)
+                Ok(AfterLine::Next)
             }
             Some(form) => {
                 let account = form.account;
@@ -308,7 +314,7 @@ impl Session {
     }
 
     /// What the reply to a login leads to. A reply that is none to it counts as Expired.
-    fn enter(&mut self, account: Account, reply: &Reply) -> Result<Onward, NoMemory>
+    fn enter(&mut self, account: Account, reply: &Reply) -> Result<AfterLine, NoMemory>
         ensures { IfOk result (λ onward. (password : List ℕ) →
             entered account (counts_as (request.Login account password) reply.now) (seen self.old)
             ≡ goes onward (seen self.new)) }
@@ -316,14 +322,15 @@ impl Session {
         match reply {
             Reply::Done => {
                 self.account = Some(account);
+                self.running.storage.act_for(account);
                 self.be_ready()?;
-                Ok(Onward::Next)
+                Ok(AfterLine::Next)
             }
             Reply::Failed(fault) if is_error(*fault) => {
                 self.running.screen.write(b"Invalid entry - try again\r\n")?;
-                Ok(Onward::Next)
+                Ok(AfterLine::Next)
             }
-            _ => Ok(Onward::Expired),
+            _ => Ok(AfterLine::Expired),
         }
     }
 
@@ -333,7 +340,7 @@ impl Session {
     fn log_out<P: Port>(&mut self, alloc: Global, port: &mut P) -> Result<(), NoMemory>
         ensures { (clock : play.Clock) → Follows P.who P.log port.old port.new clock clock
             (log_out (seen self.old))
-            (unless_memory result (λ done. goes Onward.Ended (seen self.new))) }
+            (unless_memory result (λ done. goes AfterLine.Ended (seen self.new))) }
     {
         port.ask(alloc, Request::Logout)?;
         self.running.screen.write(b"Bye\r\n")?;
@@ -345,7 +352,7 @@ impl Session {
     fn leave<P: Port>(&mut self, alloc: Global, port: &mut P) -> Result<(), NoMemory>
         ensures { (clock : play.Clock) → Follows P.who P.log port.old port.new clock clock
             (leave self.old.account (seen self.old))
-            (unless_memory result (λ done. goes Onward.Ended (seen self.new))) }
+            (unless_memory result (λ done. goes AfterLine.Ended (seen self.new))) }
     {
         match self.account {
             None => Ok(()),

@@ -5,7 +5,7 @@ use Rattle.std.specs.Cmp.Lexicographic.{bytes_decides}
 use Rattle.monitor_calls.specs.Names.{is_capital_or_digit}
 use Rattle.deck_model.specs.declared.versions.Version.{Version}
 use Rattle.deck_model.specs.declared.versions.Version.TheVariants.{One, Two}
-use Rattle.deck_model.specs.Forms.{Form, Heading, Disk, Account, File, Terminal, Keys, End, AccountTexts, FileTexts, heading, account_text, file_text, line_of, is_numeral, is_numeral_or_none, is_name, is_formed}
+use Rattle.deck_model.specs.Forms.{LineForm, Heading, Disk, Account, File, Terminal, Keys, End, AccountTexts, FileTexts, heading, account_text, file_text, line_of, is_numeral, is_numeral_or_none, is_name, is_formed}
 use Rattle.deck_model.specs.Fronts.{Front, Nothing, Versioned, InAccounts, InFile, InTerminal, Whole, MayTell, May}
 use Rattle.deck_model.specs.Refusals.{HasForm}
 use Rattle.basic_values.specs.Cuts.{behind}
@@ -16,23 +16,23 @@ use Rattle.deck_model.proofs.FieldLaws.{lacks_unlike, numeral_lacks, some_is, te
 -- ---- what is found
 
 -- the form is well formed, and the line is its line
-record Took (line : List ℕ) (form : Form) : Type 0 where
+record Took (line : List ℕ) (form : LineForm) : Type 0 where
   formed : is_formed form ≡ true
   line_is : line ≡ line_of form
 
-took_has : (front : Front) (line : List ℕ) (made form : Form) → May front made → Took line made → made ≡ form → HasForm front line form
+took_has : (front : Front) (line : List ℕ) (made form : LineForm) → May front made → Took line made → made ≡ form → HasForm front line form
 took_has front line made form may took same =
-    subst (λ (f : Form). HasForm front line f) same (record { may = may; is_formed = took.formed; line_is = took.line_is })
+    subst (λ (f : LineForm). HasForm front line f) same (record { may = may; is_formed = took.formed; line_is = took.line_is })
 
 -- a line is that of a version, or something is found behind that test
-heading_take : (version : Version) (line : List ℕ) (rest : Option Form) (form : Form) → cond (bytes_eq line (heading version)) (Some (Heading version)) rest ≡ Some form → (Took line (Heading version) × (Heading version ≡ form)) ⊎ (rest ≡ Some form)
+heading_take : (version : Version) (line : List ℕ) (rest : Option LineForm) (form : LineForm) → cond (bytes_eq line (heading version)) (Some (Heading version)) rest ≡ Some form → (Took line (Heading version) × (Heading version ≡ form)) ⊎ (rest ≡ Some form)
 heading_take version line rest form e = go (bytes_eq line (heading version)) refl e
   where
     go : (b : Bool) → bytes_eq line (heading version) ≡ b → cond b (Some (Heading version)) rest ≡ Some form → (Took line (Heading version) × (Heading version ≡ form)) ⊎ (rest ≡ Some form)
     go true same found = inl (record { formed = refl; line_is = (bytes_decides line (heading version)).0 same }, some_is (Heading version) form found)
     go false other found = inr found
 
-version_take : (line : List ℕ) (form : Form) → version_in line ≡ Some form → (version : Version) × Took line (Heading version) × (Heading version ≡ form)
+version_take : (line : List ℕ) (form : LineForm) → version_in line ≡ Some form → (version : Version) × Took line (Heading version) × (Heading version ≡ form)
 unfolding version_in
 version_take line form e =
     ⊎_elim
@@ -44,13 +44,13 @@ version_take line form e =
     (heading_take Two line None form rest))
     (heading_take One line (cond (bytes_eq line (heading Two)) (Some (Heading Two)) None) form e)
 
-end_take : (line : List ℕ) (form : Form) → end_in line ≡ Some form → Took line End × (End ≡ form)
+end_take : (line : List ℕ) (form : LineForm) → end_in line ≡ Some form → Took line End × (End ≡ form)
 unfolding end_in
 end_take line form e =
     let g = guard_some (bytes_eq line (codes "END")) End form e in
     (record { formed = refl; line_is = (bytes_decides line (codes "END")).0 g.0 }, g.1)
 
-disk_take : (line : List ℕ) (form : Form) → disk_in line ≡ Some form → (blocks : List ℕ) × Took line (Disk blocks) × (Disk blocks ≡ form)
+disk_take : (line : List ℕ) (form : LineForm) → disk_in line ≡ Some form → (blocks : List ℕ) × Took line (Disk blocks) × (Disk blocks ≡ form)
 unfolding disk_in
 disk_take line form e =
     let a = bind_some (behind (codes "DISK ") line) (λ blocks. cond (is_numeral blocks) (Some (Disk blocks)) None) form e in
@@ -60,7 +60,7 @@ disk_take line form e =
 abbrev are_texts : AccountTexts → Bool
 are_texts t = is_numeral t.project && is_numeral t.programmer && is_name t.password && is_numeral t.limit && is_numeral_or_none t.quota
 
-account_take : (version : Version) (line : List ℕ) (form : Form) → account_in version line ≡ Some form → (t : AccountTexts) × MayTell version t.quota × Took line (Account t) × (Account t ≡ form)
+account_take : (version : Version) (line : List ℕ) (form : LineForm) → account_in version line ≡ Some form → (t : AccountTexts) × MayTell version t.quota × Took line (Account t) × (Account t ≡ form)
 unfolding account_in
 account_take version line form e =
     let a = bind_some (texts_in version line) (λ t. cond (are_texts t) (Some (Account t)) None) form e in
@@ -68,21 +68,21 @@ account_take version line form e =
     let t = texts_take version line a.0 a.1 in
     (a.0, t.0, record { formed = g.0; line_is = t.1 }, g.1)
 
-file_take : (line : List ℕ) (form : Form) → file_in line ≡ Some form → (t : FileTexts) × Took line (File t) × (File t ≡ form)
+file_take : (line : List ℕ) (form : LineForm) → file_in line ≡ Some form → (t : FileTexts) × Took line (File t) × (File t ≡ form)
 unfolding file_in
 file_take line form e =
     let a = bind_some (file_texts_in line) (λ t. cond (are_file_texts t) (Some (File t)) None) form e in
     let g = guard_some (are_file_texts a.0) (File a.0) form a.2 in
     (a.0, record { formed = g.0; line_is = file_texts_take line a.0 a.1 }, g.1)
 
-terminal_take : (line : List ℕ) (form : Form) → terminal_in line ≡ Some form → (name : List ℕ) × Took line (Terminal name) × (Terminal name ≡ form)
+terminal_take : (line : List ℕ) (form : LineForm) → terminal_in line ≡ Some form → (name : List ℕ) × Took line (Terminal name) × (Terminal name ≡ form)
 unfolding terminal_in
 terminal_take line form e =
     let a = bind_some (behind (codes "TERMINAL ") line) (λ name. cond (is_name name) (Some (Terminal name)) None) form e in
     let g = guard_some (is_name a.0) (Terminal a.0) form a.2 in
     (a.0, record { formed = g.0; line_is = behind_takes (codes "TERMINAL ") line a.0 a.1 }, g.1)
 
-keys_take : (line : List ℕ) (form : Form) → keys_in line ≡ Some form → (keys : List ℕ) × Took line (Keys keys) × (Keys keys ≡ form)
+keys_take : (line : List ℕ) (form : LineForm) → keys_in line ≡ Some form → (keys : List ℕ) × Took line (Keys keys) × (Keys keys ≡ form)
 unfolding keys_in
 keys_take line form e =
     let a = bind_some (behind (codes ">") line) (λ keys. Some (Keys keys)) form e in
@@ -93,7 +93,7 @@ else_some None b y e = inr e
 else_some (Some a) b y e = inl e
 
 -- what is found is a form that the line has
-pub form_takes : (front : Front) (line : List ℕ) (form : Form) → form_at front line ≡ Some form → HasForm front line form
+pub form_takes : (front : Front) (line : List ℕ) (form : LineForm) → form_at front line ≡ Some form → HasForm front line form
 unfolding form_at groups_in contents_in session_in
 form_takes Nothing line form e =
     let v = version_take line form e in
@@ -192,7 +192,7 @@ file_found : (t : FileTexts) → are_file_texts t ≡ true → file_in (file_tex
 unfolding file_in
 file_found t formed = rw (file_texts_again t (plain_texts t formed), formed) refl
 
-pub form_again : (front : Front) (form : Form) → May front form → is_formed form ≡ true → form_at front (line_of form) ≡ Some form
+pub form_again : (front : Front) (form : LineForm) → May front form → is_formed form ≡ true → form_at front (line_of form) ≡ Some form
 unfolding form_at groups_in contents_in session_in version_in disk_in account_in texts_in file_in file_texts_in terminal_in keys_in end_in
 form_again Nothing (Heading version) may formed = heading_found version
 form_again (Versioned version) (Disk blocks) may formed = rw formed refl

@@ -15,7 +15,7 @@ use Rattle.deck_model.specs.declared.versions.Version.{Version}
 use Rattle.deck_model.specs.Files.{text_of, FitsText, file_entry}
 use Rattle.deck_model.specs.Deck as model
 use Rattle.deck_model.specs.Deck.{Deck, IsDeck, IsTerminal, IsKeyLine, has_terminal}
-use Rattle.deck_model.specs.Forms.{Form, Heading, Disk, Account, File, Terminal, Keys, End, AccountTexts, FileTexts, line_of, is_formed}
+use Rattle.deck_model.specs.Forms.{LineForm, Heading, Disk, Account, File, Terminal, Keys, End, AccountTexts, FileTexts, line_of, is_formed}
 use Rattle.deck_model.specs.Spelling.{texts_of, account_line, file_texts, file_lines, key_line, terminal_lines, group_lines, IsQuota}
 use Rattle.deck_model.specs.Fronts.{Front, Nothing, Versioned, InAccounts, InFile, InTerminal, with_account, with_file, with_text, with_terminal, with_keys, bare_deck, front_lines, IsFront, May, entry_of, new_file, new_terminal, adds}
 use Rattle.deck_model.specs.Refusals.{first_cause, text_causes, causes, shape_cause, HasForm, IsRefused}
@@ -164,7 +164,7 @@ keys_more version deck terminal keys is e =
 empty_fits : (texts : FileTexts) → FitsText (new_file texts)
 empty_fits texts = omega arith
 
-pub adds_front : (front : Front) (form : Form) → IsFront front → May front form → first_cause (causes front form) ≡ None → Follows (adds front form) front (line_of form)
+pub adds_front : (front : Front) (form : LineForm) → IsFront front → May front form → first_cause (causes front form) ≡ None → Follows (adds front form) front (line_of form)
 adds_front Nothing (Heading version) is may e = record { is_front = tt; lines_are = refl }
 adds_front (Versioned version) (Disk blocks) is may e =
     let a = no_cause (not (is_number_between 1 16384 blocks)) _ _ e in
@@ -229,7 +229,7 @@ adds_front front form is may e = absurd may
 
 -- ---- what one line comes to
 
-pub line_behind : (front : Front) (form : Form) → May front form → is_formed form ≡ true → first_cause (causes front form) ≡ None → behind_line front (line_of form) ≡ Ok (adds front form)
+pub line_behind : (front : Front) (form : LineForm) → May front form → is_formed form ≡ true → first_cause (causes front form) ≡ None → behind_line front (line_of form) ≡ Ok (adds front form)
 unfolding behind_line behind_form
 line_behind front form may formed none = rw (form_again front form may formed, none) refl
 
@@ -247,7 +247,7 @@ disk_behind version blocks size =
 
 -- a line that is taken has a form for which no cause applies
 pub record Takes (front : Front) (line : List ℕ) (next : Front) : Type 0 where
-  pub form : Form
+  pub form : LineForm
   pub has : HasForm front line form
   pub none : first_cause (causes front form) ≡ None
   pub next_is : adds front form ≡ next
@@ -280,7 +280,7 @@ unfolding refused taken
 unless_wrong front why None e = absurd (not_taken front front why (sym e))
 unless_wrong front why (Some other) e = ap (λ (c : DeckCause). Some c) (same_why front other why e)
 
-found_takes : (front : Front) (line : List ℕ) (next : Front) (o : Option Form) → form_at front line ≡ o → behind_form front o ≡ taken next → Takes front line next
+found_takes : (front : Front) (line : List ℕ) (next : Front) (o : Option LineForm) → form_at front line ≡ o → behind_form front o ≡ taken next → Takes front line next
 unfolding behind_form refused taken
 found_takes front line next None at e = absurd (not_taken front next (shape_cause front) e)
 found_takes front line next (Some form) at e =
@@ -291,14 +291,14 @@ pub line_takes : (front : Front) (line : List ℕ) (next : Front) → behind_lin
 unfolding behind_line taken
 line_takes front line next e = found_takes front line next (form_at front line) refl e
 
-some_form : Form → Option Form
+some_form : LineForm → Option LineForm
 some_form form = Some form
 
-none_some : (form : Form) → None ≡ some_form form → ⊥
+none_some : (form : LineForm) → None ≡ some_form form → ⊥
 unfolding some_form
 none_some form e = cc
 
-found_refuses : (front : Front) (line : List ℕ) (why : DeckCause) (o : Option Form) → form_at front line ≡ o → behind_form front o ≡ refused front why → IsRefused front line why
+found_refuses : (front : Front) (line : List ℕ) (why : DeckCause) (o : Option LineForm) → form_at front line ≡ o → behind_form front o ≡ refused front why → IsRefused front line why
 unfolding behind_form refused some_form
 found_refuses front line why None at e =
     inl (λ form has. none_some form (sym at ∙ ap (form_at front) has.line_is ∙ form_again front form has.may has.is_formed), same_why front why (shape_cause front) (sym e))
@@ -309,7 +309,7 @@ pub line_refuses : (front : Front) (line : List ℕ) (why : DeckCause) → behin
 unfolding behind_line refused
 line_refuses front line why e = found_refuses front line why (form_at front line) refl e
 
-no_form : (front : Front) (line : List ℕ) (o : Option Form) → form_at front line ≡ o → ((form : Form) → HasForm front line form → ⊥) → behind_form front o ≡ Err (shape_cause front)
+no_form : (front : Front) (line : List ℕ) (o : Option LineForm) → form_at front line ≡ o → ((form : LineForm) → HasForm front line form → ⊥) → behind_form front o ≡ Err (shape_cause front)
 unfolding behind_form
 no_form front line None at none = refl
 no_form front line (Some form) at none = absurd (none form (form_takes front line form at))

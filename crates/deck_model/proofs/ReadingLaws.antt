@@ -13,11 +13,11 @@ use Rattle.deck_model.specs.Files.{text_of, FitsText}
 use Rattle.deck_model.specs.Deck as model
 use Rattle.deck_model.specs.Deck.{Deck, IsDeck, IsKeyLine, AreTerminals}
 use Rattle.deck_model.specs.Lines.{whole_lines, cut_line}
-use Rattle.deck_model.specs.Forms.{Form, Heading, Disk, Account, File, Terminal, Keys, End, line_of, is_name}
+use Rattle.deck_model.specs.Forms.{LineForm, Heading, Disk, Account, File, Terminal, Keys, End, line_of, is_name}
 use Rattle.deck_model.specs.Spelling.{texts_of, account_line, file_texts, file_lines, key_line, terminal_lines, group_lines, deck_lines, IsQuota, Spelled}
 use Rattle.deck_model.specs.Fronts.{Front, Nothing, Versioned, InAccounts, InFile, InTerminal, Whole, with_file, with_terminal, front_lines, IsDeckIn, IsFront, May, new_file, new_terminal, adds}
 use Rattle.deck_model.specs.Refusals.{first_cause, file_causes, causes, StopsAt, Refused}
-use Rattle.deck_model.specs.Reading.{behind_line, Verdict, Spells, Refuses, at_end, onwards, reading, verdict}
+use Rattle.deck_model.specs.Reading.{behind_line, DeckVerdict, Spells, Refuses, at_end, onwards, reading, verdict}
 use Rattle.basic_values.proofs.CutLaws.{and_right}
 use Rattle.deck_model.proofs.VolumeLaws.{GoodVolume, volume_parts, volume_whole, volume_front, volume_last, FitsAmong, terminals_front, terminals_last, all_front}
 use Rattle.deck_model.proofs.FileLaws.{files_parts, files_whole, files_front}
@@ -48,7 +48,7 @@ leads_both a xs b ys c first second =
           ∙ ap (λ (n : ℕ). reading c n more cut) place;
     }
 
-leads_form : (from : Front) (form : Form) (to : Front) → behind_line from (line_of form) ≡ Ok (adds from form) → adds from form ≡ to → Leads from (line_of form ∷ []) to
+leads_form : (from : Front) (form : LineForm) (to : Front) → behind_line from (line_of form) ≡ Ok (adds from form) → adds from form ≡ to → Leads from (line_of form ∷ []) to
 leads_form from form to e same = leads_line from (line_of form) to (e ∙ ap (λ (f : Front). Ok f) same)
 
 abbrev with_accounts : ℕ → List AccountEntry → Deck
@@ -69,7 +69,7 @@ module _ (version : Version) (blocks : ℕ) where
       let front : GoodVolume blocks ((done ++ e ∷ []) ++ entries) = subst (GoodVolume blocks) (sym regroup) good in
       let fits = volume_last blocks done e (volume_front blocks (done ++ e ∷ []) entries front) in
       let w = written version blocks e fits.good quotas.0 in
-      let form : Form = Account (texts_of version e) in
+      let form : LineForm = Account (texts_of version e) in
       let one : Leads (behind done) (line_of form ∷ []) (behind (done ++ e ∷ [])) =
       leads_form (behind done) form (behind (done ++ e ∷ [])) (line_behind (behind done) form w.may w.formed (account_none version (with_accounts blocks done) e fits w))
       (ap (λ (x : AccountEntry). behind (done ++ x ∷ [])) w.entry_is) in
@@ -353,7 +353,7 @@ record Stopped (all : List (List ℕ)) (cut : List ℕ) (line : ℕ) (why : Deck
   line_is : line ≡ length (front_lines front) + 1
   stops : StopsAt front rest cut why
 
-abbrev IsSo : List (List ℕ) → List ℕ → Verdict → Type 0
+abbrev IsSo : List (List ℕ) → List ℕ → DeckVerdict → Type 0
 IsSo all cut (Spells deck) = (version : Version) × IsDeckIn version deck × (all ≡ deck_lines version deck) × (cut ≡ [])
 IsSo all cut (Refuses line why) = Stopped all cut line why
 
@@ -382,7 +382,7 @@ module _ (all : List (List ℕ)) where
       go (Ok next) e onward = onward next e
       go (Err why) e onward = record { front = front; rest = line ∷ lines; is_front = is; lines_are = so; line_is = place; stops = line_refuses front line why e }
 
-verdict_so : (bytes : List ℕ) (v : Verdict) → verdict bytes ≡ v → IsSo (whole_lines bytes) (cut_line bytes) v
+verdict_so : (bytes : List ℕ) (v : DeckVerdict) → verdict bytes ≡ v → IsSo (whole_lines bytes) (cut_line bytes) v
 unfolding verdict
 verdict_so bytes v e = subst (IsSo (whole_lines bytes) (cut_line bytes)) e (reading_so (whole_lines bytes) Nothing 1 (whole_lines bytes) (cut_line bytes) tt (omega arith) refl)
 

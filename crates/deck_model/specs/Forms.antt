@@ -25,14 +25,14 @@ pub record FileTexts : Type 0 where
 
 -- RSTS-DECK and the version; DISK and blocks; ACCOUNT and its fields; FILE and its fields; TERMINAL
 -- and a name; the keys of a line, or a line of a file's text; END
-pub data Form : Type 0 where
-  Heading : Version → Form
-  Disk : List ℕ → Form
-  Account : AccountTexts → Form
-  File : FileTexts → Form
-  Terminal : List ℕ → Form
-  Keys : List ℕ → Form
-  End : Form
+pub data LineForm : Type 0 where
+  Heading : Version → LineForm
+  Disk : List ℕ → LineForm
+  Account : AccountTexts → LineForm
+  File : FileTexts → LineForm
+  Terminal : List ℕ → LineForm
+  Keys : List ℕ → LineForm
+  End : LineForm
 
 -- the line of a version
 abbrev pub heading : Version → List ℕ
@@ -60,7 +60,7 @@ file_text texts =
     ++ extension_text texts.extension ++ codes "<" ++ texts.code ++ codes "> " ++ texts.blocks)
 
 -- the line of a form
-abbrev pub line_of : Form → List ℕ
+abbrev pub line_of : LineForm → List ℕ
 line_of (Heading version) = heading version
 line_of (Disk blocks) = codes "DISK " ++ blocks
 line_of (Account texts) = account_text texts
@@ -85,7 +85,7 @@ abbrev pub is_name : List ℕ → Bool
 is_name text = list_all is_capital_or_digit text
 
 -- whether numbers stand where numbers have to, and names where names have to
-abbrev pub is_formed : Form → Bool
+abbrev pub is_formed : LineForm → Bool
 is_formed (Heading version) = true
 is_formed (Disk blocks) = is_numeral blocks
 is_formed (Account texts) =

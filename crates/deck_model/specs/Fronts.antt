@@ -6,7 +6,7 @@ use Rattle.deck_model.specs.declared.versions.Version.{Version}
 use Rattle.deck_model.specs.declared.versions.Version.TheVariants.{One, Two}
 use Rattle.deck_model.specs.Deck as model
 use Rattle.deck_model.specs.Deck.{Deck, IsDeck}
-use Rattle.deck_model.specs.Forms.{Form, Heading, Disk, Account, File, Terminal, Keys, End, AccountTexts, FileTexts, line_of}
+use Rattle.deck_model.specs.Forms.{LineForm, Heading, Disk, Account, File, Terminal, Keys, End, AccountTexts, FileTexts, line_of}
 use Rattle.deck_model.specs.Spelling.{group_lines, file_lines, terminal_lines, deck_lines, AreQuotas}
 
 -- No line; the line of the version, which each front behind it keeps; the disk and the accounts; the
@@ -86,7 +86,7 @@ MayTell Two (Some quota) = Unit {0}
 MayTell version quota = ⊥
 
 -- which forms may stand behind a front
-abbrev pub May : Front → Form → Type 0
+abbrev pub May : Front → LineForm → Type 0
 May Nothing (Heading version) = Unit {0}
 May (Versioned version) (Disk blocks) = Unit {0}
 May (InAccounts version deck) (Account texts) = MayTell version texts.quota
@@ -142,7 +142,7 @@ abbrev pub new_terminal : List ℕ → model.Terminal
 new_terminal name = record { name = name; keys = [] }
 
 -- the front behind a line of that form
-abbrev pub adds : Front → Form → Front
+abbrev pub adds : Front → LineForm → Front
 adds Nothing (Heading version) = Versioned version
 adds (Versioned version) (Disk blocks) = InAccounts version (new_deck blocks)
 adds (InAccounts version deck) (Account texts) =

@@ -7,7 +7,7 @@ use Rattle.deck_model.specs.declared.versions.Version.{Version}
 use Rattle.deck_model.specs.declared.versions.Version.TheVariants.{One, Two}
 use Rattle.deck_model.specs.Deck.{Deck}
 use Rattle.deck_model.specs.Lines.{whole_lines, cut_line}
-use Rattle.deck_model.specs.Forms.{Form, Heading, Disk, Account, File, Terminal, Keys, End, AccountTexts, FileTexts, heading, is_numeral, is_numeral_or_none, is_name}
+use Rattle.deck_model.specs.Forms.{LineForm, Heading, Disk, Account, File, Terminal, Keys, End, AccountTexts, FileTexts, heading, is_numeral, is_numeral_or_none, is_name}
 use Rattle.deck_model.specs.Fronts.{Front, Nothing, Versioned, InAccounts, InFile, InTerminal, Whole, adds}
 use Rattle.deck_model.specs.Refusals.{causes, first_cause, shape_cause}
 
@@ -18,12 +18,12 @@ or_else (Some a) other = Some a
 
 -- FORMS
 
-unfoldable pub version_in : List ℕ → Option Form
+unfoldable pub version_in : List ℕ → Option LineForm
 version_in line =
     if bytes_eq line (heading One) then Some (Heading One)
     else if bytes_eq line (heading Two) then Some (Heading Two) else None
 
-unfoldable pub disk_in : List ℕ → Option Form
+unfoldable pub disk_in : List ℕ → Option LineForm
 disk_in line = do
   blocks ← behind (codes "DISK ") line
   if is_numeral blocks then Some (Disk blocks) else None
@@ -51,7 +51,7 @@ texts_in version line = do
     quota = limits.1;
   })
 
-unfoldable pub account_in : Version → List ℕ → Option Form
+unfoldable pub account_in : Version → List ℕ → Option LineForm
 account_in version line = do
   texts ← texts_in version line
   if is_numeral texts.project && is_numeral texts.programmer && is_name texts.password
@@ -90,41 +90,41 @@ are_file_texts texts =
     is_numeral texts.project && is_numeral texts.programmer && is_name texts.stem
     && is_name (unwrap_or texts.extension []) && is_numeral texts.code && is_numeral texts.blocks
 
-unfoldable pub file_in : List ℕ → Option Form
+unfoldable pub file_in : List ℕ → Option LineForm
 file_in line = do
   texts ← file_texts_in line
   if are_file_texts texts then Some (File texts) else None
 
-unfoldable pub terminal_in : List ℕ → Option Form
+unfoldable pub terminal_in : List ℕ → Option LineForm
 terminal_in line = do
   name ← behind (codes "TERMINAL ") line
   if is_name name then Some (Terminal name) else None
 
-unfoldable pub keys_in : List ℕ → Option Form
+unfoldable pub keys_in : List ℕ → Option LineForm
 keys_in line = do
   keys ← behind (codes ">") line
   Some (Keys keys)
 
-unfoldable pub end_in : List ℕ → Option Form
+unfoldable pub end_in : List ℕ → Option LineForm
 end_in line = if bytes_eq line (codes "END") then Some End else None
 
 -- a form among those of accounts
-unfoldable pub groups_in : Version → List ℕ → Option Form
+unfoldable pub groups_in : Version → List ℕ → Option LineForm
 groups_in version line =
     or_else (account_in version line)
     (or_else (file_in line) (or_else (terminal_in line) (end_in line)))
 
 -- a form behind a file
-unfoldable pub contents_in : List ℕ → Option Form
+unfoldable pub contents_in : List ℕ → Option LineForm
 contents_in line =
     or_else (keys_in line) (or_else (file_in line) (or_else (terminal_in line) (end_in line)))
 
 -- a form behind a terminal
-unfoldable pub session_in : List ℕ → Option Form
+unfoldable pub session_in : List ℕ → Option LineForm
 session_in line = or_else (keys_in line) (or_else (terminal_in line) (end_in line))
 
 -- the form that a line has behind a front
-unfoldable pub form_at : Front → List ℕ → Option Form
+unfoldable pub form_at : Front → List ℕ → Option LineForm
 form_at Nothing line = version_in line
 form_at (Versioned version) line = disk_in line
 form_at (InAccounts version deck) line = groups_in version line
@@ -139,7 +139,7 @@ abbrev pub unless_refused : Front → Option DeckCause → Result Front DeckCaus
 unless_refused front None = Ok front
 unless_refused front (Some why) = Err why
 
-unfoldable pub behind_form : Front → Option Form → Result Front DeckCause
+unfoldable pub behind_form : Front → Option LineForm → Result Front DeckCause
 behind_form front None = Err (shape_cause front)
 behind_form front (Some form) = unless_refused (adds front form) (first_cause (causes front form))
 
@@ -150,26 +150,26 @@ behind_line front line = behind_form front (form_at front line)
 -- VERDICTS
 
 -- bytes spell a deck, or are refused at a line, from 1, for a cause
-pub data Verdict : Type 0 where
-  Spells : Deck → Verdict
-  Refuses : ℕ → DeckCause → Verdict
+pub data DeckVerdict : Type 0 where
+  Spells : Deck → DeckVerdict
+  Refuses : ℕ → DeckCause → DeckVerdict
 
 -- where the lines have ended
-abbrev pub at_end : Front → ℕ → List ℕ → Verdict
+abbrev pub at_end : Front → ℕ → List ℕ → DeckVerdict
 at_end (Whole version deck) line [] = Spells deck
 at_end front line cut = Refuses line cause.Cut
 
 -- on to the front behind a line, unless the line is refused
-abbrev pub onwards : Result Front DeckCause → ℕ → (Front → Verdict) → Verdict
+abbrev pub onwards : Result Front DeckCause → ℕ → (Front → DeckVerdict) → DeckVerdict
 onwards (Ok front) number next = next front
 onwards (Err why) number next = Refuses number why
 
 -- what is told of a front, the number of its next line, the lines from there, and a line that is cut
-unfoldable pub reading : Front → ℕ → List (List ℕ) → List ℕ → Verdict
+unfoldable pub reading : Front → ℕ → List (List ℕ) → List ℕ → DeckVerdict
 reading front number [] cut = at_end front number cut
 reading front number (line ∷ lines) cut =
     onwards (behind_line front line) number (λ next. reading next (number + 1) lines cut)
 
 -- what is told of bytes
-unfoldable pub verdict : List ℕ → Verdict
+unfoldable pub verdict : List ℕ → DeckVerdict
 verdict bytes = reading Nothing 1 (whole_lines bytes) (cut_line bytes)

@@ -12,7 +12,7 @@ use Rattle.deck_model.specs.declared.faults.DeckCause.TheVariants as cause
 use Rattle.deck_model.specs.Files.{text_of, has_file, blocks_in, blocks_in_by}
 use Rattle.deck_model.specs.Deck as model
 use Rattle.deck_model.specs.Deck.{Deck, has_terminal}
-use Rattle.deck_model.specs.Forms.{Form, Disk, Account, File, Terminal, Keys, AccountTexts, FileTexts, line_of, is_formed}
+use Rattle.deck_model.specs.Forms.{LineForm, Disk, Account, File, Terminal, Keys, AccountTexts, FileTexts, line_of, is_formed}
 use Rattle.deck_model.specs.Fronts.{Front, Nothing, InAccounts, InFile, Whole, with_text, deck_at, front_lines, IsFront, May, entry_of, new_file}
 use Rattle.deck_model.specs.Lines.{whole_lines, cut_line}
 
@@ -90,7 +90,7 @@ abbrev pub keys_causes : List ℕ → List (Bool × DeckCause)
 keys_causes keys = (nat_lt LINE_LENGTH (length keys), cause.Range) ∷ []
 
 -- why a line of a form that may stand there is refused, if it is
-abbrev pub causes : Front → Form → List (Bool × DeckCause)
+abbrev pub causes : Front → LineForm → List (Bool × DeckCause)
 causes front (Disk blocks) = (not (is_number_between 1 MOST_BLOCKS blocks), cause.Range) ∷ []
 causes (InAccounts version deck) (Account texts) = account_causes deck texts
 causes front (File texts) = file_causes (deck_at front) texts
@@ -105,19 +105,19 @@ shape_cause Nothing = cause.Version
 shape_cause front = cause.Shape
 
 -- the line has a form that may stand there
-pub record HasForm (front : Front) (line : List ℕ) (form : Form) : Type 0 where
+pub record HasForm (front : Front) (line : List ℕ) (form : LineForm) : Type 0 where
   pub may : May front form
   pub is_formed : is_formed form ≡ true
   pub line_is : line ≡ line_of form
 
 -- no form that may stand there is the line's
 abbrev pub IsUnformed : Front → List ℕ → DeckCause → Type 0
-IsUnformed front line why = ((form : Form) → HasForm front line form → ⊥) × (why ≡ shape_cause front)
+IsUnformed front line why = ((form : LineForm) → HasForm front line form → ⊥) × (why ≡ shape_cause front)
 
 -- it has a form, for which a cause applies
 abbrev pub IsFaulty : Front → List ℕ → DeckCause → Type 0
 IsFaulty front line why =
-    (form : Form) × HasForm front line form × (first_cause (causes front form) ≡ Some why)
+    (form : LineForm) × HasForm front line form × (first_cause (causes front form) ≡ Some why)
 
 -- no deck can have the line behind this front, for this cause
 abbrev pub IsRefused : Front → List ℕ → DeckCause → Type 0

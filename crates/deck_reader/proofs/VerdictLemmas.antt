@@ -9,7 +9,7 @@ use Rattle.deck_model.specs.Fronts as fronts
 use Rattle.deck_model.specs.Lines.{whole_lines, cut_line}
 use Rattle.deck_model.specs.Refusals.{Refused}
 use Rattle.deck_model.specs.Spelling.{Spelled}
-use Rattle.deck_model.specs.Reading.{behind_line, Verdict, at_end, onwards, reading, verdict}
+use Rattle.deck_model.specs.Reading.{behind_line, DeckVerdict, at_end, onwards, reading, verdict}
 use Rattle.deck_model.proofs.ReadingLaws.{told_spelled, told_refused}
 use Rattle.deck_reader.specs.declared.decks.Deck.{Deck}
 use Rattle.deck_reader.specs.declared.failures.ReadError.{ReadError}
@@ -18,7 +18,7 @@ use Rattle.deck_reader.specs.declared.fronts.Front.{Front}
 use Rattle.deck_reader.specs.Seen.{deck_of, front_of, Decides, trouble_at, IfRefused, Tells}
 
 -- what is told behind a front, of the lines of these bytes
-abbrev pub told_behind : fronts.Front → ℕ → List ℕ → Verdict
+abbrev pub told_behind : fronts.Front → ℕ → List ℕ → DeckVerdict
 told_behind front number bytes = reading front number (whole_lines bytes) (cut_line bytes)
 
 pub begins : (bytes : List ℕ) → verdict bytes ≡ told_behind fronts.Nothing 1 bytes
@@ -36,7 +36,7 @@ pub goes_on : (front next : fronts.Front) (number : ℕ) (bytes line after : Lis
 goes_on front next number bytes line after first e =
     one_line front number bytes line after first ∙ ap (λ (r : Result fronts.Front DeckCause). onwards r number (λ next. told_behind next (number + 1) after)) e
 
-pub stops : (front : fronts.Front) (error : ReadError) (number : ℕ) (bytes line after : List ℕ) (v : Verdict) → IsFirst bytes line after → Decides {X = Front} front_of (Err error) (behind_line front line) → v ≡ told_behind front number bytes → Tells (Err (trouble_at error number)) v
+pub stops : (front : fronts.Front) (error : ReadError) (number : ℕ) (bytes line after : List ℕ) (v : DeckVerdict) → IsFirst bytes line after → Decides {X = Front} front_of (Err error) (behind_line front line) → v ≡ told_behind front number bytes → Tells (Err (trouble_at error number)) v
 stops front errors.Memory number bytes line after v first decides told = tt
 stops front (errors.Refused why) number bytes line after v first decides told =
     told ∙ one_line front number bytes line after first ∙ ap (λ (r : Result fronts.Front DeckCause). onwards r number (λ next. told_behind next (number + 1) after)) decides

@@ -16,7 +16,7 @@ use Rattle.deck_model.specs.Deck as model
 use Rattle.deck_model.specs.Forms as forms
 use Rattle.deck_model.specs.Fronts as fronts
 use Rattle.deck_model.specs.Lines.{whole_lines, cut_line}
-use Rattle.deck_model.specs.Reading.{Verdict, Spells, Refuses}
+use Rattle.deck_model.specs.Reading.{DeckVerdict, Spells, Refuses}
 use Rattle.deck_reader.specs.declared.decks.Deck.{Deck}
 use Rattle.deck_reader.specs.declared.decks.OpenFile.{OpenFile}
 use Rattle.deck_reader.specs.declared.decks.Terminal.{Terminal}
@@ -104,19 +104,19 @@ file_texts_seen texts = record {
   blocks = texts.blocks.now;
 }
 
-abbrev pub group_seen : GroupForm → forms.Form
+abbrev pub group_seen : GroupForm → forms.LineForm
 group_seen (group.Account texts) = forms.Account (texts_seen texts)
 group_seen (group.File texts) = forms.File (file_texts_seen texts)
 group_seen (group.Terminal name) = forms.Terminal name.now
 group_seen group.End = forms.End
 
-abbrev pub contents_seen : ContentsForm → forms.Form
+abbrev pub contents_seen : ContentsForm → forms.LineForm
 contents_seen (contents.Text text) = forms.Keys text.now
 contents_seen (contents.File texts) = forms.File (file_texts_seen texts)
 contents_seen (contents.Terminal name) = forms.Terminal name.now
 contents_seen contents.End = forms.End
 
-abbrev pub session_seen : SessionForm → forms.Form
+abbrev pub session_seen : SessionForm → forms.LineForm
 session_seen (session.Keys keys) = forms.Keys keys.now
 session_seen (session.Terminal name) = forms.Terminal name.now
 session_seen session.End = forms.End
@@ -144,7 +144,7 @@ IfRefused (Err (trouble.Refused fault)) P = P fault
 IfRefused answer P = Unit {0}
 
 -- what was answered is the verdict, unless memory ran out
-abbrev pub Tells : Result Deck (Trouble DeckFault) → Verdict → Type 0
+abbrev pub Tells : Result Deck (Trouble DeckFault) → DeckVerdict → Type 0
 Tells (Ok deck) v = v ≡ Spells (deck_of deck)
 Tells (Err (trouble.Refused fault)) v = v ≡ Refuses fault.line fault.cause
 Tells (Err trouble.NoMemory) v = ⊤

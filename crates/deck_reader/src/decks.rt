@@ -1,6 +1,7 @@
 //! Decks, and a file of one while its text is read.
 
 ghost use Rattle.std.specs.Prelude.{◌≡◌, ◌≤◌, ◌*◌, length, map};
+ghost use Rattle.basic_values.specs.declared.limits.TheConstants.{BLOCK_BYTES};
 ghost use Rattle.deck_model.specs.Files.{text_of, file_entry};
 ghost use Rattle.deck_model.specs.Lines.{whole_lines};
 ghost use Rattle.deck_reader.specs.Filed.{file_of};
@@ -33,5 +34,5 @@ pub(crate) struct OpenFile {
     /// The lines so far, each with CR LF behind it.
     pub(crate) text: Vec<u8>,
     ghost whole: { text_of (whole_lines text.items) ≡ text.items },
-    ghost fits: { length text.items ≤ 512 * blocks },
+    ghost fits: { length text.items ≤ BLOCK_BYTES * blocks },
 }

@@ -1,6 +1,7 @@
 //! Files of a deck: begun, their texts, and their pages on the volume.
 
 ghost use Rattle.std.specs.Prelude.{◌≡◌, ◌≤◌, ◌+◌, ◌*◌, false, if◌then◌else◌, not, [], Some, None, length, map, nat_le, nat_lt, unwrap_or, IfOk};
+ghost use Rattle.basic_values.specs.declared.limits.TheConstants.{BLOCK_BYTES};
 ghost use Rattle.monitor_calls.specs.Volumes.{same_account, has_account, blocks_of, blocks_for, blocks_owned};
 ghost use Rattle.deck_model.specs.Files.{text_of, pages_of, file_entry};
 ghost use Rattle.deck_model.specs.Fronts as model;
@@ -61,7 +62,7 @@ fn extension_of(text: Option<&[u8]>) -> Option<Short>
 impl OpenFile {
     /// Whether the file's blocks have no room for one line of text more.
     pub(crate) fn is_full_at(&self, text: &[u8]) -> bool
-        ensures { result ≡ nat_lt (512 * self.now.blocks)
+        ensures { result ≡ nat_lt (BLOCK_BYTES * self.now.blocks)
             (length (text_of (model.with_text (open_of self.now) text.now).texts)) }
     {
         let room = BLOCK_BYTES * self.blocks as usize - self.text.len();
@@ -71,7 +72,7 @@ impl OpenFile {
     /// One line of text more, which has room.
     pub(crate) fn with_text(self, text: &[u8]) -> Result<OpenFile, NoMemory>
         requires line { has_line_feed text.now ≡ false }
-        requires room { nat_lt (512 * self.blocks)
+        requires room { nat_lt (BLOCK_BYTES * self.blocks)
             (length (text_of (model.with_text (open_of self) text.now).texts)) ≡ false }
         ensures { IfOk result (λ file. open_of file ≡ model.with_text (open_of self) text.now) }
     {
@@ -110,7 +111,7 @@ impl OpenFile {
 
 /// The bytes in so many pages, which they fill.
 fn pages_of(alloc: Global, blocks: u16, bytes: &[u8]) -> Result<Series<Page>, NoMemory>
-    requires { length bytes.now ≡ 512 * blocks }
+    requires { length bytes.now ≡ BLOCK_BYTES * blocks }
     ensures { IfOk result (λ pages. pages ≡ pages_of blocks bytes.now) }
 {
     let mut pages = Vec::new(alloc);

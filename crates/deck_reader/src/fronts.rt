@@ -1,6 +1,7 @@
 //! The front of a deck: what its lines said so far, and what the next one adds.
 
 ghost use Rattle.std.specs.Prelude.{◌≡◌, ◌+◌, ◌==◌, ◌&&◌, false, if◌then◌else◌, Some, None, length, nat_le, nat_lt, bytes_eq, IfOk};
+ghost use Rattle.basic_values.specs.declared.limits.TheConstants.{MOST_FILES};
 ghost use Rattle.monitor_calls.specs.Volumes.{has_account, blocks_owned};
 ghost use Rattle.deck_model.specs.Files.{has_file, blocks_in};
 ghost use Rattle.deck_model.specs.Fronts as model;
@@ -256,7 +257,7 @@ fn has_file(deck: &Deck, name: &FileName) -> bool
 }
 
 fn has_all_files(deck: &Deck) -> bool
-    ensures { result ≡ nat_le 512 (length (deck_of deck.now).files) }
+    ensures { result ≡ nat_le MOST_FILES (length (deck_of deck.now).files) }
 {
     deck.volume.files.len() >= MOST_FILES
 }

@@ -14,7 +14,7 @@ use Rattle.basic_values.specs.Blanks.{is_blank}
 use Rattle.monitor_calls.specs.Names.{is_capital_or_digit, is_text_of}
 use Rattle.basic_values.specs.Cuts.{behind}
 use Rattle.basic_values.proofs.CutLaws.{and_left, and_right}
-use Rattle.file_names.specs.Names.{Place, Untold, Library, Bracketed, Written, device_text, place_text, extension_written, code_written, written_text, IsPlace, IsExtension, IsCode, IsWritten, solid, squeezed, letters_in, has_device}
+use Rattle.file_names.specs.Names.{OwnerPlace, Untold, Library, Bracketed, Written, device_text, place_text, extension_written, code_written, written_text, IsPlace, IsExtension, IsCode, IsWritten, solid, squeezed, letters_in, has_device}
 
 -- ---- one byte more
 
@@ -111,7 +111,7 @@ device_short : (device : Bool) → length (device_text device) ≤ 3
 device_short true = omega arith
 device_short false = omega arith
 
-place_short : (p : Place) → IsPlace p → length (place_text p) ≤ 9
+place_short : (p : OwnerPlace) → IsPlace p → length (place_text p) ≤ 9
 place_short Untold good = omega arith
 place_short Library good = omega arith
 place_short (Bracketed a) good =

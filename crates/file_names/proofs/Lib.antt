@@ -1,4 +1,4 @@
 mod FrontLemmas
 pub mod ReadingLaws
-mod SpecLaws
+pub mod SpecLaws
 pub mod WritingLaws

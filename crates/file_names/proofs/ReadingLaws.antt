@@ -11,8 +11,8 @@ use Rattle.monitor_calls.specs.Names.{is_password}
 use Rattle.basic_values.specs.Cuts.{◌>>=◌, behind, cut}
 use Rattle.basic_values.proofs.CutLaws.{bind_some, guard_some, behind_takes, cut_takes, and_left, and_right, number_takes, number_at_most}
 use Rattle.file_names.specs.declared.spec.Spec.{Spec}
-use Rattle.file_names.specs.Names.{Place, Untold, Library, Bracketed, Written, device_text, place_text, extension_written, code_written, written_text, IsPlace, IsExtension, is_extension, IsCode, IsWritten, library, owner_of, spec_of}
-use Rattle.file_names.specs.Reading.{without_device, bracketed_in, owner_behind, owner_in, closed_code, code_behind, code_in, stem_before, stem_in, extension_behind, extension_in, spec_in}
+use Rattle.file_names.specs.Names.{OwnerPlace, Untold, Library, Bracketed, Written, device_text, place_text, extension_written, code_written, written_text, IsPlace, IsExtension, is_extension, IsCode, IsWritten, library, owner_of, spec_of}
+use Rattle.file_names.specs.SpecFronts.{without_device, bracketed_in, owner_behind, owner_in, closed_code, code_behind, code_in, stem_before, stem_in, extension_behind, extension_in, spec_in}
 
 some_is : {A : Type 0} (x y : A) → Some x ≡ Some y → x ≡ y
 some_is x y e = cc
@@ -27,7 +27,7 @@ device_takes text = device_cases text (behind (codes "SY:") text) refl
 
 -- the owner
 abbrev TakesOwner : Account → List ℕ → Account × List ℕ → Type 0
-TakesOwner own text r = (p : Place) × IsPlace p × (owner_of own p ≡ r.0) × (place_text p ++ r.1 ≡ text)
+TakesOwner own text r = (p : OwnerPlace) × IsPlace p × (owner_of own p ≡ r.0) × (place_text p ++ r.1 ≡ text)
 
 number_at_least : (low high : ℕ) (text : List ℕ) (n : ℕ) → number_between low high text ≡ Some n → low ≤ n
 number_at_least low high text n e =

@@ -1,5 +1,5 @@
 -- The laws of specifications, and what is read of the front of a text.
-use Rattle.std.proofs.Common.{◌≡◌, ℕ, ◌<◌, ◌≤◌, Bool, true, false, List, [], ◌∷◌, ◌++◌, length, take, Option, Some, None, refl, sym, ap, subst, ◌∙◌, arith}
+use Rattle.std.proofs.Common.{◌≡◌, ℕ, ◌<◌, ◌≤◌, Bool, true, false, List, [], ◌∷◌, ◌++◌, length, take, Option, Some, None, Ok, Err, refl, sym, ap, subst, ◌∙◌, arith}
 use Rattle.std.specs.Prelude.{◌&&◌, ◌||◌, nat_le, unwrap_or, codes}
 use Rattle.std.specs.List.{list_all}
 use Rattle.std.specs.Char.{to_ascii_uppercase, is_ascii_uppercase, is_ascii_digit}
@@ -16,9 +16,9 @@ use Rattle.monitor_calls.specs.Names.{is_capital_or_digit}
 use Rattle.monitor_calls.specs.NameTexts.{account_text, extension_text, name_text}
 use Rattle.basic_values.proofs.CutLaws.{and_left, and_right}
 use Rattle.file_names.specs.declared.spec.Spec.{Spec}
-use Rattle.file_names.specs.Names.{Bracketed, Written, extension_written, IsPlace, IsExtension, is_extension, IsSpecOf, squeezed}
-use Rattle.file_names.specs.Laws.{SpecIsOne, PrintedIsRead}
-use Rattle.file_names.specs.Reading.{spec_in}
+use Rattle.file_names.specs.Names.{Bracketed, Written, extension_written, IsPlace, IsExtension, is_extension, IsSpecOf, squeezed, refusal_of}
+use Rattle.file_names.specs.Laws.{SpecIsOne, PrintedIsRead, SpecsAreRead}
+use Rattle.file_names.specs.SpecFronts.{spec_in, spec_or, spec_said}
 use Rattle.file_names.proofs.ReadingLaws.{spec_takes}
 use Rattle.file_names.proofs.FrontLemmas.{written_short, short_front}
 use Rattle.file_names.proofs.WritingLaws.{spec_again, kind_of}
@@ -31,6 +31,28 @@ pub spec_is_one : SpecIsOne
 spec_is_one own default text a b x y =
     let e : Some a ≡ Some b = sym (spelled_is_read own default text a x) ∙ spelled_is_read own default text b y in
     cc
+
+-- ---- what is read of a text
+
+spelled_by : (own : Account) (default text : List ℕ) (spec : Spec) → spec_in own default (squeezed text) ≡ Some spec → IsSpecOf own default text spec
+spelled_by own default text spec e =
+    let t = spec_takes own default (squeezed text) spec e in
+    record { written = t.written; proper = t.proper; says = t.says; means = t.means }
+
+spelled_if : (own : Account) (default text : List ℕ) (spec : Spec) (o : Option Spec) → spec_in own default (squeezed text) ≡ o → spec_or (refusal_of text) o ≡ Ok spec → IsSpecOf own default text spec
+spelled_if own default text spec None e f = absurd (cc)
+spelled_if own default text spec (Some other) e f = let is : other ≡ spec = cc in spelled_by own default text spec (e ∙ ap Some is)
+
+refused_if : (own : Account) (default text : List ℕ) (o : Option Spec) → spec_in own default (squeezed text) ≡ o → ((spec : Spec) → IsSpecOf own default text spec → ⊥) → spec_or (refusal_of text) o ≡ Err (refusal_of text)
+refused_if own default text None e nay = refl
+refused_if own default text (Some spec) e nay = absurd (nay spec (spelled_by own default text spec e))
+
+pub specs_are_read : SpecsAreRead
+specs_are_read own default text = record {
+  read = λ spec s. ap (spec_or (refusal_of text)) (spelled_is_read own default text spec s);
+  spelled = λ spec e. spelled_if own default text spec (spec_in own default (squeezed text)) refl e;
+  refused = refused_if own default text (spec_in own default (squeezed text)) refl;
+}
 
 -- ---- what stands as it is when blanks are dropped and letters raised
 
@@ -145,3 +167,10 @@ front_refuses own default text e spec s =
     let whole : take 32 (squeezed text) ≡ squeezed text = take_all 32 (squeezed text) (omega arith) in
     let bad : Some spec ≡ None = sym (spelled_is_read own default text spec s) ∙ ap (spec_in own default) (sym whole) ∙ e in
     absurd cc
+
+-- what is answered of the front is what is read of the text
+pub said_by_front : (own : Account) (default text : List ℕ) (spec : Spec) → spec_in own default (take 32 (squeezed text)) ≡ Some spec → Ok spec ≡ spec_said own default text
+said_by_front own default text spec e = sym ((specs_are_read own default text).read spec (front_spells own default text spec e))
+
+pub unsaid_by_front : (own : Account) (default text : List ℕ) → spec_in own default (take 32 (squeezed text)) ≡ None → Err (refusal_of text) ≡ spec_said own default text
+unsaid_by_front own default text e = sym ((specs_are_read own default text).refused (front_refuses own default text e))

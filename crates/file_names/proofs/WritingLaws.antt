@@ -11,8 +11,8 @@ use Rattle.monitor_calls.specs.declared.names.Account.{Account}
 use Rattle.monitor_calls.specs.Names.{is_capital_or_digit, is_password, is_text_of}
 use Rattle.basic_values.specs.Cuts.{behind, cut}
 use Rattle.basic_values.proofs.CutLaws.{and_left, and_right, behind_again, cut_again, cut_nowhere, number_again, decimal_lacks, kind_lacks, lacks_both, Lacks}
-use Rattle.file_names.specs.Names.{Place, Untold, Library, Bracketed, Written, device_text, place_text, extension_written, code_written, written_text, IsPlace, IsExtension, IsCode, IsWritten, owner_of, spec_of}
-use Rattle.file_names.specs.Reading.{without_device, bracketed_in, owner_behind, owner_in, closed_code, code_in, stem_in, extension_in, spec_in}
+use Rattle.file_names.specs.Names.{OwnerPlace, Untold, Library, Bracketed, Written, device_text, place_text, extension_written, code_written, written_text, IsPlace, IsExtension, IsCode, IsWritten, owner_of, spec_of}
+use Rattle.file_names.specs.SpecFronts.{without_device, bracketed_in, owner_behind, owner_in, closed_code, code_in, stem_in, extension_in, spec_in}
 use Rattle.file_names.proofs.ReadingLaws.{brackets, five}
 
 -- a text of a kind and a size has that kind
@@ -33,7 +33,7 @@ code_lacks byte other left right None good = tt
 code_lacks byte other left right (Some code) good =
     (left, lacks_both byte (decimal code) (62 ∷ []) (decimal_lacks byte code other (omega arith)) (right, tt))
 
-place_lacks_colon : (p : Place) → IsPlace p → Lacks 58 (place_text p)
+place_lacks_colon : (p : OwnerPlace) → IsPlace p → Lacks 58 (place_text p)
 place_lacks_colon Untold good = tt
 place_lacks_colon Library good = (refl, tt)
 place_lacks_colon (Bracketed a) good = (
@@ -82,7 +82,7 @@ bracket_again a good rest =
     let second : cut 44 (decimal a.project ++ 44 ∷ decimal a.programmer) ≡ Some (decimal a.project, decimal a.programmer) = cut_again 44 (decimal a.project) (decimal a.programmer) (decimal_lacks 44 a.project (λ r. omega arith) (omega arith)) in
     rw (first, second, number_again 1 254 a.project good.0 good.1 (omega arith), number_again 0 254 a.programmer (omega arith) good.2 (omega arith)) refl
 
-owner_again : (own : Account) (p : Place) → IsPlace p → (rest : List ℕ) → HasHead rest → owner_in own (place_text p ++ rest) ≡ Some (owner_of own p, rest)
+owner_again : (own : Account) (p : OwnerPlace) → IsPlace p → (rest : List ℕ) → HasHead rest → owner_in own (place_text p ++ rest) ≡ Some (owner_of own p, rest)
 owner_again own Untold good rest head =
     let dollar : behind (codes "$") (head.0 ∷ head.1) ≡ None = behind_other 36 head.0 head.1 (head_differs 36 head.0 refl head.3) in
     let bracket : behind (codes "[") (head.0 ∷ head.1) ≡ None = behind_other 91 head.0 head.1 (head_differs 91 head.0 refl head.3) in

@@ -4,6 +4,7 @@ use Rattle.std.specs.Fmt.{decimal}
 use Rattle.std.specs.List.{prefix_len}
 use Rattle.std.specs.Char.{is_ascii_alphanumeric, to_ascii_uppercase}
 use Rattle.basic_values.specs.Blanks.{is_blank}
+use Rattle.basic_values.specs.declared.limits.TheConstants.{MOST_CODE}
 use Rattle.monitor_calls.specs.declared.names.Account.{Account}
 use Rattle.monitor_calls.specs.Names.{is_text_of, is_capital_or_digit, is_password}
 use Rattle.monitor_calls.specs.NameTexts.{account_text}
@@ -21,14 +22,14 @@ squeezed text = map to_ascii_uppercase (solid text)
 -- WHAT IS WRITTEN OF A SPECIFICATION
 
 -- the owner: not told, told as the library by a dollar sign, or told in brackets
-pub data Place : Type 0 where
-  Untold : Place
-  Library : Place
-  Bracketed : Account → Place
+pub data OwnerPlace : Type 0 where
+  Untold : OwnerPlace
+  Library : OwnerPlace
+  Bracketed : Account → OwnerPlace
 
 pub record Written : Type 0 where
   pub device : Bool
-  pub place : Place
+  pub place : OwnerPlace
   pub stem : List ℕ
   pub extension : Option (List ℕ)
   pub code : Option ℕ
@@ -36,7 +37,7 @@ pub record Written : Type 0 where
 abbrev pub device_text : Bool → List ℕ
 device_text device = if device then codes "SY:" else []
 
-abbrev pub place_text : Place → List ℕ
+abbrev pub place_text : OwnerPlace → List ℕ
 place_text Untold = []
 place_text Library = codes "$"
 place_text (Bracketed account) = account_text account
@@ -55,7 +56,7 @@ written_text w =
     ++ code_written w.code
 
 -- projects count from 1, and no number of an account is above 254
-abbrev pub IsPlace : Place → Type 0
+abbrev pub IsPlace : OwnerPlace → Type 0
 IsPlace Untold = Unit {0}
 IsPlace Library = Unit {0}
 IsPlace (Bracketed account) =
@@ -71,7 +72,7 @@ IsExtension (Some extension) = is_extension extension ≡ true
 
 abbrev pub IsCode : Option ℕ → Type 0
 IsCode None = Unit {0}
-IsCode (Some code) = code ≤ 63
+IsCode (Some code) = code ≤ MOST_CODE
 
 -- the stem has 1 to 6 letters and digits
 pub record IsWritten (w : Written) : Type 0 where
@@ -85,7 +86,7 @@ pub record IsWritten (w : Written) : Type 0 where
 abbrev pub library : Account
 library = record { project = 1; programmer = 2 }
 
-abbrev pub owner_of : Account → Place → Account
+abbrev pub owner_of : Account → OwnerPlace → Account
 owner_of own Untold = own
 owner_of own Library = library
 owner_of own (Bracketed account) = account

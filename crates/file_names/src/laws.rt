@@ -1,6 +1,6 @@
 //! Laws over the definitions, each a function whose contract is the law.
 
-ghost use Rattle.file_names.specs.Laws.{SpecIsOne, PrintedIsRead};
+ghost use Rattle.file_names.specs.Laws.{SpecIsOne, PrintedIsRead, SpecsAreRead};
 
 /// A text says one specification at the most.
 #[tactic(auto, using(crate::proofs::SpecLaws::spec_is_one))]
@@ -12,4 +12,10 @@ pub fn spec_is_one()
 #[tactic(auto, using(crate::proofs::SpecLaws::printed_is_read))]
 pub fn printed_is_read()
     ensures { PrintedIsRead }
+{}
+
+/// What is read of a text is the specification that it spells; one that spells none is refused.
+#[tactic(auto, using(crate::proofs::SpecLaws::specs_are_read))]
+pub fn specs_are_read()
+    ensures { SpecsAreRead }
 {}

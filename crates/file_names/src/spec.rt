@@ -3,10 +3,11 @@
 ghost use Rattle.std.specs.Prelude.{◌≡◌, if◌then◌else◌, Some, None, take, IfOk, IfErr};
 ghost use Rattle.basic_values.specs.Cuts.{Finds};
 ghost use Rattle.file_names.specs.Names.{IsSpecOf, squeezed, is_extension, has_device, names_device, refusal_of};
-ghost use Rattle.file_names.specs.Reading.{without_device, bracketed_in, owner_in, closed_code, code_in, stem_in, extension_in, spec_in};
+ghost use Rattle.file_names.specs.SpecFronts.{without_device, bracketed_in, owner_in, closed_code, code_in, stem_in, extension_in, spec_in, spec_said};
 ghost use Rattle.file_names.specs.declared.spec.Spec.{Spec as TheSpec};
 
 use arrayvec::ArrayVec;
+use basic_values::limits::MOST_CODE;
 use basic_values::{Fault, behind, cut, is_blank, number_between};
 use monitor_calls::{Account, FileName, Short};
 
@@ -32,6 +33,7 @@ const FRONT: usize = 32;
 /// Blanks are dropped, and letters raised. A text that names another device is error 8, any other
 /// that is no specification error 2.
 pub fn parse_spec(text: &[u8], own: Account, extension: &Short) -> Result<Spec, Fault>
+    ensures said { result ≡ spec_said own extension.now text.now }
     ensures read { IfOk result (λ spec. IsSpecOf own extension.now text.now spec) }
     ensures refused { IfErr result (λ fault. (fault ≡ refusal_of text.now)
         × ((spec : TheSpec) → IsSpecOf own extension.now text.now spec → ⊥)) }
@@ -92,7 +94,7 @@ fn has_device(text: &[u8]) -> bool
 }
 
 /// The specification that such a front is.
-#[tactic(auto, unfolding(crate::specs::Reading::spec_in))]
+#[tactic(auto, unfolding(crate::specs::SpecFronts::spec_in))]
 fn spec_in(own: Account, extension: &Short, text: &[u8]) -> Option<Spec>
     ensures { result ≡ spec_in own extension.now text.now }
 {
@@ -130,7 +132,7 @@ fn owner_in(own: Account, text: &[u8]) -> Option<(Account, &[u8])>
 }
 
 /// The account in brackets of which the first is read, and what stands behind them.
-#[tactic(auto, unfolding(crate::specs::Reading::bracketed_in))]
+#[tactic(auto, unfolding(crate::specs::SpecFronts::bracketed_in))]
 fn bracketed_in(text: &[u8]) -> Option<(Account, &[u8])>
     ensures { Finds (λ x. (x.0, x.1.now)) result (bracketed_in text.now) }
 {
@@ -154,12 +156,12 @@ fn code_in(text: &[u8]) -> Option<(&[u8], Option<u8>)>
 }
 
 /// The code in brackets of which the first is read; nothing stands behind them.
-#[tactic(auto, unfolding(crate::specs::Reading::closed_code))]
+#[tactic(auto, unfolding(crate::specs::SpecFronts::closed_code))]
 fn closed_code(text: &[u8]) -> Option<u8>
     ensures { result ≡ closed_code text.now }
 {
     let (digits, rest) = cut(b'>', text)?;
-    let code = number_between(0, 63, digits)? as u8;
+    let code = number_between(0, u32::from(MOST_CODE), digits)? as u8;
     if rest.is_empty() { Some(code) } else { None }
 }
 

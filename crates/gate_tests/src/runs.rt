@@ -6,7 +6,7 @@ ghost use Rattle.monitor_calls.specs.declared.calls.Request.TheVariants.{Login, 
 
 use crate::volumes::{DEMO, password, volume};
 use basic_values::NoMemory;
-use monitor_calls::{Account, JobBody, Port, Request, Screen2, Short};
+use monitor_calls::{Account, Port, Request, Screen2, Short};
 use monitor_core::Monitor;
 use rsts_io::Pacer;
 use std::alloc::Global;
@@ -17,7 +17,7 @@ use std::test::Fail;
 use std::thread;
 use std::thread::Threads;
 use std::time::{Clock, Duration};
-use terminal_runner::{RunEnd, run_jobs};
+use terminal_runner::{JobBody, RunEnd, run_jobs};
 
 /// How many milliseconds a call waits for the first calls of the other jobs.
 const MOST_NAPS: u32 = 20_000;

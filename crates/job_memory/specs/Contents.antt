@@ -1,9 +1,12 @@
 -- What a variable or an element holds: the room that it takes, and what is read of it.
-use Rattle.std.specs.Prelude.{ℕ, ◌+◌, ◌==◌, Bool, if◌then◌else◌, List, [], length, Option, Some, None, ℤ, pos}
+use Rattle.std.specs.Prelude.{ℕ, ◌+◌, ◌==◌, Bool, true, if◌then◌else◌, List, [], length, Option, Some, None, ℤ, pos}
 use Rattle.std.specs.Option.{option_map, unwrap_or}
 use Rattle.record_fields.specs.Buffers.{buffer_of, IsChannel}
 use Rattle.record_fields.specs.Parts.{LiesIn, part_of}
 use Rattle.record_fields.specs.declared.buffers.TheConstants.{BUFFER_BYTES}
+use Rattle.record_fields.specs.declared.parts.Part.{Part}
+use Rattle.job_memory.specs.declared.contents.Closed.{Closed}
+use Rattle.job_memory.specs.declared.contents.Closed.TheVariants.{One, All}
 use Rattle.job_memory.specs.declared.contents.Content.{Content}
 use Rattle.job_memory.specs.declared.contents.Content.TheVariants.{Number, Own, Fielded}
 
@@ -44,6 +47,13 @@ text_in buffers (Some (Fielded channel part)) = part_of part (buffer_of channel 
 text_in buffers (Some content) = text_of content
 text_in buffers None = []
 
+-- the channel and the part that stand for a text
+abbrev pub place_in : Option Content → Option (ℕ × Part)
+place_in (Some (Fielded channel part)) = Some (channel, part)
+place_in (Some (Number n)) = None
+place_in (Some (Own text)) = None
+place_in None = None
+
 -- a part that stands for a text lies in the buffer of a channel
 abbrev pub LiesInBuffer : Option Content → Type 0
 LiesInBuffer (Some (Fielded channel part)) = IsChannel channel × LiesIn BUFFER_BYTES part
@@ -51,8 +61,12 @@ LiesInBuffer (Some (Number n)) = Unit {0}
 LiesInBuffer (Some (Own text)) = Unit {0}
 LiesInBuffer None = Unit {0}
 
--- what was a part of this channel's buffer is an own text without bytes
-abbrev pub forgotten : ℕ → Content → Content
+abbrev pub is_closed : Closed → ℕ → Bool
+is_closed (One closed) channel = channel == closed
+is_closed All channel = true
+
+-- what was a part of a closed channel's buffer is an own text without bytes
+abbrev pub forgotten : Closed → Content → Content
 forgotten closed (Number n) = Number n
 forgotten closed (Own text) = Own text
-forgotten closed (Fielded channel part) = if channel == closed then Own [] else Fielded channel part
+forgotten closed (Fielded channel part) = if is_closed closed channel then Own [] else Fielded channel part

@@ -4,7 +4,7 @@ ghost use Rattle.std.specs.Prelude.{◌≡◌};
 ghost use Rattle.std.specs.BTreeMap.{IsOrdered};
 ghost use Rattle.job_memory.specs.declared.contents.Content.TheVariants as content;
 ghost use Rattle.job_memory.specs.Answers.{Stores, Overwrites, Renumbers};
-ghost use Rattle.job_memory.specs.Contents.{size_in, number_in, text_in, LiesInBuffer};
+ghost use Rattle.job_memory.specs.Contents.{size_in, number_in, text_in};
 ghost use Rattle.job_memory.specs.Memory.{variable, store, room_of};
 ghost use Rattle.job_memory.specs.Names.{name_cmp};
 
@@ -12,7 +12,7 @@ use crate::contents::{Content, MOST_ROOM, number_of, size, text_of};
 use crate::memory::Memory;
 use basic_tree::Name;
 use basic_values::{Halt, Int, Text, Trouble};
-use record_fields::{Buffers, Part, lend};
+use record_fields::{Buffers, Part};
 use std::collections::BTreeMap;
 
 impl Memory {
@@ -29,11 +29,10 @@ impl Memory {
     /// The text of a variable, lent: its own, or the part of a channel's buffer that stands for it.
     /// It is empty where nothing is stored.
     pub fn text<'a>(&'a self, name: Name, buffers: &'a Buffers) -> &'a [u8]
-        requires { LiesInBuffer (variable name self.now) }
         ensures { result.now ≡ text_in buffers.entry.now (variable name self.entry.now) }
     {
         match self.variables.get(&name) {
-            Some(Content::Fielded { channel, part }) => lend(buffers.buffer(*channel), *part),
+            Some(Content::Fielded { channel, part }) => buffers.part(*channel, *part),
             Some(content) => text_of(content),
             None => &[],
         }

@@ -1,6 +1,7 @@
 //! The table of jobs.
 
 ghost use Rattle.std.specs.Prelude.{◌≡◌, ◌≢◌, ◌<◌, length, replicate, None, IfOk, IfNone};
+ghost use Rattle.basic_values.specs.declared.limits.TheConstants.{MOST_CALLS};
 ghost use Rattle.monitor_model.specs.Jobs.{nobody, job_at, account_of, calls_of, channel_of, log_in, count, set_channel, end_job, is_open_file, has_channel, is_on};
 
 use basic_values::NoMemory;
@@ -97,7 +98,7 @@ impl JobTable {
     pub fn count(&mut self, job: u32)
         requires job { job < length self.old }
         requires known { account_of self.old job ≢ None }
-        requires room { calls_of self.old job < 16384 }
+        requires room { calls_of self.old job < MOST_CALLS }
         ensures { self.new ≡ count self.old job }
     {
         self.jobs[job as usize].calls += 1;

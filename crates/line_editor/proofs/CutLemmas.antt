@@ -5,7 +5,7 @@ use Rattle.std.specs.List.{position_or_len, slice_split}
 use Rattle.std.proofs.lemmas.List.Elements.{All-from_get_or}
 use Rattle.std.proofs.lemmas.List.Splits.{slice_split_first, slice_split_none, length-slice_split}
 use Rattle.std.proofs.lemmas.List.Sums.{prefix_len_is}
-use Rattle.line_editor.specs.Files.{is_line_feed, without_return, lines_between, file_lines}
+use Rattle.basic_tree.specs.FileLines.{is_line_feed, without_return, lines_between, file_lines}
 
 abbrev NoFeedBelow : ℕ → List ℕ → Type 0
 NoFeedBelow n text = (k : ℕ) → k < n → is_line_feed (get_or text k 0) ≡ false

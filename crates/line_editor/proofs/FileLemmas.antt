@@ -20,12 +20,13 @@ use Rattle.std.proofs.lemmas.List.Elements.{filter-append}
 use Rattle.std.proofs.lemmas.List.Folds.{list_all-append}
 use Rattle.std.proofs.lemmas.List.Splits.{slice_split_at}
 use Rattle.std.proofs.lemmas.Str.Parse.{digit_at}
-use Rattle.basic_tree.specs.Limits.{most_number}
-use Rattle.line_editor.specs.declared.text.TheConstants.{MOST_LINES}
-use Rattle.line_editor.specs.Lines.{Lines, is_within, within, listed, listing, stored, IsNumber, IsProgramLine, IsProgram, IsSpelled}
+use Rattle.basic_values.specs.declared.limits.TheConstants.{MOST_LINES, MOST_NUMBER}
+use Rattle.basic_tree.specs.ProgramLines.{Lines, is_within, within, listed, listing, stored}
+use Rattle.line_editor.specs.Lines.{IsNumber, IsProgramLine, IsProgram, IsOfStage}
 use Rattle.line_editor.specs.Edits.{IsStorable}
-use Rattle.line_editor.specs.Files.{IsPaged, is_written, is_plain, is_line_feed, file_text, file_lines, lines_between, without_return, IsKept, kept, AreKept, IsFileOf, ArePlain}
-use Rattle.line_editor.specs.Numbers.{digits_of, number_of, rest_of}
+use Rattle.basic_tree.specs.FileLines.{is_written, is_line_feed, file_text, file_lines, lines_between, without_return}
+use Rattle.line_editor.specs.Files.{IsPaged, is_plain, IsKept, kept, AreKept, IsFileOf, ArePlain}
+use Rattle.basic_tree.specs.LineNumbers.{digits_of, number_of, rest_of}
 use Rattle.line_editor.proofs.CutLemmas.{line_between, split_some}
 use Rattle.line_editor.proofs.SpellLemmas.{no_digit_first}
 
@@ -52,7 +53,7 @@ digits_plain : (ds : List ℕ) → AllDigits 10 ds → is_plain ds ≡ true
 digits_plain [] all = refl
 digits_plain (byte ∷ ds) all = and_both _ _ (digit_plain byte (digit_at (byte ∷ ds) zero all (omega arith))) (digits_plain ds all.1)
 
-small : (n : ℕ) → n ≤ most_number → n < 2 ^ 64
+small : (n : ℕ) → n ≤ MOST_NUMBER → n < 2 ^ 64
 small n h = omega arith
 
 -- how many digits digits and something else begin with
@@ -72,11 +73,11 @@ each_passes : (p : ℕ → Bool) (text : List ℕ) → list_all p text ≡ true 
 each_passes p [] all = tt
 each_passes p (byte ∷ text) all = ((and_split (p byte) (list_all p text) all).0, each_passes p text (and_split (p byte) (list_all p text) all).1)
 
-not_first_by : (byte : ℕ) (bytes : List ℕ) (b : Bool) → is_ascii_digit byte ≡ b → IsSpelled (byte ∷ bytes) → prefix_len is_ascii_digit (byte ∷ bytes) ≡ 0
+not_first_by : (byte : ℕ) (bytes : List ℕ) (b : Bool) → is_ascii_digit byte ≡ b → IsOfStage (byte ∷ bytes) → prefix_len is_ascii_digit (byte ∷ bytes) ≡ 0
 not_first_by byte bytes true is spelled = absurd (no_digit_first byte bytes spelled.0 is spelled.1)
 not_first_by byte bytes false is spelled = rw is refl
 
-not_first : (rest : List ℕ) → IsSpelled rest → prefix_len is_ascii_digit rest ≡ 0
+not_first : (rest : List ℕ) → IsOfStage rest → prefix_len is_ascii_digit rest ≡ 0
 not_first [] spelled = refl
 not_first (byte ∷ bytes) spelled = not_first_by byte bytes (is_ascii_digit byte) refl spelled
 
@@ -92,7 +93,7 @@ take_front front back = take-append-le (length front) front back (omega arith) �
 
 count_of : (line : ℕ × List ℕ) → IsProgramLine line → digits_of (joined line) ≡ length (decimal line.0)
 count_of line is =
-    front_len is_ascii_digit (decimal line.0) line.1 (each_passes is_ascii_digit (decimal line.0) (digits_pass (decimal line.0) (decimal_is_IsNumeral line.0 (small line.0 is.number.high)).0.1)) (not_first line.1 is.spelled)
+    front_len is_ascii_digit (decimal line.0) line.1 (each_passes is_ascii_digit (decimal line.0) (digits_pass (decimal line.0) (decimal_is_IsNumeral line.0 (small line.0 is.number.high)).0.1)) (not_first line.1 is.of_stage)
 
 numbered : (line : ℕ × List ℕ) → IsProgramLine line → IsNumbered line
 numbered line is =
@@ -214,7 +215,7 @@ kept_here line front is few =
       n.some,
       subst (λ (k : ℕ). IsStorable k (rest_of (joined line)) front) (sym n.number)
           (subst (λ (r : List ℕ). IsStorable line.0 r front) (sym n.rest)
-          (record { numbered = is.number; fits = is.fits; spelled = is.spelled; room = inr few })),
+          (record { numbered = is.number; fits = is.fits; of_stage = is.of_stage; room = inr few })),
     )
 
 kept_as : (line : ℕ × List ℕ) (front : Lines) → IsProgramLine line → kept (joined line) front ≡ stored line.0 line.1 front
@@ -241,12 +242,12 @@ read_again lines pages program plain paged =
     (all_kept [] lines program.each program.ordered program.few)
 
 -- all lines are within the numbers that lines have
-within_by : (line : ℕ × List ℕ) (lines : Lines) → is_within 1 most_number line.0 ≡ true → within 1 most_number lines ≡ lines → within 1 most_number (line ∷ lines) ≡ line ∷ lines
+within_by : (line : ℕ × List ℕ) (lines : Lines) → is_within 1 MOST_NUMBER line.0 ≡ true → within 1 MOST_NUMBER lines ≡ lines → within 1 MOST_NUMBER (line ∷ lines) ≡ line ∷ lines
 within_by line lines is more = rw is (ap (λ (l : Lines). line ∷ l) more)
 
-in_range : (n : ℕ) → IsNumber n → is_within 1 most_number n ≡ true
+in_range : (n : ℕ) → IsNumber n → is_within 1 MOST_NUMBER n ≡ true
 in_range n is = grind (arith, nat_tests)
 
-pub within_all : (lines : Lines) → AllByRecursion IsProgramLine lines → within 1 most_number lines ≡ lines
+pub within_all : (lines : Lines) → AllByRecursion IsProgramLine lines → within 1 MOST_NUMBER lines ≡ lines
 within_all [] each = refl
 within_all (line ∷ lines) each = within_by line lines (in_range line.0 each.0.number) (within_all lines each.1)

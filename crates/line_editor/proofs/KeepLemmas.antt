@@ -1,6 +1,6 @@
 -- The lines of a file, stored one after another.
 use Rattle.std.proofs.Common.{◌≡◌, ℕ, inl, inr, List, [], ◌∷◌, refl, sym, subst}
-use Rattle.line_editor.specs.Lines.{Lines}
+use Rattle.basic_tree.specs.ProgramLines.{Lines}
 use Rattle.line_editor.specs.Files.{IsKept, kept, IsBad, AreKept, HasBad}
 
 -- The lines that are left to be stored, behind those that made these: to end with them is to end with all.

@@ -2,9 +2,9 @@
 use Rattle.std.proofs.Common.{◌≡◌, [], ◌∷◌, Some, None, refl}
 use Rattle.std.specs.Prelude.{codes}
 use Rattle.std.specs.Fmt.{digits}
-use Rattle.line_editor.specs.Lines.{Lines, line, stored, removed, within, without, listing}
-use Rattle.line_editor.specs.Files.{file_text, file_lines}
-use Rattle.line_editor.specs.Numbers.{digits_of, number_of, rest_of}
+use Rattle.basic_tree.specs.ProgramLines.{Lines, line, stored, removed, within, without, listing}
+use Rattle.basic_tree.specs.FileLines.{file_text, file_lines}
+use Rattle.basic_tree.specs.LineNumbers.{digits_of, number_of, rest_of}
 
 abbrev some : Lines
 some = stored 5 (codes " STOP") (stored 20 (codes " END") (stored 100 [] []))

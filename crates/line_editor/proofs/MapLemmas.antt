@@ -10,7 +10,8 @@ use Rattle.std.specs.Ordering.{is_eq, nat_cmp}
 use Rattle.std.specs.declared.cmp.Ordering.{Ordering}
 use Rattle.std.specs.declared.cmp.Ordering.TheVariants.{Less, Equal, Greater}
 use Rattle.basic_tree.specs.declared.programs.Line.{Line}
-use Rattle.line_editor.specs.Lines.{Lines, IsProgramLine, IsTreeOf, AreTrees}
+use Rattle.basic_tree.specs.ProgramLines.{Lines}
+use Rattle.line_editor.specs.Lines.{IsProgramLine, IsTreeOf, AreTrees}
 
 -- ONE MORE
 

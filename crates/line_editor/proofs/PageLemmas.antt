@@ -6,8 +6,9 @@ use Rattle.std.proofs.lemmas.List.{take_more, take_all, take-append-drop, drop_a
 use Rattle.std.proofs.lemmas.Bool.{cases_lt}
 use Rattle.std.proofs.lemmas.List.Folds.{concat-append}
 use Rattle.std.proofs.lemmas.List.Elements.{filter-append}
-use Rattle.line_editor.specs.declared.files.TheConstants.{PAGE_BYTES}
-use Rattle.line_editor.specs.Files.{IsPaged, is_written, file_text}
+use Rattle.basic_values.specs.declared.limits.TheConstants.{BLOCK_BYTES}
+use Rattle.basic_tree.specs.FileLines.{is_written, file_text}
+use Rattle.line_editor.specs.Files.{IsPaged}
 
 -- one page more is read
 pub text_more : (pages : List (List ℕ)) (i : ℕ) (page : List ℕ) → i < length pages → page ≡ get_or pages i page → file_text (take (i + 1) pages) ≡ file_text (take i pages) ++ filter is_written page
@@ -19,20 +20,20 @@ text_more pages i page lt is =
 -- The pages so far, and the bytes that are left: where none are, there may be zeros behind the last.
 pub record PagedSoFar (bytes : List ℕ) (pages : List (List ℕ)) (left : List ℕ) : Type 0 where
   pub zeros : ℕ
-  pub few : zeros < PAGE_BYTES
-  pub whole : AllByRecursion (λ page. length page ≡ PAGE_BYTES) pages
+  pub few : zeros < BLOCK_BYTES
+  pub whole : AllByRecursion (λ page. length page ≡ BLOCK_BYTES) pages
   pub holds : concat pages ++ left ≡ bytes ++ replicate zeros 0
   pub ends : (left ≡ []) ⊎ (zeros ≡ 0)
 
 -- zeros behind the bytes of the last page
-pub padded : (whole bytes : List ℕ) (count : ℕ) → whole ≡ bytes → count ≡ length bytes → length bytes ≤ PAGE_BYTES
-    → take PAGE_BYTES whole ++ replicate (PAGE_BYTES - count) 0 ≡ bytes ++ replicate (PAGE_BYTES - length bytes) 0
+pub padded : (whole bytes : List ℕ) (count : ℕ) → whole ≡ bytes → count ≡ length bytes → length bytes ≤ BLOCK_BYTES
+    → take BLOCK_BYTES whole ++ replicate (BLOCK_BYTES - count) 0 ≡ bytes ++ replicate (BLOCK_BYTES - length bytes) 0
 padded whole bytes count same counted fits =
-    ap (λ (l : List ℕ). take PAGE_BYTES l ++ replicate (PAGE_BYTES - count) 0) same
-    ∙ ap (λ (l : List ℕ). l ++ replicate (PAGE_BYTES - count) 0) (take_all PAGE_BYTES bytes fits)
-    ∙ ap (λ (k : ℕ). bytes ++ replicate (PAGE_BYTES - k) 0) counted
+    ap (λ (l : List ℕ). take BLOCK_BYTES l ++ replicate (BLOCK_BYTES - count) 0) same
+    ∙ ap (λ (l : List ℕ). l ++ replicate (BLOCK_BYTES - count) 0) (take_all BLOCK_BYTES bytes fits)
+    ∙ ap (λ (k : ℕ). bytes ++ replicate (BLOCK_BYTES - k) 0) counted
 
-pub length-padded : (bytes : List ℕ) → length bytes ≤ PAGE_BYTES → length (bytes ++ replicate (PAGE_BYTES - length bytes) 0) ≡ PAGE_BYTES
+pub length-padded : (bytes : List ℕ) → length bytes ≤ BLOCK_BYTES → length (bytes ++ replicate (BLOCK_BYTES - length bytes) 0) ≡ BLOCK_BYTES
 length-padded bytes fits = omega (arith, length-append {A = ℕ}, length-replicate {A = ℕ})
 
 -- what is left makes no zeros so far
@@ -43,7 +44,7 @@ no_zeros bytes pages left some so_far = by so_far.ends
     by (inl none) = absurd (omega (arith, ap length none))
     by (inr zero) = so_far.holds ∙ ap (λ (k : ℕ). bytes ++ replicate k 0) zero ∙ append-nil bytes
 
-all_pages : (pages : List (List ℕ)) (page : List ℕ) → AllByRecursion (λ page. length page ≡ PAGE_BYTES) pages → length page ≡ PAGE_BYTES → AllByRecursion (λ page. length page ≡ PAGE_BYTES) (pages ++ page ∷ [])
+all_pages : (pages : List (List ℕ)) (page : List ℕ) → AllByRecursion (λ page. length page ≡ BLOCK_BYTES) pages → length page ≡ BLOCK_BYTES → AllByRecursion (λ page. length page ≡ BLOCK_BYTES) (pages ++ page ∷ [])
 all_pages [] page all this = (this, tt)
 all_pages (first ∷ pages) page all this = (all.0, all_pages pages page all.1 this)
 
@@ -54,56 +55,56 @@ concat_more pages page left =
     ∙ append_assoc (concat pages) page left
 
 -- a whole page
-paged_long : (bytes : List ℕ) (pages : List (List ℕ)) (left : List ℕ) → PAGE_BYTES < length left → PagedSoFar bytes pages left → PagedSoFar bytes (pages ++ take PAGE_BYTES left ∷ []) (drop PAGE_BYTES left)
+paged_long : (bytes : List ℕ) (pages : List (List ℕ)) (left : List ℕ) → BLOCK_BYTES < length left → PagedSoFar bytes pages left → PagedSoFar bytes (pages ++ take BLOCK_BYTES left ∷ []) (drop BLOCK_BYTES left)
 paged_long bytes pages left long so_far = record {
   zeros = 0;
-  few = (let h : 0 < PAGE_BYTES = omega arith in h);
-  whole = all_pages pages (take PAGE_BYTES left) so_far.whole (length-take-le PAGE_BYTES left (omega arith));
-  holds = concat_more pages (take PAGE_BYTES left) (drop PAGE_BYTES left) ∙ ap (λ (l : List ℕ). concat pages ++ l) (take-append-drop PAGE_BYTES left)
+  few = (let h : 0 < BLOCK_BYTES = omega arith in h);
+  whole = all_pages pages (take BLOCK_BYTES left) so_far.whole (length-take-le BLOCK_BYTES left (omega arith));
+  holds = concat_more pages (take BLOCK_BYTES left) (drop BLOCK_BYTES left) ∙ ap (λ (l : List ℕ). concat pages ++ l) (take-append-drop BLOCK_BYTES left)
       ∙ no_zeros bytes pages left (omega arith) so_far ∙ sym (append-nil bytes);
   ends = inr refl;
 }
 
 -- the last page
-paged_short : (bytes : List ℕ) (pages : List (List ℕ)) (left : List ℕ) → 0 < length left → length left ≤ PAGE_BYTES → PagedSoFar bytes pages left → PagedSoFar bytes (pages ++ (left ++ replicate (PAGE_BYTES - length left) 0) ∷ []) []
+paged_short : (bytes : List ℕ) (pages : List (List ℕ)) (left : List ℕ) → 0 < length left → length left ≤ BLOCK_BYTES → PagedSoFar bytes pages left → PagedSoFar bytes (pages ++ (left ++ replicate (BLOCK_BYTES - length left) 0) ∷ []) []
 paged_short bytes pages left some short so_far = record {
-  zeros = PAGE_BYTES - length left;
-  few = (let h : PAGE_BYTES - length left < PAGE_BYTES = omega arith in h);
-  whole = all_pages pages (left ++ replicate (PAGE_BYTES - length left) 0) so_far.whole (length-padded left short);
-  holds = append-nil (concat (pages ++ (left ++ replicate (PAGE_BYTES - length left) 0) ∷ []))
-      ∙ concat-append pages ((left ++ replicate (PAGE_BYTES - length left) 0) ∷ []) ∙ ap (λ (l : List ℕ). concat pages ++ l) (append-nil (left ++ replicate (PAGE_BYTES - length left) 0))
-      ∙ sym (append_assoc (concat pages) left (replicate (PAGE_BYTES - length left) 0)) ∙ ap (λ (l : List ℕ). l ++ replicate (PAGE_BYTES - length left) 0) (no_zeros bytes pages left some so_far);
+  zeros = BLOCK_BYTES - length left;
+  few = (let h : BLOCK_BYTES - length left < BLOCK_BYTES = omega arith in h);
+  whole = all_pages pages (left ++ replicate (BLOCK_BYTES - length left) 0) so_far.whole (length-padded left short);
+  holds = append-nil (concat (pages ++ (left ++ replicate (BLOCK_BYTES - length left) 0) ∷ []))
+      ∙ concat-append pages ((left ++ replicate (BLOCK_BYTES - length left) 0) ∷ []) ∙ ap (λ (l : List ℕ). concat pages ++ l) (append-nil (left ++ replicate (BLOCK_BYTES - length left) 0))
+      ∙ sym (append_assoc (concat pages) left (replicate (BLOCK_BYTES - length left) 0)) ∙ ap (λ (l : List ℕ). l ++ replicate (BLOCK_BYTES - length left) 0) (no_zeros bytes pages left some so_far);
   ends = inl refl;
 }
 
 abbrev Paged : List ℕ → List (List ℕ) → List ℕ → List ℕ → Type 0
 Paged bytes pages page left = PagedSoFar bytes (pages ++ page ∷ []) left
 
-paged_by : (bytes : List ℕ) (pages : List (List ℕ)) (left : List ℕ) (count : ℕ) (page : List ℕ) → (length left ≤ PAGE_BYTES) ⊎ (PAGE_BYTES < length left) → 0 < length left → count ≡ min (length left) PAGE_BYTES → page ≡ take count left ++ replicate (PAGE_BYTES - length (take count left)) 0
+paged_by : (bytes : List ℕ) (pages : List (List ℕ)) (left : List ℕ) (count : ℕ) (page : List ℕ) → (length left ≤ BLOCK_BYTES) ⊎ (BLOCK_BYTES < length left) → 0 < length left → count ≡ min (length left) BLOCK_BYTES → page ≡ take count left ++ replicate (BLOCK_BYTES - length (take count left)) 0
     → PagedSoFar bytes pages left → Paged bytes pages page (drop count left)
 paged_by bytes pages left count page (inl short) some counted is so_far =
     let all : count ≡ length left = omega (arith, counted) in
     let front : take count left ≡ left = take_all count left (omega arith) in
     let none : drop count left ≡ [] = drop_all count left (omega arith) in
-    let is' : page ≡ left ++ replicate (PAGE_BYTES - length left) 0 = is ∙ ap (λ (l : List ℕ). l ++ replicate (PAGE_BYTES - length l) 0) front in
+    let is' : page ≡ left ++ replicate (BLOCK_BYTES - length left) 0 = is ∙ ap (λ (l : List ℕ). l ++ replicate (BLOCK_BYTES - length l) 0) front in
     subst (λ (l : List ℕ). Paged bytes pages page l) (sym none) (subst (λ (p : List ℕ). Paged bytes pages p []) (sym is') (paged_short bytes pages left some short so_far))
 paged_by bytes pages left count page (inr long) some counted is so_far =
-    let whole : count ≡ PAGE_BYTES = omega (arith, counted) in
-    let long' : length (take count left) ≡ PAGE_BYTES = length-take-le count left (omega arith) ∙ whole in
-    let is' : page ≡ take PAGE_BYTES left = is ∙ ap (λ (k : ℕ). take count left ++ replicate (PAGE_BYTES - k) 0) long' ∙ append-nil (take count left) ∙ ap (λ (k : ℕ). take k left) whole in
-    subst (λ (k : ℕ). Paged bytes pages page (drop k left)) (sym whole) (subst (λ (p : List ℕ). Paged bytes pages p (drop PAGE_BYTES left)) (sym is') (paged_long bytes pages left long so_far))
+    let whole : count ≡ BLOCK_BYTES = omega (arith, counted) in
+    let long' : length (take count left) ≡ BLOCK_BYTES = length-take-le count left (omega arith) ∙ whole in
+    let is' : page ≡ take BLOCK_BYTES left = is ∙ ap (λ (k : ℕ). take count left ++ replicate (BLOCK_BYTES - k) 0) long' ∙ append-nil (take count left) ∙ ap (λ (k : ℕ). take k left) whole in
+    subst (λ (k : ℕ). Paged bytes pages page (drop k left)) (sym whole) (subst (λ (p : List ℕ). Paged bytes pages p (drop BLOCK_BYTES left)) (sym is') (paged_long bytes pages left long so_far))
 
 -- one page more is written
-pub paged_more : (bytes : List ℕ) (pages : List (List ℕ)) (left : List ℕ) (count : ℕ) (page : List ℕ) → 0 < length left → count ≡ min (length left) PAGE_BYTES → page ≡ take count left ++ replicate (PAGE_BYTES - length (take count left)) 0
+pub paged_more : (bytes : List ℕ) (pages : List (List ℕ)) (left : List ℕ) (count : ℕ) (page : List ℕ) → 0 < length left → count ≡ min (length left) BLOCK_BYTES → page ≡ take count left ++ replicate (BLOCK_BYTES - length (take count left)) 0
     → PagedSoFar bytes pages left → PagedSoFar bytes (pages ++ page ∷ []) (drop count left)
-paged_more bytes pages left count page some counted is so_far = paged_by bytes pages left count page (flip (cases_lt PAGE_BYTES (length left))) some counted is so_far
+paged_more bytes pages left count page some counted is so_far = paged_by bytes pages left count page (flip (cases_lt BLOCK_BYTES (length left))) some counted is so_far
   where
-    flip : (PAGE_BYTES < length left) ⊎ (length left ≤ PAGE_BYTES) → (length left ≤ PAGE_BYTES) ⊎ (PAGE_BYTES < length left)
+    flip : (BLOCK_BYTES < length left) ⊎ (length left ≤ BLOCK_BYTES) → (length left ≤ BLOCK_BYTES) ⊎ (BLOCK_BYTES < length left)
     flip (inl long) = inr long
     flip (inr short) = inl short
 
 pub paged_first : (bytes : List ℕ) → PagedSoFar bytes [] bytes
-paged_first bytes = record { zeros = 0; few = (let h : 0 < PAGE_BYTES = omega arith in h); whole = tt; holds = sym (append-nil bytes); ends = inr refl }
+paged_first bytes = record { zeros = 0; few = (let h : 0 < BLOCK_BYTES = omega arith in h); whole = tt; holds = sym (append-nil bytes); ends = inr refl }
 
 pub paged_last : (bytes : List ℕ) (pages : List (List ℕ)) (left : List ℕ) → left ≡ [] → PagedSoFar bytes pages left → IsPaged bytes pages
 paged_last bytes pages left none so_far = record {

@@ -7,8 +7,9 @@ use Rattle.std.specs.Map.{remove_entry}
 use Rattle.std.specs.Ordering.{nat_cmp}
 use Rattle.std.proofs.lemmas.List.Sums.{length-filter, count_by-le-length}
 use Rattle.basic_tree.specs.declared.programs.Line.{Line}
-use Rattle.line_editor.specs.declared.text.TheConstants.{MOST_LINES}
-use Rattle.line_editor.specs.Lines.{Lines, line, IsProgramLine, IsProgram, IsTreeOf, AreTrees}
+use Rattle.basic_values.specs.declared.limits.TheConstants.{MOST_LINES}
+use Rattle.basic_tree.specs.ProgramLines.{Lines, line}
+use Rattle.line_editor.specs.Lines.{IsProgramLine, IsProgram, IsTreeOf, AreTrees}
 use Rattle.line_editor.specs.Edits.{HasRoom}
 use Rattle.line_editor.specs.Seen.{AreWhole}
 use Rattle.line_editor.proofs.MapLemmas.{trees_inserted, each_inserted, trees_removed, each_removed, trees_filtered, each_filtered}

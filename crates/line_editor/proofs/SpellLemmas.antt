@@ -4,8 +4,8 @@ use Rattle.std.specs.Char.{is_ascii_alphabetic, is_ascii_digit}
 use Rattle.std.specs.Int.{IsInRange}
 use Rattle.std.proofs.lemmas.Bool.Decides.{nat_tests}
 use Rattle.basic_tree.specs.LineVerdicts.{Verdict, HasTree, RefusedFor, Spells}
-use Rattle.basic_tree.specs.MachineJudge.{verdict_of, reading_verdict, judge_of}
-use Rattle.basic_tree.specs.MachineRun.{run}
+use Rattle.grammar_machine.specs.MachineJudge.{verdict_of, reading_verdict, judge_of}
+use Rattle.grammar_machine.specs.MachineRun.{run}
 use Rattle.basic_tree.specs.SpellingWords.{Word, Number, words_of}
 use Rattle.basic_tree.specs.Tokens.{Reading, is_blank, digit_front, front_of, read_on, tokens_from}
 use Rattle.basic_tree.specs.Trees.{LineTree}
@@ -14,8 +14,8 @@ use Rattle.basic_tree.specs.declared.tokens.Cause.TheVariants as cause
 use Rattle.basic_tree.specs.declared.tokens.Front.{Front}
 use Rattle.basic_tree.specs.declared.tokens.Front.TheVariants as front
 use Rattle.basic_tree.specs.declared.tokens.TokenKind.TheVariants as kind
-use Rattle.basic_tree.proofs.Judged.{judge_of_judges}
-use Rattle.basic_tree.proofs.OneAnswer.{one_verdict_lem}
+use Rattle.grammar_machine.proofs.Judged.{judge_of_judges}
+use Rattle.grammar_machine.proofs.OneAnswer.{one_verdict_lem}
 use Rattle.line_editor.proofs.DigitLemmas.{digit_range}
 
 -- no line begins with a number

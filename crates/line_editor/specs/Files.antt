@@ -6,9 +6,10 @@ use Rattle.basic_values.specs.declared.failures.Trouble.{Trouble}
 use Rattle.basic_values.specs.declared.failures.Trouble.TheVariants.{Refused, NoMemory}
 use Rattle.line_editor.specs.declared.text.EditRefusal.{EditRefusal}
 use Rattle.line_editor.specs.declared.files.Cut.{Cut}
-use Rattle.line_editor.specs.declared.files.TheConstants.{PAGE_BYTES}
-use Rattle.line_editor.specs.Lines.{Lines, stored}
-use Rattle.line_editor.specs.Numbers.{digits_of, number_of, rest_of}
+use Rattle.basic_values.specs.declared.limits.TheConstants.{BLOCK_BYTES}
+use Rattle.basic_tree.specs.ProgramLines.{Lines, stored}
+use Rattle.basic_tree.specs.LineNumbers.{digits_of, number_of, rest_of}
+use Rattle.basic_tree.specs.FileLines.{is_written, is_line_feed, file_text, file_lines}
 use Rattle.line_editor.specs.Edits.{IsStorable, RefusesFor}
 
 -- WRITING
@@ -16,36 +17,11 @@ use Rattle.line_editor.specs.Edits.{IsStorable, RefusesFor}
 -- the pages one behind another are the bytes, and then zeros, fewer than a page has
 pub record IsPaged (bytes : List ℕ) (pages : List (List ℕ)) : Type 0 where
   pub zeros : ℕ
-  pub few : zeros < PAGE_BYTES
-  pub whole : AllByRecursion (λ page. length page ≡ PAGE_BYTES) pages
+  pub few : zeros < BLOCK_BYTES
+  pub whole : AllByRecursion (λ page. length page ≡ BLOCK_BYTES) pages
   pub holds : concat pages ≡ bytes ++ replicate zeros 0
 
 -- READING
-
--- what stands on the pages, without zero bytes
-abbrev pub is_written : ℕ → Bool
-is_written byte = not (byte == 0)
-
-abbrev pub file_text : List (List ℕ) → List ℕ
-file_text pages = filter is_written (concat pages)
-
-abbrev pub is_line_feed : ℕ → Bool
-is_line_feed byte = byte == 10
-
--- without one CR at the end
-abbrev pub without_return : List ℕ → List ℕ
-without_return text =
-    if slice_index text (length text - 1) == 13 then take (length text - 1) text else text
-
--- what stands before each LF, without a CR right before it; and what stands behind the last LF, where that is not empty
-abbrev pub lines_between : List (List ℕ) → List (List ℕ)
-lines_between [] = []
-lines_between ([] ∷ []) = []
-lines_between ((byte ∷ bytes) ∷ []) = (byte ∷ bytes) ∷ []
-lines_between (piece ∷ next ∷ pieces) = without_return piece ∷ lines_between (next ∷ pieces)
-
-abbrev pub file_lines : List ℕ → List (List ℕ)
-file_lines text = lines_between (slice_split is_line_feed text)
 
 -- the first of the lines, and what is left behind it
 abbrev pub CutsLine : List ℕ → Cut → Type 0

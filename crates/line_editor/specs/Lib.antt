@@ -1,6 +1,6 @@
 pub mod Edits
 pub mod Files
 pub mod Judging
-pub mod Lines
 pub mod Numbers
 pub mod Seen
+pub mod Lines

@@ -1,22 +1,8 @@
--- The number that a line begins with.
-use Rattle.std.specs.Prelude.{◌≡◌, ◌<◌, ℕ, min, List, take, drop, Option, Some, None}
-use Rattle.std.specs.Char.{is_ascii_digit}
-use Rattle.std.specs.List.{prefix_len}
-use Rattle.std.specs.Str.Parse.{digits_value}
+-- What is told of the number that a line begins with.
+use Rattle.std.specs.Prelude.{◌≡◌, ◌<◌, ℕ, min, List, Option, Some, None}
+use Rattle.basic_tree.specs.LineNumbers.{digits_of, number_of, rest_of}
 use Rattle.line_editor.specs.declared.numbers.Numbered.{Numbered}
 use Rattle.line_editor.specs.declared.numbers.TheConstants.{TOO_GREAT}
-
--- how many digits the line begins with
-abbrev pub digits_of : List ℕ → ℕ
-digits_of text = prefix_len is_ascii_digit text
-
--- their value, in which leading zeros do not count
-abbrev pub number_of : List ℕ → ℕ
-number_of text = digits_value 10 (take (digits_of text) text)
-
--- what stands behind them
-abbrev pub rest_of : List ℕ → List ℕ
-rest_of text = drop (digits_of text) text
 
 -- numbers that no line has count alike
 abbrev pub HasNumber : List ℕ → Option Numbered → Type 0

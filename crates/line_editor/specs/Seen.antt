@@ -3,7 +3,8 @@ use Rattle.std.specs.Prelude.{ℕ, List}
 use Rattle.std.specs.BTreeMap.{BTreeMap}
 use Rattle.basic_tree.specs.declared.programs.Line.{Line}
 use Rattle.line_editor.specs.declared.text.ProgramText.TheInside.{Inside}
-use Rattle.line_editor.specs.Lines.{Lines, IsProgram, AreTrees}
+use Rattle.basic_tree.specs.ProgramLines.{Lines}
+use Rattle.line_editor.specs.Lines.{IsProgram, AreTrees}
 
 abbrev pub lines_seen : Inside → Lines
 lines_seen text = text.rests.entries

@@ -1,18 +1,18 @@
 //! Program files: their pages, and the lines that are read from them.
 
 ghost use Rattle.std.specs.Prelude.{◌≡◌, ◌<◌, ◌≤◌, ◌-◌, ◌++◌, [], length, filter, replicate, IfOk, OnOk, IsTrue, ◌↔◌};
-ghost use Rattle.line_editor.specs.Lines.{listing};
-ghost use Rattle.line_editor.specs.Files.{is_written, without_return, file_text, file_lines, IsPaged, IsFileOf, ArePlain, KeepsOne, KeepsAll, ReadsFile, CutsLine};
+ghost use Rattle.basic_tree.specs.ProgramLines.{listing};
+ghost use Rattle.basic_tree.specs.FileLines.{is_written, without_return, file_text, file_lines};
+ghost use Rattle.basic_values.specs.declared.limits.TheConstants.{BLOCK_BYTES};
+ghost use Rattle.line_editor.specs.Files.{IsPaged, IsFileOf, ArePlain, KeepsOne, KeepsAll, ReadsFile, CutsLine};
 
 use crate::numbers::line_number;
-use crate::text::{MOST_NUMBER, ProgramText};
+use crate::text::ProgramText;
 use basic_values::errors::DATA_FORMAT_ERROR;
+use basic_values::limits::{BLOCK_BYTES, MOST_NUMBER};
 use basic_values::{Fault, NoMemory, Trouble};
 use monitor_calls::Page;
 use std::alloc::Global;
-
-/// The bytes of a page.
-pub const PAGE_BYTES: usize = 512;
 
 /// The first line of some text, and what is left behind it.
 #[derive(Clone, Copy)]
@@ -81,7 +81,7 @@ fn pages_of(alloc: Global, bytes: &[u8]) -> Result<Vec<Page>, NoMemory>
     let mut pages = Vec::new(alloc);
     let mut left = bytes;
     while !left.is_empty() {
-        let (front, behind) = left.split_at(left.len().min(PAGE_BYTES));
+        let (front, behind) = left.split_at(left.len().min(BLOCK_BYTES));
         pages.push(page_of(alloc, front)?)?;
         left = behind;
     }
@@ -90,12 +90,12 @@ fn pages_of(alloc: Global, bytes: &[u8]) -> Result<Vec<Page>, NoMemory>
 
 /// A page that begins with these bytes, with zeros behind them.
 fn page_of(alloc: Global, bytes: &[u8]) -> Result<Page, NoMemory>
-    requires { length bytes.now ≤ PAGE_BYTES }
+    requires { length bytes.now ≤ BLOCK_BYTES }
     ensures { IfOk result
-        (λ page. page ≡ bytes.now ++ replicate (PAGE_BYTES - length bytes.now) 0) }
+        (λ page. page ≡ bytes.now ++ replicate (BLOCK_BYTES - length bytes.now) 0) }
 {
     let mut whole = Vec::from_slice(alloc, bytes)?;
-    whole.resize(PAGE_BYTES, 0)?;
+    whole.resize(BLOCK_BYTES, 0)?;
     let mut page = Page::new(alloc)?;
     page.fill(whole.as_slice());
     Ok(page)

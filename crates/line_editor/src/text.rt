@@ -5,23 +5,20 @@ ghost use Rattle.std.specs.BTreeMap.{IsOrdered};
 ghost use Rattle.std.specs.Fmt.{decimal};
 ghost use Rattle.std.specs.Ordering.{nat_cmp};
 ghost use Rattle.line_editor.specs.Edits.{Edits, Keeps, HasRoom, Deletes};
-ghost use Rattle.line_editor.specs.Lines.{stored, removed, is_within, within, without, listed, listing, IsNumber, IsProgram, IsProgramLine, IsTreeOf, AreTrees};
+ghost use Rattle.basic_tree.specs.ProgramLines.{stored, removed, is_within, within, without, listed, listing};
+ghost use Rattle.line_editor.specs.Lines.{IsNumber, IsProgram, IsProgramLine, IsTreeOf, AreTrees};
 ghost use Rattle.line_editor.specs.Seen.{AreWhole};
 ghost use Rattle.line_editor.specs.Judging.{IsEditVerdict};
 
 use basic_line::read_line;
 use basic_tree::{Line, Program, Refusal};
+use basic_values::limits::{MOST_LINES, MOST_NUMBER};
 use basic_values::{LINE_LENGTH, NoMemory, Text2, Trouble};
 use itoa::Buffer;
+use stage_forms::is_in_stage;
 use std::alloc::Global;
 use std::collections::BTreeMap;
 use std::marker::Model;
-
-/// How many lines a program has at the most.
-pub const MOST_LINES: usize = 1000;
-
-/// The greatest number of a line.
-pub(crate) const MOST_NUMBER: u16 = 32767;
 
 /// Why a line is not stored. The first cause of this list that there is.
 #[derive(Clone, Copy, Debug, PartialEq, Eq)]
@@ -32,6 +29,8 @@ pub enum EditRefusal {
     TooLong,
     /// What stands behind the number spells no line. Places are counted behind it.
     Line(Refusal),
+    /// A statement in it is of a later stage.
+    Later,
     /// It is a new line beside 1,000 others.
     TooMany,
 }
@@ -45,7 +44,7 @@ pub struct ProgramText {
 }
 
 impl Model for ProgramText {
-    ghost use Rattle.line_editor.specs.Lines.{Lines};
+    ghost use Rattle.basic_tree.specs.ProgramLines.{Lines};
 
     ghost Value = { Lines };
 
@@ -202,7 +201,11 @@ fn judged(alloc: Global, number: u16, rest: &[u8]) -> Result<Line, Trouble<EditR
         return Err(Trouble::Refused(EditRefusal::TooLong));
     }
     match read_line(alloc, rest) {
-        Ok(line) => Ok(line),
+        Ok(line) => if is_in_stage(&line) {
+            Ok(line)
+        } else {
+            Err(Trouble::Refused(EditRefusal::Later))
+        },
         Err(Trouble::Refused(refusal)) => Err(Trouble::Refused(EditRefusal::Line(refusal))),
         Err(Trouble::NoMemory) => Err(Trouble::NoMemory),
     }

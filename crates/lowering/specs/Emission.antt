@@ -1,48 +1,29 @@
--- How many items parts of statements have, and what is put in front of items.
-use Rattle.std.specs.Prelude.{ℕ, ◌+◌, List, [], ◌∷◌}
-use Rattle.basic_tree.specs.declared.parts.Target.{Target}
-use Rattle.basic_tree.specs.declared.parts.Printed.{Printed}
-use Rattle.basic_tree.specs.declared.parts.PrintItem.{PrintItem}
+-- What is put in front of others, into whatever takes items.
+use Rattle.std.specs.Prelude.{ℕ, suc, List}
 use Rattle.basic_tree.specs.Trees.{Tree, Trees, ClauseTree, StatementTree}
-use Rattle.basic_tree.specs.TreeViews.{target_of, printed_of}
 use Rattle.program_model.specs.Program.{Program}
 use Rattle.polish_code.specs.declared.items.Item.{Item}
-use Rattle.polish_code.specs.Code.{Piece, expr_code, trees_code, pieces_code, simple_pieces, body_code, clause_code, pieces_size, places_of, target_pieces, printed_pieces, separator_pieces}
+use Rattle.polish_code.specs.Code.{Piece, expr_put, trees_put, pieces_put, simple_pieces, body_put, clause_put, places_of}
 
--- SIZES OF PARTS
+-- who only counts has one more
+abbrev pub one_more : Item → ℕ → ℕ
+one_more i n = suc n
 
-abbrev pub target_size : Target → ℕ
-target_size t = pieces_size (target_pieces (target_of t) [])
+abbrev pub with_expression : {S : Type 0} → (Item → S → S) → Program → Tree → S → S
+with_expression put program e s = expr_put put program (places_of program) e s
 
--- targets, each with so many items more
-abbrev pub targets_size : ℕ → List Target → ℕ
-targets_size each [] = 0
-targets_size each (t ∷ ts) = target_size t + each + targets_size each ts
+abbrev pub with_trees : {S : Type 0} → (Item → S → S) → Program → Trees → S → S
+with_trees put program es s = trees_put put program (places_of program) es s
 
-abbrev pub printed_size : Printed → ℕ
-printed_size p = pieces_size (printed_pieces (printed_of p) [])
-
-abbrev pub print_size : List PrintItem → ℕ
-print_size [] = 0
-print_size (i ∷ items) = printed_size i.printed + (pieces_size (separator_pieces i.separator []) + print_size items)
-
--- WHAT IS PUT IN FRONT OF ITEMS
-
-abbrev pub with_expression : Program → Tree → List Item → List Item
-with_expression program e is = expr_code program (places_of program) e is
-
-abbrev pub with_pieces : Program → List Piece → List Item → List Item
-with_pieces program ps is = pieces_code program (places_of program) ps is
-
-abbrev pub with_trees : Program → Trees → List Item → List Item
-with_trees program ts is = trees_code program (places_of program) ts is
+abbrev pub with_pieces : {S : Type 0} → (Item → S → S) → Program → List Piece → S → S
+with_pieces put program ps s = pieces_put put program (places_of program) ps s
 
 -- the m-th statement, or one inside it, with so many FORs in front
-abbrev pub with_simple : Program → ℕ → ℕ → StatementTree → List Item → List Item
-with_simple program m i s is = with_pieces program (simple_pieces program (places_of program) m i s) is
+abbrev pub with_simple : {S : Type 0} → (Item → S → S) → Program → ℕ → ℕ → StatementTree → S → S
+with_simple put program m i x s = with_pieces put program (simple_pieces program (places_of program) m i x) s
 
-abbrev pub with_body : Program → ℕ → ℕ → StatementTree → List Item → List Item
-with_body program m i s is = body_code program (places_of program) m i s is
+abbrev pub with_body : {S : Type 0} → (Item → S → S) → Program → ℕ → ℕ → StatementTree → S → S
+with_body put program m i x s = body_put put program (places_of program) m i x s
 
-abbrev pub with_clause : Program → ℕ → ℕ → ClauseTree → List Item → List Item
-with_clause program m i c is = clause_code program (places_of program) m i c is
+abbrev pub with_clause : {S : Type 0} → (Item → S → S) → Program → ℕ → ℕ → ClauseTree → S → S
+with_clause put program m i c s = clause_put put program (places_of program) m i c s

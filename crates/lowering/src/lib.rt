@@ -6,20 +6,27 @@
 //!
 //! Whether a program is sound `program_soundness` says, on which this crate stands; so does the
 //! listing of its text. `polish_code` puts the items of each tree in front of others; so does this
-//! crate: `Emitted` grows at its front, and what runs last is emitted first. What a statement needs
-//! of the rest of the program is the trait `Lookups`, which `Placement` meets: the tables of a
-//! program, and where each of its statements stands in the code.
+//! crate, and what runs last is emitted first. Where items go is the trait `Sink`: `Emitted` keeps
+//! them, and `Counted` counts them. What a statement needs of the rest of the program is the trait
+//! `Lookups`, which `Placement` meets: the tables of a program, and where each of its statements
+//! stands in the code. How many items a statement has does not depend on them: there `Nowhere`
+//! stands for them.
 #![tactic(auto)]
 
+mod counted;
 mod emitted;
 mod expressions;
+mod file_items;
 mod lookups;
 mod loops;
 mod lowered;
+mod measured;
+mod nowhere;
+mod numbers;
 mod placement;
 mod program;
 mod simple;
-mod sizes;
+mod sink;
 mod statements;
 mod words;
 

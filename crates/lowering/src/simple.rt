@@ -10,28 +10,29 @@ ghost use Rattle.polish_code.specs.declared.items.Item.TheVariants as item;
 ghost use Rattle.polish_code.specs.Code.{It, places_of, def_pieces, target_pieces, targets_pieces, judged_pieces, input_pieces, read_pieces, printed_pieces, separator_pieces, print_pieces, end_pieces, step_piece};
 ghost use Rattle.lowering.specs.Emission.{with_pieces, with_simple};
 
-use crate::emitted::Emitted;
 use crate::expressions::emit_expr;
+use crate::file_items::{emit_close, emit_open, emit_with_block, emit_with_one, emit_with_two};
 use crate::lookups::Lookups;
-use crate::sizes::{add, count_expr, counted};
+use crate::numbers::counted;
+use crate::sink::{Jump, Over, Sink};
 use basic_tree::{Expr, PrintItem, Printed, Prompt, Separator, Series, Statement, Target};
 use basic_values::{NoMemory, Text};
 use monitor_calls::copy_of;
-use polish_code::Item;
+use polish_code::{FileAct, Item};
 use program_soundness::named_line;
 use std::alloc::Global;
 
 /// Puts the items behind the start of the m-th statement in front, which has i FORs before it.
-pub fn emit_simple<L: Lookups>(
+pub fn emit_simple<K: Sink, L: Lookups>(
     alloc: Global,
-    code: &mut Emitted,
+    code: &mut K,
     tables: &L,
     m: usize,
     i: u32,
     statement: &Statement,
 ) -> Result<(), NoMemory>
     ensures { OnOk result (code.new
-        ≡ with_simple (L.program tables.now) m i (statement_of statement.now) code.old) }
+        ≡ with_simple K.with (L.program tables.now) m i (statement_of statement.now) code.old) }
 {
     match statement {
         Statement::For {
@@ -110,7 +111,44 @@ pub fn emit_simple<L: Lookups>(
         Statement::OnErrorGoto(line) => code.put(Item::OnError(named_line(*line))),
         Statement::Resume(line) => emit_resume(code, tables, *line),
         Statement::Stop => code.put(Item::Stop(tables.home(m))),
-        Statement::End => code.put(Item::End),
+        Statement::End => {
+            code.put(Item::End)?;
+            code.put(Item::Ask(FileAct::ShutAll))
+        }
+        Statement::Sleep(seconds) => emit_with_one(alloc, code, tables, FileAct::Sleep, seconds),
+        Statement::Open {
+            file,
+            purpose,
+            channel,
+            record_size,
+            cluster_size,
+            mode,
+            ..
+        } => emit_open(
+            alloc,
+            code,
+            tables,
+            *purpose,
+            file,
+            channel,
+            record_size,
+            cluster_size,
+            mode,
+        ),
+        Statement::Close(channels) => emit_close(alloc, code, tables, channels.as_slice()),
+        Statement::Get { channel, record } => {
+            emit_with_block(alloc, code, tables, FileAct::Get, channel, record)
+        }
+        Statement::Put { channel, record } => {
+            emit_with_block(alloc, code, tables, FileAct::Put, channel, record)
+        }
+        Statement::Unlock(channel) => {
+            emit_with_one(alloc, code, tables, FileAct::Unlock, channel)
+        }
+        Statement::Kill(file) => emit_with_one(alloc, code, tables, FileAct::Kill, file),
+        Statement::Rename { old, new } => {
+            emit_with_two(alloc, code, tables, FileAct::Rename, old, new)
+        }
         Statement::IfThen { .. } => Ok(()),
         Statement::IfGoto { .. } => Ok(()),
         Statement::Modified { .. } => Ok(()),
@@ -118,17 +156,9 @@ pub fn emit_simple<L: Lookups>(
         Statement::Dim(_) => Ok(()),
         Statement::DimFile { .. } => Ok(()),
         Statement::Chain { .. } => Ok(()),
-        Statement::Sleep(_) => Ok(()),
-        Statement::Open { .. } => Ok(()),
-        Statement::Close(_) => Ok(()),
-        Statement::Get { .. } => Ok(()),
-        Statement::Put { .. } => Ok(()),
-        Statement::Unlock(_) => Ok(()),
         Statement::Field { .. } => Ok(()),
         Statement::Lset { .. } => Ok(()),
         Statement::Rset { .. } => Ok(()),
-        Statement::Kill(_) => Ok(()),
-        Statement::Rename { .. } => Ok(()),
         Statement::PrintUsing { .. } => Ok(()),
         Statement::MatRead(_) => Ok(()),
         Statement::MatPrint { .. } => Ok(()),
@@ -137,14 +167,14 @@ pub fn emit_simple<L: Lookups>(
 }
 
 /// The step of a FOR, 1 where none is given.
-pub fn emit_step<L: Lookups>(
+pub fn emit_step<K: Sink, L: Lookups>(
     alloc: Global,
-    code: &mut Emitted,
+    code: &mut K,
     tables: &L,
     step: &Option<Expr>,
 ) -> Result<(), NoMemory>
     ensures { OnOk result (code.new
-        ≡ with_pieces (L.program tables.now)
+        ≡ with_pieces K.with (L.program tables.now)
         (step_piece (option_map tree_of step.now) ∷ []) code.old) }
 {
     match step {
@@ -153,28 +183,26 @@ pub fn emit_step<L: Lookups>(
     }
 }
 
-fn emit_def<L: Lookups>(
+fn emit_def<K: Sink, L: Lookups>(
     alloc: Global,
-    code: &mut Emitted,
+    code: &mut K,
     tables: &L,
     m: usize,
     value: &Option<Expr>,
 ) -> Result<(), NoMemory>
     ensures { OnOk result (code.new
-        ≡ with_pieces (L.program tables.now)
+        ≡ with_pieces K.with (L.program tables.now)
         (def_pieces (L.program tables.now) (places_of (L.program tables.now)) m
         (option_map tree_of value.now)) code.old) }
 {
     match value {
         None => code.put(Item::Jump(tables.past_body(m))),
         Some(value) => {
-            let mut size = 3;
-            count_expr(&mut size, value)?;
             code.put(Item::Leave)?;
             code.put(Item::Answer)?;
             emit_expr(alloc, code, tables, value)?;
             code.put(Item::Arrive(tables.home(m)))?;
-            code.put(Item::Skip(size))
+            code.put_jump(alloc, Jump::Skip, Over::Value(value))
         }
     }
 }
@@ -182,14 +210,14 @@ fn emit_def<L: Lookups>(
 // Targets
 
 /// The store to a target.
-fn emit_target<L: Lookups>(
+fn emit_target<K: Sink, L: Lookups>(
     alloc: Global,
-    code: &mut Emitted,
+    code: &mut K,
     tables: &L,
     target: &Target,
 ) -> Result<(), NoMemory>
     ensures { OnOk result (code.new
-        ≡ with_pieces (L.program tables.now) (target_pieces (target_of target.now) []) code.old) }
+        ≡ with_pieces K.with (L.program tables.now) (target_pieces (target_of target.now) []) code.old) }
 {
     match target {
         Target::Variable(name) => code.put(Item::Store(*name)),
@@ -218,14 +246,14 @@ fn emit_target<L: Lookups>(
 }
 
 /// The stores of one value.
-fn emit_stores<L: Lookups>(
+fn emit_stores<K: Sink, L: Lookups>(
     alloc: Global,
-    code: &mut Emitted,
+    code: &mut K,
     tables: &L,
     targets: &[Target],
 ) -> Result<(), NoMemory>
     ensures { OnOk result (code.new
-        ≡ with_pieces (L.program tables.now)
+        ≡ with_pieces K.with (L.program tables.now)
         (targets_pieces (map target_of targets.now) (It item.Discard ∷ [])) code.old) }
 {
     code.put(Item::Discard)?;
@@ -236,14 +264,14 @@ fn emit_stores<L: Lookups>(
 }
 
 /// An item that becomes a value and is stored.
-fn emit_judged<L: Lookups>(
+fn emit_judged<K: Sink, L: Lookups>(
     alloc: Global,
-    code: &mut Emitted,
+    code: &mut K,
     tables: &L,
     target: &Target,
 ) -> Result<(), NoMemory>
     ensures { OnOk result (code.new
-        ≡ with_pieces (L.program tables.now) (judged_pieces (target_of target.now) []) code.old) }
+        ≡ with_pieces K.with (L.program tables.now) (judged_pieces (target_of target.now) []) code.old) }
 {
     code.put(Item::Discard)?;
     emit_target(alloc, code, tables, target)?;
@@ -259,15 +287,15 @@ fn takes_text(target: &Target) -> bool
     }
 }
 
-fn emit_input<L: Lookups>(
+fn emit_input<K: Sink, L: Lookups>(
     alloc: Global,
-    code: &mut Emitted,
+    code: &mut K,
     tables: &L,
     prompt: &Option<Prompt>,
     targets: &[Target],
 ) -> Result<(), NoMemory>
     ensures { OnOk result (code.new
-        ≡ with_pieces (L.program tables.now)
+        ≡ with_pieces K.with (L.program tables.now)
         (It (item.AskItems (prompt_text (option_map prompt_of prompt.now))
         (length targets.now)) ∷ input_pieces (map target_of targets.now)) code.old) }
 {
@@ -289,14 +317,14 @@ fn prompt_copy(alloc: Global, prompt: &Option<Prompt>) -> Result<Text, NoMemory>
     }
 }
 
-fn emit_read<L: Lookups>(
+fn emit_read<K: Sink, L: Lookups>(
     alloc: Global,
-    code: &mut Emitted,
+    code: &mut K,
     tables: &L,
     targets: &[Target],
 ) -> Result<(), NoMemory>
     ensures { OnOk result (code.new
-        ≡ with_pieces (L.program tables.now) (read_pieces (map target_of targets.now)) code.old) }
+        ≡ with_pieces K.with (L.program tables.now) (read_pieces (map target_of targets.now)) code.old) }
 {
     for place in (0..targets.len()).rev() {
         emit_judged(alloc, code, tables, &targets[place])?;
@@ -307,15 +335,15 @@ fn emit_read<L: Lookups>(
 
 // PRINT
 
-fn emit_print<L: Lookups>(
+fn emit_print<K: Sink, L: Lookups>(
     alloc: Global,
-    code: &mut Emitted,
+    code: &mut K,
     tables: &L,
     items: &[PrintItem],
     last: &Option<Printed>,
 ) -> Result<(), NoMemory>
     ensures { OnOk result (code.new
-        ≡ with_pieces (L.program tables.now)
+        ≡ with_pieces K.with (L.program tables.now)
         (print_pieces (map item_of items.now) (end_pieces (map item_of items.now)
         (option_map printed_of last.now))) code.old) }
 {
@@ -326,15 +354,15 @@ fn emit_print<L: Lookups>(
     Ok(())
 }
 
-fn emit_print_end<L: Lookups>(
+fn emit_print_end<K: Sink, L: Lookups>(
     alloc: Global,
-    code: &mut Emitted,
+    code: &mut K,
     tables: &L,
     items: &[PrintItem],
     last: &Option<Printed>,
 ) -> Result<(), NoMemory>
     ensures { OnOk result (code.new
-        ≡ with_pieces (L.program tables.now)
+        ≡ with_pieces K.with (L.program tables.now)
         (end_pieces (map item_of items.now) (option_map printed_of last.now)) code.old) }
 {
     match last {
@@ -349,14 +377,14 @@ fn emit_print_end<L: Lookups>(
     }
 }
 
-fn emit_print_item<L: Lookups>(
+fn emit_print_item<K: Sink, L: Lookups>(
     alloc: Global,
-    code: &mut Emitted,
+    code: &mut K,
     tables: &L,
     item: &PrintItem,
 ) -> Result<(), NoMemory>
     ensures { OnOk result (code.new
-        ≡ with_pieces (L.program tables.now)
+        ≡ with_pieces K.with (L.program tables.now)
         (printed_pieces (printed_of item.now.printed)
         (separator_pieces item.now.separator [])) code.old) }
 {
@@ -367,14 +395,14 @@ fn emit_print_item<L: Lookups>(
     emit_printed(alloc, code, tables, &item.printed)
 }
 
-fn emit_printed<L: Lookups>(
+fn emit_printed<K: Sink, L: Lookups>(
     alloc: Global,
-    code: &mut Emitted,
+    code: &mut K,
     tables: &L,
     printed: &Printed,
 ) -> Result<(), NoMemory>
     ensures { OnOk result (code.new
-        ≡ with_pieces (L.program tables.now)
+        ≡ with_pieces K.with (L.program tables.now)
         (printed_pieces (printed_of printed.now) []) code.old) }
 {
     match printed {
@@ -406,14 +434,14 @@ fn line_places<L: Lookups>(
     Ok(Series::from_vec(places))
 }
 
-fn emit_resume<L: Lookups>(
-    code: &mut Emitted,
+fn emit_resume<K: Sink, L: Lookups>(
+    code: &mut K,
     tables: &L,
     line: Option<u16>,
 ) -> Result<(), NoMemory>
     ensures { OnOk result (code.new
-        ≡ item.Resume (option_map (places_of (L.program tables.now)).line
-        (line_named line)) ∷ code.old) }
+        ≡ K.with (item.Resume (option_map (places_of (L.program tables.now)).line
+        (line_named line))) code.old) }
 {
     match named_line(line) {
         None => code.put(Item::Resume(None)),

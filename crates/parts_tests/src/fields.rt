@@ -1,30 +1,34 @@
-//! Fields over one buffer.
+//! Fields over the buffers of channels.
 
-ghost use Rattle.record_fields.specs.Buffers.{IsChannel};
-
-use basic_tree::Name;
 use basic_values::{Int, Trouble};
-use job_memory::Memory;
-use record_fields::{Buffers, Part, layout, lend, lset_part, rset_part};
+use record_fields::{Buffers, Part, RecordSize, Side, layout, lset, rset, shift_within};
 use std::alloc::Global;
 use std::test::Fail;
 
-/// The widths of three parts, and the offset and the length of each in turn.
-type Widths = ([i16; 3], Option<[u16; 6]>);
+/// The bytes of a buffer, the widths of three fields, and the offset and the length of each in turn.
+type Widths = (u16, [i16; 3], Option<[u16; 6]>);
 
-static LAYOUTS: [Widths; 6] = [
-    ([4, 6, 0], Some([0, 4, 4, 6, 10, 0])),
-    ([512, 0, 0], Some([0, 512, 512, 0, 512, 0])),
-    ([0, 0, 512], Some([0, 0, 0, 0, 0, 512])),
-    ([512, 1, 0], None),
-    ([4, -1, 0], None),
-    ([32767, 32767, 2], None),
+static LAYOUTS: [Widths; 13] = [
+    (512, [4, 6, 0], Some([0, 4, 4, 6, 10, 0])),
+    (512, [512, 0, 0], Some([0, 512, 512, 0, 512, 0])),
+    (512, [0, 0, 512], Some([0, 0, 0, 0, 0, 512])),
+    (512, [512, 1, 0], None),
+    (512, [4, -1, 0], None),
+    (512, [32767, 32767, 2], None),
+    (1024, [512, 1, 511], Some([0, 512, 512, 1, 513, 511])),
+    (1024, [1024, 0, 1], None),
+    (1024, [-1, 1024, 0], None),
+    (1536, [1, 1535, 0], Some([0, 1, 1, 1535, 1536, 0])),
+    (1536, [512, 512, 512], Some([0, 512, 512, 512, 1024, 512])),
+    (1536, [512, 1024, 1], None),
+    (1536, [32767, 32767, 2], None),
 ];
 
 /// The parts of these widths; none where they are refused with 63.
-fn parts_of(alloc: Global, widths: [i16; 3]) -> Result<Option<Vec<Part>>, Fail> {
+fn parts_of(alloc: Global, bytes: u16, widths: [i16; 3]) -> Result<Option<Vec<Part>>, Fail> {
     let [first, second, third] = widths;
-    match layout(alloc, &[Int::new(first), Int::new(second), Int::new(third)]) {
+    let widths = [Int::new(first), Int::new(second), Int::new(third)];
+    match layout(alloc, &widths, bytes) {
         Ok(parts) => Ok(Some(parts)),
         Err(Trouble::Refused(fault)) if fault.number() == 63 => Ok(None),
         Err(_) => Err("another answer")?,
@@ -48,7 +52,7 @@ fn are_at(parts: &[Part], places: &[u16; 6]) -> bool {
 }
 
 fn is_laid_out(alloc: Global, row: &Widths) -> Result<bool, Fail> {
-    match (parts_of(alloc, row.0)?, row.1) {
+    match (parts_of(alloc, row.0, row.1)?, row.2) {
         (Some(parts), Some(places)) => Ok(are_at(parts.as_slice(), &places)),
         (None, None) => Ok(true),
         _ => Ok(false),
@@ -71,127 +75,269 @@ fn fields_stand_one_behind_the_other(rt: HostRuntime) -> Result<(), Fail> {
     Ok(())
 }
 
-const WHOLE: Part = Part {
-    offset: 0,
-    length: 10,
-};
+/// A part from this byte on, of so many.
+#[derive(Clone, Copy)]
+struct At(u16, u16);
 
-const FRONT: Part = Part {
-    offset: 0,
-    length: 4,
-};
-
-const BACK: Part = Part {
-    offset: 4,
-    length: 6,
-};
-
-const ALL: Part = Part {
-    offset: 0,
-    length: 512,
-};
-
-/// A part of the buffer of channel 1 begins with these bytes when a value is put to its left or,
-/// where the row says so, to its right.
-fn put(buffers: &mut Buffers, part: Part, value: &[u8], to_the_right: bool) {
-    if part.offset != 0 || part.length > 512 {
-        return;
-    }
-    let buffer = buffers.buffer_mut(1);
-    if to_the_right {
-        rset_part(buffer, part, value);
-    } else {
-        lset_part(buffer, part, value);
+fn part(at: At) -> Part {
+    Part {
+        offset: at.0,
+        length: at.1,
     }
 }
 
-fn shows(buffers: &Buffers, part: Part, bytes: &[u8]) -> bool {
-    if part.offset > 4 || part.length > 12 {
-        return false;
+/// A buffer of ten bytes, the part that is moved, where to, and the buffer behind that.
+type Move = (&'static [u8], At, At, Side, &'static [u8]);
+
+static MOVES: [Move; 16] = [
+    (
+        b"ABCDEFGHIJ",
+        At(0, 10),
+        At(4, 6),
+        Side::Left,
+        b"ABCDABCDEF",
+    ),
+    (
+        b"ABCDABCDEF",
+        At(4, 6),
+        At(0, 4),
+        Side::Right,
+        b"CDEFABCDEF",
+    ),
+    (b"ABCDEFGHIJ", At(0, 6), At(2, 6), Side::Left, b"ABABCDEFIJ"),
+    (b"ABCDEFGHIJ", At(2, 6), At(0, 6), Side::Left, b"CDEFGHGHIJ"),
+    (
+        b"ABCDEFGHIJ",
+        At(0, 6),
+        At(2, 6),
+        Side::Right,
+        b"ABABCDEFIJ",
+    ),
+    (
+        b"ABCDEFGHIJ",
+        At(2, 6),
+        At(0, 6),
+        Side::Right,
+        b"CDEFGHGHIJ",
+    ),
+    (b"ABCDEFGHIJ", At(0, 4), At(2, 8), Side::Left, b"ABABCD    "),
+    (
+        b"ABCDEFGHIJ",
+        At(0, 4),
+        At(2, 8),
+        Side::Right,
+        b"AB    ABCD",
+    ),
+    (b"ABCDEFGHIJ", At(4, 6), At(0, 8), Side::Left, b"EFGHIJ  IJ"),
+    (
+        b"ABCDEFGHIJ",
+        At(4, 6),
+        At(0, 8),
+        Side::Right,
+        b"  EFGHIJIJ",
+    ),
+    (
+        b"ABCDEFGHIJ",
+        At(0, 10),
+        At(0, 10),
+        Side::Left,
+        b"ABCDEFGHIJ",
+    ),
+    (b"ABCDEFGHIJ", At(3, 0), At(1, 3), Side::Left, b"A   EFGHIJ"),
+    (
+        b"ABCDEFGHIJ",
+        At(3, 0),
+        At(1, 3),
+        Side::Right,
+        b"A   EFGHIJ",
+    ),
+    (
+        b"ABCDEFGHIJ",
+        At(0, 10),
+        At(5, 0),
+        Side::Right,
+        b"ABCDEFGHIJ",
+    ),
+    (b"ABCDEFGHIJ", At(8, 9), At(0, 4), Side::Left, b"IJ  EFGHIJ"),
+    (b"ABCDEFGHIJ", At(0, 4), At(8, 3), Side::Left, b"ABCDEFGHIJ"),
+];
+
+/// The place of the first row that leaves another thing.
+fn first_wrong_move(alloc: Global) -> Result<Option<usize>, Fail> {
+    for (place, row) in MOVES.iter().enumerate() {
+        if !is_moved(alloc, row)? {
+            return Ok(Some(place));
+        }
     }
-    lend(buffers.buffer(1), part) == bytes
+    Ok(None)
 }
 
-fn shows_each(buffers: &Buffers, whole: &[u8], front: &[u8], back: &[u8]) -> bool {
-    shows(buffers, WHOLE, whole) && shows(buffers, FRONT, front) && shows(buffers, BACK, back)
-}
-
-/// A byte of a channel's buffer.
-fn byte_of(buffers: &Buffers, channel: u8, place: usize) -> Option<u8>
-    requires { IsChannel channel }
-{
-    buffers.buffer(channel).get(place).copied()
+fn is_moved(alloc: Global, row: &Move) -> Result<bool, Fail> {
+    let (before, from, to, side, behind) = *row;
+    let mut buffer = Vec::new(alloc);
+    buffer.extend_from_slice(before)?;
+    shift_within(buffer.as_mut_slice(), part(from), part(to), side);
+    Ok(buffer.as_slice() == behind)
 }
 
 #[test]
-fn a_write_shows_in_each_field_that_it_meets(rt: HostRuntime) -> Result<(), Fail> {
-    let mut buffers = Buffers::new(rt.alloc())?;
-    put(&mut buffers, WHOLE, b"ABCDEFGHIJKL", false);
-    assert!(rt; shows_each(&buffers, b"ABCDEFGHIJ", b"ABCD", b"EFGHIJ"));
-    put(&mut buffers, WHOLE, b"ABCDEFGHIJKL", true);
-    assert!(rt; shows_each(&buffers, b"CDEFGHIJKL", b"CDEF", b"GHIJKL"));
-    put(&mut buffers, FRONT, b"X", true);
-    assert!(rt; shows_each(&buffers, b"   XGHIJKL", b"   X", b"GHIJKL"));
-    assert!(rt; byte_of(&buffers, 1, 10) == Some(0) && byte_of(&buffers, 2, 0) == Some(0));
+fn a_field_is_moved_onto_one_that_it_meets(rt: HostRuntime) -> Result<(), Fail> {
+    let wrong = first_wrong_move(rt.alloc())?;
+    assert_eq!(rt; wrong, None);
     Ok(())
 }
 
-/// A value at the right of a whole buffer.
-fn put_whole(buffers: &mut Buffers) {
-    rset_part(buffers.buffer_mut(12), ALL, b"X");
+/// A value, and what a field of four bytes holds behind LSET and behind RSET.
+type Value = (&'static [u8], &'static [u8], &'static [u8]);
+
+static VALUES: [Value; 4] = [
+    (b"ABCDEF", b"ABCD", b"CDEF"),
+    (b"ABCD", b"ABCD", b"ABCD"),
+    (b"AB", b"AB  ", b"  AB"),
+    (b"", b"    ", b"    "),
+];
+
+fn is_justified(row: &Value) -> bool {
+    let (value, left, right) = *row;
+    let mut field = *b"....";
+    lset(&mut field, value);
+    let is_left = field.as_slice() == left;
+    rset(&mut field, value);
+    is_left && field.as_slice() == right
 }
 
 #[test]
-fn a_field_may_be_the_whole_buffer(rt: HostRuntime) -> Result<(), Fail> {
-    let mut buffers = Buffers::new(rt.alloc())?;
-    put_whole(&mut buffers);
-    assert!(rt; byte_of(&buffers, 12, 0) == Some(b' '));
-    assert!(rt; byte_of(&buffers, 12, 511) == Some(b'X'));
-    assert!(rt; byte_of(&buffers, 11, 511) == Some(0));
+fn a_value_is_cut_or_padded(rt: HostRuntime) -> Result<(), Fail> {
+    assert_eq!(rt; VALUES.iter().position(|row| !is_justified(row)), None);
     Ok(())
 }
 
-const NAME: Name = Name {
-    letter: b'A',
-    digit: Some(b'1'),
-    text: true,
-};
+/// What is done to the buffer of channel 3.
+#[derive(Clone, Copy)]
+enum Act {
+    Size(RecordSize),
+    Shrink,
+    Fill(&'static [u8]),
+    /// Bytes from a place on.
+    Write(u16, &'static [u8]),
+    /// A part with zeros behind the bytes.
+    Part(At, &'static [u8]),
+    Lset(At, &'static [u8]),
+    Rset(At, &'static [u8]),
+    /// A part that is moved to another by LSET.
+    Shift(At, At),
+}
 
-/// A memory in which a text is lent from the whole buffer of channel 3, and how long the text is.
-fn lent(alloc: Global, buffers: &Buffers) -> Result<(Memory, usize), Fail> {
-    let name = NAME;
-    let part = Part {
+/// An act, how many bytes the buffer has then, and a part of it.
+type Row = (Act, usize, At, &'static [u8]);
+
+static ROWS: [Row; 20] = [
+    (
+        Act::Lset(At(0, 10), b"ABCDEFGHIJKL"),
+        512,
+        At(0, 12),
+        b"ABCDEFGHIJ\0\0",
+    ),
+    (
+        Act::Rset(At(0, 10), b"ABCDEFGHIJKL"),
+        512,
+        At(0, 12),
+        b"CDEFGHIJKL\0\0",
+    ),
+    (Act::Rset(At(0, 4), b"X"), 512, At(0, 10), b"   XGHIJKL"),
+    (
+        Act::Shift(At(0, 10), At(4, 6)),
+        512,
+        At(0, 12),
+        b"   X   XGH\0\0",
+    ),
+    (Act::Lset(At(510, 3), b"XYZ"), 512, At(509, 9), b"\0\0\0"),
+    (Act::Size(RecordSize::Two), 1024, At(0, 4), b"\0\0\0\0"),
+    (Act::Lset(At(510, 3), b"XYZ"), 1024, At(509, 5), b"\0XYZ\0"),
+    (
+        Act::Part(At(508, 4), b"PQRSTU"),
+        1024,
+        At(507, 7),
+        b"\0PQRSZ\0",
+    ),
+    (Act::Part(At(511, 3), b"T"), 1024, At(507, 7), b"\0PQRT\0\0"),
+    (
+        Act::Part(At(511, 514), b"U"),
+        1024,
+        At(507, 7),
+        b"\0PQRT\0\0",
+    ),
+    (Act::Write(1022, b"KLMN"), 1024, At(1021, 9), b"\0KL"),
+    (Act::Write(1024, b"KLMN"), 1024, At(1021, 9), b"\0KL"),
+    (Act::Write(9999, b"K"), 1024, At(1021, 9), b"\0KL"),
+    (
+        Act::Shift(At(508, 4), At(1019, 5)),
+        1024,
+        At(1018, 9),
+        b"\0PQRT ",
+    ),
+    (Act::Fill(b"AB"), 1024, At(0, 4), b"AB\0\0"),
+    (
+        Act::Lset(At(1020, 4), b"WXYZ"),
+        1024,
+        At(1018, 9),
+        b"\0\0WXYZ",
+    ),
+    (
+        Act::Size(RecordSize::Three),
+        1536,
+        At(1018, 6),
+        b"\0\0\0\0\0\0",
+    ),
+    (
+        Act::Rset(At(1532, 4), b"AB"),
+        1536,
+        At(1530, 9),
+        b"\0\0  AB",
+    ),
+    (Act::Lset(At(0, 1), b"A"), 1536, At(0, 2), b"A\0"),
+    (Act::Shrink, 512, At(0, 2), b"\0\0"),
+];
+
+/// Does it; a part that a call cannot take is left out.
+fn does(alloc: Global, buffers: &mut Buffers, act: Act) -> Result<(), Fail> {
+    match act {
+        Act::Size(size) => buffers.set_size(alloc, 3, size)?,
+        Act::Shrink => buffers.shrink(3),
+        Act::Fill(bytes) => buffers.fill(3, bytes),
+        Act::Write(place, bytes) => buffers.write_from(3, place, bytes),
+        Act::Part(at, bytes) => buffers.fill_part(3, part(at), bytes),
+        Act::Lset(at, value) => buffers.set_part(3, part(at), value, Side::Left),
+        Act::Rset(at, value) => buffers.set_part(3, part(at), value, Side::Right),
+        Act::Shift(from, to) => buffers.shift(3, part(from), part(to), Side::Left),
+    }
+    Ok(())
+}
+
+/// The place of the first row behind which the buffer, or another one, is not as it says.
+fn first_wrong_act(alloc: Global) -> Result<Option<usize>, Fail> {
+    let mut buffers = Buffers::new(alloc)?;
+    for (place, row) in ROWS.iter().enumerate() {
+        does(alloc, &mut buffers, row.0)?;
+        if !shows(&buffers, row) {
+            return Ok(Some(place));
+        }
+    }
+    Ok(None)
+}
+
+fn shows(buffers: &Buffers, row: &Row) -> bool {
+    let all = Part {
         offset: 0,
-        length: 512,
+        length: 2000,
     };
-    let mut memory = Memory::new(alloc);
-    match memory.bind_part(name, 3, part) {
-        Ok(()) => {
-            let length = memory.text(name, buffers).len();
-            Ok((memory, length))
-        }
-        Err(_) => Err("not bound")?,
-    }
-}
-
-/// Whether a call with the text as its parameter is entered and left.
-fn is_called(memory: &mut Memory) -> bool {
-    match memory.enter(&[NAME]) {
-        Ok(()) => {
-            memory.leave();
-            true
-        }
-        Err(_) => false,
-    }
+    let others = buffers.part(2, all).len() + buffers.part(13, all).len();
+    buffers.buffer(3).len() == row.1 && buffers.part(3, part(row.2)) == row.3 && others == 512
 }
 
 #[test]
-fn a_closed_channel_empties_its_fields(rt: HostRuntime) -> Result<(), Fail> {
-    let buffers = Buffers::new(rt.alloc())?;
-    let (mut memory, length) = lent(rt.alloc(), &buffers)?;
-    assert_eq!(rt; length, 512);
-    memory.forget_channel(2);
-    memory.forget_channel(3);
-    assert!(rt; is_called(&mut memory));
+fn a_buffer_has_the_size_of_its_records(rt: HostRuntime) -> Result<(), Fail> {
+    let wrong = first_wrong_act(rt.alloc())?;
+    assert_eq!(rt; wrong, None);
     Ok(())
 }

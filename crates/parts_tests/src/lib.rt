@@ -1,6 +1,7 @@
 //! Tests of the parts that wholes are made of, by their public calls alone: of the monitor
 //! accounts, protection, the disk, the message queues, the table of jobs, the interlock, the printer, and names
-//! of files; of a job its memory, record fields, trap, terminal line, and the text of a program.
+//! of files; of a job its memory, record fields, trap and terminal line; the texts of SYS, and what PRINT USING
+//! writes.
 #![tactic(auto)]
 
 #[cfg(test)]
@@ -8,11 +9,7 @@ mod columns;
 #[cfg(test)]
 mod disks;
 #[cfg(test)]
-mod edits;
-#[cfg(test)]
 mod fields;
-#[cfg(test)]
-mod files;
 #[cfg(test)]
 mod interlock;
 #[cfg(test)]
@@ -40,4 +37,8 @@ mod seats;
 #[cfg(test)]
 mod specs;
 #[cfg(test)]
+mod sys_texts;
+#[cfg(test)]
 mod trap;
+#[cfg(test)]
+mod using_rows;

@@ -3,7 +3,7 @@
 use basic_tree::{Name, Shape};
 use basic_values::{Halt, Int, Stop, Text, Trouble};
 use job_memory::Memory;
-use record_fields::Part;
+use record_fields::{Buffers, Part};
 use std::alloc::Global;
 use std::test::Fail;
 
@@ -40,6 +40,15 @@ pub(crate) enum Step {
     SetTextAt(u8, i16, Option<i16>, u8, usize),
     /// A text is lent from the whole buffer of channel 1.
     Bind(u8),
+    /// A text is lent from this channel's buffer, from this byte on, so many bytes.
+    Field(u8, u8, u16, u16),
+    /// The channel of a fielded text, and the bytes in front of its part.
+    Place(u8),
+    /// How many bytes a text has, where each channel's buffer is one block.
+    Length(u8),
+    /// A channel is closed, or all of them.
+    Forget(u8),
+    ForgetAll,
     /// A call with one parameter, a text.
     EnterText(u8),
     /// A call with two parameters, which are one text.
@@ -57,6 +66,8 @@ pub(crate) enum Told {
     Is(i16),
     /// The first byte and the length of a text.
     Begins(u8, usize),
+    /// A channel, and how many bytes stand in front of the part, and in it.
+    At(u8, u16, u16),
     Empty,
     /// The room is full.
     Full,
@@ -176,7 +187,12 @@ fn set_text_at(
 
 fn call(alloc: Global, memory: &mut Memory, step: Step) -> Result<Told, Fail> {
     match step {
-        Step::Bind(letter) => Ok(bind(memory, letter)),
+        Step::Bind(letter) => Ok(field(memory, letter, 1, 0, 512)),
+        Step::Field(letter, channel, offset, length) => {
+            Ok(field(memory, letter, channel, offset, length))
+        }
+        Step::Place(letter) => Ok(place_of(memory, letter)),
+        Step::Length(letter) => length_of(alloc, memory, letter),
         Step::EnterText(letter) => Ok(made(memory.enter(&[text_name(letter)]))),
         Step::EnterTextTwice(letter) => {
             let name = text_name(letter);
@@ -191,16 +207,36 @@ fn call(alloc: Global, memory: &mut Memory, step: Step) -> Result<Told, Fail> {
             memory.clear();
             Ok(Told::Done)
         }
+        Step::Forget(channel) => {
+            memory.forget_channel(channel);
+            Ok(Told::Done)
+        }
+        Step::ForgetAll => {
+            memory.forget_all();
+            Ok(Told::Done)
+        }
         _ => Ok(Told::Other),
     }
 }
 
-fn bind(memory: &mut Memory, letter: u8) -> Told {
-    let part = Part {
-        offset: 0,
-        length: 512,
-    };
-    made(memory.bind_part(text_name(letter), 1, part))
+fn field(memory: &mut Memory, letter: u8, channel: u8, offset: u16, length: u16) -> Told {
+    made(memory.bind_part(text_name(letter), channel, Part { offset, length }))
+}
+
+fn place_of(memory: &Memory, letter: u8) -> Told {
+    match memory.place_of(text_name(letter)) {
+        Some((channel, part)) => Told::At(channel, part.offset, part.length),
+        None => Told::Empty,
+    }
+}
+
+fn length_of(alloc: Global, memory: &Memory, letter: u8) -> Result<Told, Fail> {
+    let buffers = Buffers::new(alloc)?;
+    let bytes = memory.text(text_name(letter), &buffers);
+    Ok(match bytes.first() {
+        Some(byte) => Told::Begins(*byte, bytes.len()),
+        None => Told::Empty,
+    })
 }
 
 fn enter(alloc: Global, memory: &mut Memory, letters: &[u8]) -> Result<Told, Fail> {
@@ -335,6 +371,45 @@ static CALLS: [Row; 18] = [
 #[test]
 fn a_call_puts_its_parameters_back(rt: HostRuntime) -> Result<(), Fail> {
     let wrong = first_wrong(rt.alloc(), &CALLS)?;
+    assert_eq!(rt; wrong, None);
+    Ok(())
+}
+
+/// A parameter that was fielded on a channel that is closed meanwhile comes back empty, also where
+/// another text is fielded on that channel again.
+static FIELDED: [Row; 27] = [
+    (Step::Place(b'A'), Told::Empty),
+    (Step::Field(b'A', 1, 4, 6), Told::Done),
+    (Step::Field(b'B', 2, 0, 512), Told::Done),
+    (Step::Field(b'C', 2, 510, 4), Told::Done),
+    (Step::Place(b'A'), Told::At(1, 4, 6)),
+    (Step::Length(b'A'), Told::Begins(0, 6)),
+    (Step::Length(b'B'), Told::Begins(0, 512)),
+    (Step::Length(b'C'), Told::Begins(0, 2)),
+    (Step::EnterText(b'A'), Told::Done),
+    (Step::Place(b'A'), Told::Empty),
+    (Step::Field(b'A', 2, 1, 2), Told::Done),
+    (Step::EnterText(b'A'), Told::Done),
+    (Step::Forget(1), Told::Done),
+    (Step::Field(b'A', 1, 7, 8), Told::Done),
+    (Step::Leave, Told::Done),
+    (Step::Place(b'A'), Told::At(2, 1, 2)),
+    (Step::Leave, Told::Done),
+    (Step::Place(b'A'), Told::Empty),
+    (Step::Length(b'A'), Told::Empty),
+    (Step::Place(b'B'), Told::At(2, 0, 512)),
+    (Step::EnterText(b'B'), Told::Done),
+    (Step::ForgetAll, Told::Done),
+    (Step::Leave, Told::Done),
+    (Step::Place(b'B'), Told::Empty),
+    (Step::Length(b'C'), Told::Empty),
+    (Step::SetText(b'C', b'X', 3), Told::Done),
+    (Step::Length(b'C'), Told::Begins(b'X', 3)),
+];
+
+#[test]
+fn a_closed_channel_empties_its_fields(rt: HostRuntime) -> Result<(), Fail> {
+    let wrong = first_wrong(rt.alloc(), &FIELDED)?;
     assert_eq!(rt; wrong, None);
     Ok(())
 }

@@ -14,7 +14,7 @@ use Rattle.error_trap.specs.declared.trap.Trap.{Trap}
 use Rattle.error_trap.specs.Trapping.{raised, led as led_to, way_out}
 use Rattle.job_memory.specs.Memory.{Memory, store, store_at}
 use Rattle.job_memory.specs.Calls.{enter}
-use Rattle.job_model.specs.Act.{Act, Gives, Breaks, Asks, Takes, ◌then◌, Break, Faulted, Halted, Gone, Left, break_over}
+use Rattle.job_model.specs.Act.{Act, Gives, Breaks, Asks, Takes, ◌then◌, Break, Faulted, Halted, Gone, Left, break_over, over, no_way}
 use Rattle.program_model.specs.declared.homes.Home.{Home}
 use Rattle.program_model.specs.Program.{Program, Position}
 use Rattle.program_model.specs.declared.values.Value.{Value}
@@ -24,9 +24,10 @@ use Rattle.program_model.specs.Job.{number, Job, Leaving, Ended, Stopped, Stoppe
 use Rattle.program_model.specs.Operators.{gives_number, sum_of, operated}
 use Rattle.program_model.specs.Functions.{applied, number_at}
 use Rattle.program_model.specs.Variables.{held, second, element, remembered, content_of, stored, stored_at}
+use Rattle.program_model.specs.Storage.{Storage, StorageAct, in_storage, stores_by}
 use Rattle.program_model.specs.Control.{base_of, home_after, runs_at}
 use Rattle.program_model.specs.Loops.{is_past, opened, turned, next_turn, limit_and_step}
-use Rattle.program_model.specs.Reading.{item_taken}
+use Rattle.program_model.specs.DataItems.{item_taken}
 use Rattle.program_model.specs.Input.{line_taken, line_asked, enough}
 use Rattle.program_model.specs.Calls.{most_calls, blank, entered, arguments_stored, result_of, departed, outside, leaving, called}
 use Rattle.program_model.specs.Traps.{handled, caught, trapped}
@@ -137,6 +138,19 @@ module _ (program : Program) where
       go : (r : Result Memory ℕ) → Same (or_fault r (low j) then remembered) (or_fault r j then remembered)
       go (Ok m) = remembered_same m j
       go (Err n) = refl
+
+  -- what is done to variables and files
+  over_same : {A : Type 0} (j : Job Position) (m : Act ⊥ Storage A) → Same (over no_way (in_storage.with_part (low j)) m) (over no_way (in_storage.with_part j) m)
+  over_same j (Gives a s) = refl
+  over_same j (Breaks (Faulted n) s) = refl
+  over_same j (Breaks (Halted h) s) = refl
+  over_same j (Breaks Gone s) = refl
+  over_same j (Breaks (Left way) s) = absurd way
+  over_same j (Asks r k) = ap (Asks r) (λ i x. over_same j (k x) i)
+  over_same j (Takes s m) = ap (Takes (low (in_storage.with_part j s))) (over_same j m)
+
+  pub storage_same : {A : Type 0} (act : StorageAct A) (j : Job Position) → Same (stores_by act (low j)) (stores_by act j)
+  storage_same act j = over_same j (act (in_storage.part j))
 
   pub opened_same : (x : Name) (place : ℕ) (start limit step : ℤ) (j : Job Position) → Same (opened x place start limit step (low j)) (opened x place start limit step j)
   opened_same x place start limit step j = follow _ (stored x (Number start) j) _ _ _ (stored_same x (Number start) j) (λ a j. refl)

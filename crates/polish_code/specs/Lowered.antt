@@ -13,7 +13,10 @@ spot_of program q = record { behind = place_behind program q; home = low_home pr
 
 abbrev pub lowered : Program → Job Position → Job Spot
 lowered program j = record {
+  account = j.account;
   memory = j.memory;
+  channels = j.channels;
+  recount = j.recount;
   buffers = j.buffers;
   screen = j.screen;
   keys = j.keys;

@@ -2,7 +2,7 @@
 
 use basic_tree::{Function, Name, Operator, Relation, Series};
 use basic_values::Text;
-use program_model::Home;
+use program_model::{FileAct, Home};
 
 /// An item. Values lie on a stack, the last one on top.
 #[derive(Drop)]
@@ -105,6 +105,8 @@ pub enum Item {
     Resume(Option<u32>),
     Stop(Home),
     End,
+    /// What a statement on files does, by the values of its operands, which it takes off the stack.
+    Ask(FileAct),
     /// Out of the body of a function.
     Leave,
 }

@@ -7,7 +7,7 @@ use Rattle.basic_values.specs.declared.failures.Stop.TheVariants as stop
 use Rattle.monitor_calls.specs.declared.calls.Request.{Request}
 use Rattle.monitor_calls.specs.declared.calls.Reply.{Reply}
 use Rattle.monitor_calls.specs.Pairs.{Pair, Grew}
-use Rattle.job_model.specs.Act.{Act, Gives, Breaks, Asks, Takes, Faulted, ◌then◌}
+use Rattle.job_model.specs.Act.{Act, Gives, Breaks, Asks, Faulted, ◌then◌}
 use Rattle.job_model.specs.Play.{Clock}
 use Rattle.job_model.specs.Follow.{Follows, answered_by}
 use Rattle.job_model.proofs.Asked.{follows_answer}
@@ -15,21 +15,6 @@ use Rattle.job_model.proofs.Ends.{follows_ends}
 use Rattle.job_model.proofs.Follows.{follows_to, follows_forget, follows_asked, follows_on, follows_stay, follows_with, broken}
 use Rattle.program_files.specs.Channels.{FileAct, closes, still_faulted, first_told, closed_after, closed_behind}
 use Rattle.program_files.specs.Taken.{first_stop, IsTold}
-
--- TREES
-
-module _ {L S : Type 0} where
-  pub then_assoc : {A B C : Type 0} (m : Act L S A) (f : A → S → Act L S B) (g : B → S → Act L S C) → (m then f) then g ≡ m then λ a s. f a s then g
-  then_assoc (Gives a s) f g = refl
-  then_assoc (Breaks b s) f g = refl
-  then_assoc (Asks r k) f g = ap (Asks r) (λ i x. then_assoc (k x) f g i)
-  then_assoc (Takes s m) f g = ap (Takes s) (then_assoc m f g)
-
-  pub then_gives : {A : Type 0} (m : Act L S A) → m then (λ a s. Gives a s) ≡ m
-  then_gives (Gives a s) = refl
-  then_gives (Breaks b s) = refl
-  then_gives (Asks r k) = ap (Asks r) (λ i x. then_gives (k x) i)
-  then_gives (Takes s m) = ap (Takes s) (then_gives m)
 
 -- ONE REQUEST
 

@@ -10,7 +10,7 @@ use Rattle.job_model.specs.Follow.{Follows, answered_by}
 use Rattle.job_model.proofs.Follows.{follows_to, follows_with, follows_on, follows_stay, broken}
 use Rattle.program_files.specs.Channels.{FileAct, gets, puts}
 use Rattle.program_files.specs.Programs.{gets_from, puts_from}
-use Rattle.program_files.proofs.Acts.{then_assoc, then_gives}
+use Rattle.job_model.proofs.Thens.{then_assoc, then_gives}
 
 -- what is left of the reading behind these pages
 abbrev pub left_to_get : List (List ℕ) → ℕ → ℕ → FileAct (List (List ℕ))

@@ -2,6 +2,7 @@
 
 ghost use Rattle.std.specs.Prelude.{ℕ, ◌≡◌, ◌≤◌, ◌++◌, replicate, IfOk, OnOk};
 ghost use Rattle.basic_values.specs.Texts.{space};
+ghost use Rattle.basic_values.specs.declared.limits.TheConstants.{MOST_FILES};
 ghost use Rattle.monitor_calls.specs.declared.calls.Request.TheVariants as request;
 ghost use Rattle.job_model.specs.Asking.{counts_as};
 ghost use Rattle.job_model.specs.Follow.{Follows, answered_by};
@@ -10,6 +11,7 @@ ghost use Rattle.monitor_calls.specs.declared.names.Account.{Account as TheAccou
 ghost use Rattle.program_files.specs.Taken.{IsTold};
 ghost use Rattle.program_files.specs.Catalogs.{shown_by, at_left, at_right, blocks_text, file_line, catalog_from, shows_file};
 
+use basic_values::limits::MOST_FILES;
 use basic_values::{NoMemory, Stop};
 use itoa::Buffer;
 use job_model::is_error;
@@ -17,8 +19,8 @@ use monitor_calls::{Account, FileName, Port, Reply, Request};
 use std::alloc::Global;
 use terminal_line::Screen;
 
-/// So many files a monitor can have.
-pub const MOST_FILES: u16 = 512;
+/// So many places of a directory are looked at, at the most: as many as a monitor has files.
+const MOST_PLACES: u16 = MOST_FILES as u16;
 
 /// The places of a stem, and those of a number of blocks.
 const WIDE: usize = 6;
@@ -36,7 +38,7 @@ pub fn show_catalog<P: Port>(
     ensures { (clock : play.Clock) → Follows P.who P.log port.old port.new clock clock
         (catalog_from owner 0 MOST_FILES screen.old) (answered_by result screen.new) }
 {
-    for index in 0..MOST_FILES {
+    for index in 0..MOST_PLACES {
         if !show_file(alloc, port, owner, index, screen)? {
             return Ok(());
         }

@@ -9,6 +9,6 @@ mod catalogs;
 mod channels;
 mod programs;
 
-pub use catalogs::{MOST_FILES, show_catalog};
+pub use catalogs::show_catalog;
 pub use channels::{CHANNEL, kill_file};
 pub use programs::{read_pages, write_pages};

@@ -3,7 +3,7 @@ use Rattle.std.proofs.Common.{ℕ, zero, suc, ◌<◌, ◌≤◌, List, [], ◌�
 use Rattle.std.specs.Prelude.{nat_lt, Bool, true, false}
 use Rattle.basic_values.specs.declared.failures.Halt.TheVariants.{TooDeep}
 use Rattle.basic_tree.specs.declared.names.Name.{Name}
-use Rattle.basic_tree.specs.Trees.{Tree, Literal, Quoted, Variable, Element, FunctionOf, Call, Parenthesized, Negative, Positive, Not, Operation, Comparison, Trees, NoTrees, AndTrees, PrintedTree, Value as ValueOf, Tab, PrintItemTree, ModifierTree, If, Unless, While, Until, ForModifier, StatementTree, IfThen, IfGoto, Modified, For, Def, Let, Result as ResultOf, Print, Input, Read, OnGoto, OnGosub}
+use Rattle.basic_tree.specs.Trees.{Tree, Literal, Quoted, Variable, Element, FunctionOf, Call, Parenthesized, Negative, Positive, Not, Operation, Comparison, Trees, NoTrees, AndTrees, PrintedTree, Value as ValueOf, Tab, PrintItemTree, ModifierTree, If, Unless, While, Until, ForModifier, StatementTree, IfThen, IfGoto, Modified, For, Def, Let, Result as ResultOf, Print, Input, Read, OnGoto, OnGosub, Sleep, Open, Close, Get, Put, Unlock, Kill, Rename, CloseChannelTree}
 use Rattle.job_model.specs.Act.{Act, Gives, Breaks, Asks, Takes, ◌then◌, Halted}
 use Rattle.program_model.specs.Program.{Program, Position, Way, whole, statement_at, inner_at, line_start, parameters_of, def_of, items_of}
 use Rattle.program_model.specs.Job.{Value, Job, Deed, or_fault}
@@ -12,13 +12,18 @@ use Rattle.program_model.specs.Targets.{stored_to, stored_to_all, wants_text}
 use Rattle.program_model.specs.Items.{items_in_line, item_value}
 use Rattle.program_model.specs.Control.{Onward, At, Behind, Leave, home_of, runs_at}
 use Rattle.program_model.specs.Loops.{step_of, begins_loop, again, behind}
-use Rattle.program_model.specs.Reading.{item_taken, read_all}
+use Rattle.program_model.specs.DataItems.{item_taken, read_all}
 use Rattle.program_model.specs.Printing.{print_one, print_items, print_end, separated}
 use Rattle.program_model.specs.Input.{line_asked, prompt_text, enough, items_stored}
 use Rattle.program_model.specs.Calls.{entered, arguments_stored, leaving, called, most_calls}
 use Rattle.program_model.specs.Traps.{trapped}
-use Rattle.program_model.specs.Statements.{modified, does}
-use Rattle.program_model.specs.Running.{Coming, Begin, Value_of, Out, reached_behind, reached, begun, one_line, out_or_at, body_at_def, calls_of, handler, runs}
+use Rattle.program_model.specs.declared.file_acts.FileAct.{FileAct}
+use Rattle.program_model.specs.declared.file_acts.FileAct.TheVariants as file
+use Rattle.program_model.specs.Storage.{stores_by}
+use Rattle.program_model.specs.FileActs.{act_by}
+use Rattle.program_model.specs.FileStatements.{or_zero, in_order, acts_by, kind_for, close_each}
+use Rattle.program_model.specs.Statements.{modified, file_act, does}
+use Rattle.program_model.specs.Running.{Coming, Begin, Value_of, Out, reached_behind, reached, begun, one_line, out_or_at, body_at_def, calls_of, handler, ends_closed, runs}
 use Rattle.program_model.specs.Bounds.{Alike, gives, breaks, asks, spent, takes, BoundsAreEnough, BoundsAreEnoughFrom}
 
 module _ {L S A : Type 0} where
@@ -59,6 +64,13 @@ module _ {R A : Type 0} where
   leaving_alike n line m m' (asks {n = i} {r = r} {k = k} {k' = k'} e) = asks (λ x. leaving_alike n line (k x) (k' x) (e x))
   leaving_alike n line m m' spent = spent
   leaving_alike n line m m' (takes {n = i} {s = s} {m = k} {m' = k'} e) = takes (leaving_alike i line k k' e)
+
+  pub ends_closed_alike : (n : ℕ) (m m' : Deed R A) → Alike n m m' → Alike n (ends_closed m) (ends_closed m')
+  ends_closed_alike n m m' gives = gives
+  ends_closed_alike n m m' (breaks {n = i} {b = b} {s = s}) = same n (ends_closed (Breaks b s))
+  ends_closed_alike n m m' (asks {n = i} {r = r} {k = k} {k' = k'} e) = asks (λ x. ends_closed_alike n (k x) (k' x) (e x))
+  ends_closed_alike n m m' spent = spent
+  ends_closed_alike n m m' (takes {n = i} {s = s} {m = k} {m' = k'} e) = takes (ends_closed_alike i k k' e)
 
   -- a call takes a unit, so its body has one less
   called_alike : (n : ℕ) (f : Name) (xs : List Name) (body body' : Job R → Deed R A) (vs : List Value) (j : Job R) → ((k : ℕ) (j : Job R) → k < n → Alike k (body j) (body' j)) → Alike n (called f xs body vs j) (called f xs body' vs j)
@@ -131,6 +143,16 @@ module _ (program : Program) (n : ℕ) (c c' : Around Position) (calls : (k : �
       stepped k le None j = gives
       stepped k le (Some e) j = value_alike k le e j
 
+  acts_alike : (k : ℕ) → k ≤ n → (act : FileAct) (es : List Tree) (j : Job Position) → Alike k (acts_by c act es j) (acts_by c' act es j)
+  acts_alike k le act es j = and_then k _ _ _ _ (values_alike k le (in_order es) j) (λ l vs j less. same l (stores_by (act_by act vs) j))
+
+  closes_alike : (k : ℕ) → k ≤ n → (cs : List CloseChannelTree) (j : Job Position) → Alike k (close_each c cs j) (close_each c' cs j)
+  closes_alike k le [] j = gives
+  closes_alike k le (e ∷ cs) j = and_then k _ _ _ _ (acts_alike k le file.Close (e.number ∷ []) j) (λ l _ j less. closes_alike l (omega (arith, le, less)) cs j)
+
+  file_alike : (k : ℕ) → k ≤ n → (q : Position) (act : FileAct) (es : List Tree) (j : Job Position) → Alike k (file_act c q act es j) (file_act c' q act es j)
+  file_alike k le q act es j = and_then k _ _ _ _ (acts_alike k le act es j) (λ l _ j less. gives)
+
   again_alike : (k : ℕ) → k ≤ n → (place : ℕ) (s : StatementTree) (j : Job Position) → Alike k (again c place s j) (again c' place s j)
   again_alike k le place (Modified s (While e)) j = and_then k _ _ _ _ (value_alike k le e j) (λ l v j less. gives)
   again_alike k le place (Modified s (Until e)) j = and_then k _ _ _ _ (value_alike k le e j) (λ l v j less. gives)
@@ -164,6 +186,14 @@ module _ (program : Program) (n : ℕ) (c c' : Around Position) (calls : (k : �
   does_alike k le q (Read ts) j = and_then k _ _ _ _ (read_alike k le (items_of program) ts j) (λ l _ j less. gives)
   does_alike k le q (OnGoto e ns) j = and_then k _ _ _ _ (value_alike k le e j) (λ l v j less. same l _)
   does_alike k le q (OnGosub e ns) j = and_then k _ _ _ _ (value_alike k le e j) (λ l v j less. same l _)
+  does_alike k le q (Close cs) j = and_then k _ _ _ _ (closes_alike k le cs j) (λ l _ j less. gives)
+  does_alike k le q (Sleep e) j = file_alike k le q file.Sleep (e ∷ []) j
+  does_alike k le q (Open e purpose hash channel size cluster mode) j = file_alike k le q (file.Open (kind_for purpose)) (e ∷ channel ∷ or_zero size ∷ or_zero cluster ∷ or_zero mode ∷ []) j
+  does_alike k le q (Get e b) j = file_alike k le q file.Get (e ∷ or_zero b ∷ []) j
+  does_alike k le q (Put e b) j = file_alike k le q file.Put (e ∷ or_zero b ∷ []) j
+  does_alike k le q (Unlock e) j = file_alike k le q file.Unlock (e ∷ []) j
+  does_alike k le q (Kill e) j = file_alike k le q file.Kill (e ∷ []) j
+  does_alike k le q (Rename old new) j = file_alike k le q file.Rename (old ∷ new ∷ []) j
   does_alike k le q _ j = same k _
 
   reached_alike : (k : ℕ) → k ≤ n → (o : Onward) (j : Job Position) → Alike k (reached c program o j) (reached c' program o j)

@@ -2,6 +2,8 @@
 use Rattle.std.specs.Prelude.{ℕ, List, [], ℤ, pos, if◌then◌else◌, nat_le, Result, Ok, Err, length}
 use Rattle.basic_values.specs.declared.texts.TheConstants.{MOST_BYTES}
 use Rattle.basic_values.specs.declared.failures.Halt.TheVariants.{TooLong}
+use Rattle.monitor_calls.specs.declared.names.Account.{Account}
+use Rattle.channels.specs.declared.states.ChannelState.{ChannelState}
 use Rattle.program_model.specs.declared.homes.Home.{Home}
 pub use Rattle.program_model.specs.declared.values.Value.{Value}
 pub use Rattle.program_model.specs.declared.values.Value.TheVariants.{Number, Text}
@@ -21,8 +23,12 @@ text (Text t) = t
 
 -- R is how the place of a statement is kept.
 pub record Job (R : Type 0) : Type 0 where
+  -- for whom it acts
+  pub account : Account
   pub memory : Memory
-  -- the buffers of channels 1 to 12
+  -- channels 1 to 12, RECOUNT, and the channels' buffers
+  pub channels : List ChannelState
+  pub recount : ℕ
   pub buffers : List (List ℕ)
   -- all bytes that were written, and the key lines that are left
   pub screen : List ℕ

@@ -4,11 +4,14 @@ pub mod Operators
 pub mod Functions
 pub mod Variables
 pub mod Expressions
+pub mod Storage
+pub mod FileActs
+pub mod FileStatements
 pub mod Targets
 pub mod Items
 pub mod Control
 pub mod Loops
-pub mod Reading
+pub mod DataItems
 pub mod Printing
 pub mod Input
 pub mod Calls
@@ -20,3 +23,4 @@ pub mod Parts
 pub mod Soundness
 pub mod SoundnessLaws
 pub mod Bounds
+pub mod InMemory

@@ -1,5 +1,5 @@
 -- What each statement does at its position, and to what it leads.
-use Rattle.std.specs.Prelude.{ℕ, Bool, true, false, if◌then◌else◌, Option, Some, None}
+use Rattle.std.specs.Prelude.{ℕ, Bool, true, false, if◌then◌else◌, List, [], ◌∷◌, Option, Some, None}
 use Rattle.basic_tree.specs.Trees.{Tree, ModifierTree, If, Unless, While, Until, ForModifier, StatementTree, IfThen, IfGoto, Modified, For, Next, FnEnd, Data, Dim, DimFile, Def, Let, Result as ResultOf, Print, PrintUsing, Input, InputLine, Read, Restore, Goto, Gosub, Return, OnGoto, OnGosub, OnErrorGoto, Resume, Stop, End, Chain, Sleep, Open, Close, Get, Put, Unlock, Field, Lset, Rset, Kill, Rename, MatRead, MatPrint, MatLet}
 use Rattle.job_model.specs.Act.{Gives, Breaks, Left, ◌then◌}
 use Rattle.program_model.specs.Program.{Program, Position, whole, inside, items_of, behind_body, next_of, for_of, behind_statement, loop_place}
@@ -9,11 +9,16 @@ use Rattle.program_model.specs.Expressions.{Around, value_of}
 use Rattle.program_model.specs.Targets.{stored_to_all}
 use Rattle.program_model.specs.Control.{Onward, At, Behind, Leave, Doing, goes_on, at_line, at_else, chosen, on_chosen, home_of, runs_at, kept, returned}
 use Rattle.program_model.specs.Loops.{begins_loop, next_turn}
-use Rattle.program_model.specs.Reading.{read_all}
+use Rattle.program_model.specs.DataItems.{read_all}
 use Rattle.program_model.specs.Printing.{print_all}
 use Rattle.program_model.specs.Input.{input, input_line}
 use Rattle.program_model.specs.Calls.{answered}
 use Rattle.program_model.specs.Traps.{sets_handler, resumes}
+use Rattle.program_model.specs.declared.file_acts.FileAct.{FileAct}
+use Rattle.program_model.specs.declared.file_acts.FileAct.TheVariants as file
+use Rattle.program_model.specs.Storage.{stores_by}
+use Rattle.program_model.specs.FileActs.{shut_act}
+use Rattle.program_model.specs.FileStatements.{or_zero, acts_by, kind_for, close_each}
 
 abbrev pub goes_to : Onward → Job Position → Doing Onward
 goes_to o j = Gives o j
@@ -50,6 +55,10 @@ modified around program q (While e) j = value_of around e j then by_truth (At (i
 modified around program q (Until e) j = value_of around e j then by_truth (Behind q) (At (inside q true))
 modified around program q (ForModifier variable from to step) j =
     begins_loop around variable (loop_place program q) from to step j then by_turn (At (inside q true)) (Behind q)
+
+-- a statement on files acts by the values of its operands, and leads on
+abbrev pub file_act : Around Position → Position → FileAct → List Tree → Job Position → Doing Onward
+file_act around q act operands j = acts_by around act operands j then λ _. goes_on q
 
 -- a form of a later stage leads on: no line with one runs yet
 abbrev pub of_later_stage : Position → Job Position → Doing Onward
@@ -88,24 +97,25 @@ does around program q (OnGosub e lines) j =
 does around program q (OnErrorGoto n) j = sets_handler n (goes_on q) j
 does around program q (Resume n) j = resumes (λ m. At (whole m)) (at_line program) n j
 does around program q Stop j = Breaks (Left (Stopped q)) j
-does around program q End j = Breaks (Left Ended) j
+does around program q End j = stores_by shut_act j then λ _ j. Breaks (Left Ended) j
 does around program q (Print (Some channel) items last) j = of_later_stage q j
 does around program q (PrintUsing channel format values last) j = of_later_stage q j
 does around program q (Input (Some channel) prompt targets) j = of_later_stage q j
 does around program q (InputLine (Some channel) variable) j = of_later_stage q j
 does around program q (DimFile channel shapes) j = of_later_stage q j
 does around program q (Chain e line) j = of_later_stage q j
-does around program q (Sleep e) j = of_later_stage q j
-does around program q (Open file purpose hash channel size cluster mode) j = of_later_stage q j
-does around program q (Close channels) j = of_later_stage q j
-does around program q (Get channel block) j = of_later_stage q j
-does around program q (Put channel block) j = of_later_stage q j
-does around program q (Unlock channel) j = of_later_stage q j
+does around program q (Sleep e) j = file_act around q file.Sleep (e ∷ []) j
+does around program q (Open name purpose hash channel size cluster mode) j =
+    file_act around q (file.Open (kind_for purpose)) (name ∷ channel ∷ or_zero size ∷ or_zero cluster ∷ or_zero mode ∷ []) j
+does around program q (Close channels) j = close_each around channels j then λ _. goes_on q
+does around program q (Get channel block) j = file_act around q file.Get (channel ∷ or_zero block ∷ []) j
+does around program q (Put channel block) j = file_act around q file.Put (channel ∷ or_zero block ∷ []) j
+does around program q (Unlock channel) j = file_act around q file.Unlock (channel ∷ []) j
 does around program q (Field channel parts) j = of_later_stage q j
 does around program q (Lset variable e) j = of_later_stage q j
 does around program q (Rset variable e) j = of_later_stage q j
-does around program q (Kill e) j = of_later_stage q j
-does around program q (Rename old new) j = of_later_stage q j
+does around program q (Kill e) j = file_act around q file.Kill (e ∷ []) j
+does around program q (Rename old new) j = file_act around q file.Rename (old ∷ new ∷ []) j
 does around program q (MatRead matrices) j = of_later_stage q j
 does around program q (MatPrint matrix separator) j = of_later_stage q j
 does around program q (MatLet target value) j = of_later_stage q j

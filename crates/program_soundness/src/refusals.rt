@@ -8,7 +8,7 @@ ghost use Rattle.program_model.specs.Soundness.{has_line, handles_errors, is_in_
 ghost use Rattle.program_model.specs.Parts.{simple_in, lines_named_in, calls_made_in};
 ghost use Rattle.program_soundness.specs.Listings.{text_of};
 ghost use Rattle.program_soundness.specs.Parts.{call_seen, calls_seen};
-ghost use Rattle.program_soundness.specs.Texts.{program_of};
+ghost use Rattle.program_model.specs.InMemory.{program_of};
 
 use crate::bodies::same_body;
 use crate::calls::{Called, calls_made};

@@ -5,7 +5,7 @@ use program_model::LowerCause;
 use std::alloc::Global;
 use std::test::Fail;
 
-static NUMBERS: [&str; 26] = [
+static NUMBERS: [&str; 24] = [
     "1%",
     "I%",
     "I%(1%)",
@@ -25,16 +25,14 @@ static NUMBERS: [&str; 26] = [
     "SWAP%(1%)",
     "ABS%(1%)",
     "SGN(1%)",
-    "POS(0%)",
     "ERR",
     "ERL",
-    "RECOUNT",
     "FNN%(1%)",
     "FNT%('A')",
     "FNN%(LEN(FNN$(1%)))",
 ];
 
-static TEXTS: [&str; 19] = [
+static TEXTS: [&str; 18] = [
     "'A'",
     "I$",
     "I$(1%,2%)",
@@ -50,7 +48,6 @@ static TEXTS: [&str; 19] = [
     "NUM$(1%)",
     "CVT%$(1%)",
     "XLATE(I$,J$)",
-    "SYS(I$)",
     "FNN$(1%)",
     "FNN$(FNT%('A'))+'B'",
     "(I$+LEFT(J$,1%))",

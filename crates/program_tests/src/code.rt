@@ -4,7 +4,7 @@ use crate::read::program_of;
 use basic_values::Trouble;
 use line_editor::ProgramText;
 use lowering::{loops_in_program, lower};
-use program_code::Code;
+use polish_code::Code;
 use program_model::LowerRefusal;
 use std::alloc::Global;
 use std::test::Fail;
@@ -13,15 +13,16 @@ use std::test::Fail;
 /// many DATA items it has, and how many FORs.
 type Row = ([&'static [u8]; 2], (usize, usize, usize, usize));
 
-static ROWS: [Row; 8] = [
-    ([b"!", b"END"], (2, 0, 0, 0)),
-    ([b"GOTO 20", b"END"], (4, 2, 0, 0)),
+static ROWS: [Row; 9] = [
+    ([b"!", b"END"], (3, 0, 0, 0)),
+    ([b"GOTO 20", b"END"], (5, 2, 0, 0)),
     ([b"DATA 1,A", b"DATA B"], (2, 1, 3, 0)),
-    ([b"A%=1%", b"END"], (6, 4, 0, 0)),
-    ([b"PRINT 1%", b"END"], (6, 4, 0, 0)),
+    ([b"A%=1%", b"END"], (7, 4, 0, 0)),
+    ([b"PRINT 1%", b"END"], (7, 4, 0, 0)),
     ([b"FOR I%=1% TO 2%", b"NEXT I%"], (7, 5, 0, 1)),
-    ([b"A%=1% FOR I%=1% TO 2% IF A%=1%", b"END"], (17, 15, 0, 1)),
+    ([b"A%=1% FOR I%=1% TO 2% IF A%=1%", b"END"], (18, 15, 0, 1)),
     ([b"DEF FNA%(X%)=X%", b"PRINT FNA%(1%)"], (11, 6, 0, 0)),
+    ([b"OPEN 'A' AS FILE 1%", b"CLOSE 1%,2%"], (12, 7, 0, 0)),
 ];
 
 fn code_of(answer: Result<Code, Trouble<LowerRefusal>>) -> Result<Code, Fail> {

@@ -1,10 +1,10 @@
 //! What a program finds that begins, and what is written where one ends.
 
-use basic_interpreter::Spot;
+use basic_interpreter::{Exit, Running, Spot, Stack, Storage, clear, write_ending};
 use basic_tree::Name;
 use basic_values::{Fault, Halt, Int, Trouble};
-use entrances::{Exit, Running, Stack, Storage, clear, write_ending};
 use error_trap::Trap;
+use monitor_calls::Account;
 use program_model::Home;
 use record_fields::Buffers;
 use std::alloc::Global;
@@ -17,13 +17,19 @@ const HOME: Home = Home {
     line: 10,
 };
 
+/// Whose files a job names where it names no account.
+const ACCOUNT: Account = Account {
+    project: 1,
+    programmer: 2,
+};
+
 /// A job whose screen shows this.
 fn running(alloc: Global, shown: &[u8]) -> Result<Running, Fail> {
     let mut screen = Screen::new(alloc);
     screen.write(shown)?;
     Ok(Running {
         alloc,
-        storage: Storage::new(alloc, Buffers::new(alloc)?),
+        storage: Storage::new(alloc, ACCOUNT, Buffers::new(alloc)?),
         screen,
         keys: Keys::new(alloc, &[])?,
         trap: Trap::new(),

@@ -5,7 +5,7 @@ use stage_forms::is_in_stage;
 use std::alloc::Global;
 use std::test::Fail;
 
-static TAKEN: [&[u8]; 14] = [
+static TAKEN: [&[u8]; 28] = [
     b"",
     b"PRINT A%,B$;TAB(3%);1%",
     b"INPUT 'A';A%,B$(1%)",
@@ -20,32 +20,45 @@ static TAKEN: [&[u8]; 14] = [
     b"READ A%(I%) FOR I%=1% TO 3%:RESTORE",
     b"FOR I%=3% TO 1% STEP -1%:NEXT I%",
     b"STOP IF A%:END",
+    b"OPEN 'A' AS FILE 1%",
+    b"OPEN 'A' FOR OUTPUT AS FILE 1%,RECORDSIZE 512%,CLUSTERSIZE 4%,MODE 1%",
+    b"CLOSE 1%,2%",
+    b"GET #1%",
+    b"GET #1%,RECORD 2%",
+    b"PUT #1%,RECORD 2%",
+    b"UNLOCK #1%",
+    b"KILL 'A'",
+    b"NAME 'A' AS 'B'",
+    b"SLEEP 1%",
+    b"A%=1%:SLEEP 1%",
+    b"SLEEP 1% FOR I%=1% TO 2%",
+    b"IF A%=1% THEN SLEEP 1% ELSE 10",
+    b"IF A%=1% GOTO 10 ELSE IF B% THEN SLEEP 1%",
 ];
 
-/// Lines that use a channel, and CHAIN and SLEEP.
-static LATER_FORMS: [&[u8]; 22] = [
+/// Lines that use a channel in a later stage, CHAIN, and functions of a later stage in operands.
+static LATER_FORMS: [&[u8]; 21] = [
     b"PRINT #1%,A%",
     b"PRINT #0%",
     b"INPUT #1%,A%",
     b"INPUT LINE #1%,A$",
     b"DIM #1%,A%(3%)",
-    b"OPEN 'A' AS FILE 1%",
-    b"CLOSE 1%",
-    b"GET #1%",
-    b"PUT #1%",
-    b"UNLOCK #1%",
     b"FIELD #1%,2% AS A$",
     b"LSET A$='B'",
     b"RSET A$='B'",
-    b"KILL 'A'",
-    b"NAME 'A' AS 'B'",
     b"CHAIN 'A'",
-    b"SLEEP 1%",
-    b"A%=1%:SLEEP 1%",
-    b"SLEEP 1% FOR I%=1% TO 2%",
-    b"IF A%=1% THEN SLEEP 1% ELSE 10",
-    b"IF A%=1% THEN 10 ELSE SLEEP 1%",
-    b"IF A%=1% GOTO 10 ELSE IF B% THEN SLEEP 1%",
+    b"A%=1%:CHAIN 'A'",
+    b"CHAIN 'A' FOR I%=1% TO 2%",
+    b"IF A%=1% THEN CHAIN 'A' ELSE 10",
+    b"IF A%=1% THEN 10 ELSE CHAIN 'A'",
+    b"IF A%=1% GOTO 10 ELSE IF B% THEN CHAIN 'A'",
+    b"OPEN SYS('A') AS FILE 1%",
+    b"OPEN 'A' AS FILE 1%,MODE RECOUNT",
+    b"CLOSE 1%,RECOUNT",
+    b"GET #1%,RECORD RECOUNT",
+    b"KILL SYS('A')",
+    b"NAME 'A' AS SYS('A')",
+    b"SLEEP POS(0%)",
 ];
 
 /// Lines that call a function of a later stage, at each place where an expression stands.

@@ -1,4 +1,4 @@
-//! Tests of programs by public calls alone: how lowering refuses a program and what code it makes,
+//! Tests of programs by public calls alone: their text and its file, how lowering refuses a program and what code it makes,
 //! the run of items by hand over a port that plays a script, the ways into a program, and which
 //! lines are of the stage.
 #![tactic(auto)]
@@ -10,7 +10,11 @@ mod causes;
 #[cfg(test)]
 mod code;
 #[cfg(test)]
+mod edits;
+#[cfg(test)]
 mod endings;
+#[cfg(test)]
+mod files;
 #[cfg(test)]
 mod forms;
 #[cfg(test)]

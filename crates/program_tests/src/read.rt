@@ -4,7 +4,7 @@ use basic_tree::Line;
 use basic_values::Trouble;
 use line_editor::{EditRefusal, ProgramText};
 use lowering::{lower, lower_now};
-use program_code::Code;
+use polish_code::Code;
 use program_model::{LowerCause, LowerRefusal};
 use std::alloc::Global;
 use std::test::Fail;

@@ -4,20 +4,25 @@ use basic_interpreter::{Clock, Exit, Running, Stack, Storage, run};
 use basic_tree::{Name, Operator, Series};
 use basic_values::{Halt, Trouble};
 use error_trap::Trap;
-use monitor_calls::{Reply, ScriptPort};
-use polish_code::Item;
-use program_code::Code;
+use monitor_calls::{Account, Reply, ScriptPort};
+use polish_code::{Code, Item};
 use program_model::Home;
 use record_fields::Buffers;
 use std::alloc::Global;
 use std::test::Fail;
 use terminal_line::{Keys, Screen};
 
+/// Whose files a job names where it names no account.
+const ACCOUNT: Account = Account {
+    project: 1,
+    programmer: 2,
+};
+
 /// The state of a job before its program runs.
 fn at_rest(alloc: Global) -> Result<Running, Fail> {
     Ok(Running {
         alloc,
-        storage: Storage::new(alloc, Buffers::new(alloc)?),
+        storage: Storage::new(alloc, ACCOUNT, Buffers::new(alloc)?),
         screen: Screen::new(alloc),
         keys: Keys::new(alloc, &[])?,
         trap: Trap::new(),

@@ -1,10 +1,8 @@
 -- A write to a part leaves what stands apart from it.
-use Rattle.std.proofs.Common.{◌≡◌, ◌≤◌, ◌+◌, ◌-◌, ℕ, List, ◌++◌, length, take, drop, sym, ap, ◌∙◌, inl, inr, arith}
+use Rattle.std.proofs.Common.{◌≡◌, ◌≤◌, ◌+◌, ℕ, List, ◌++◌, length, take, drop, sym, ap, ◌∙◌, inl, inr, arith}
 use Rattle.std.proofs.lemmas.List.{append_assoc, length-take-le, take-append-le, drop-append-le, take-append-drop, length-append, length-drop}
 use Rattle.std.proofs.lemmas.Slice.{drop-append-drop}
-use Rattle.record_fields.specs.declared.parts.Part.{Part}
-use Rattle.record_fields.specs.Parts.{LiesIn, part_of, with_part}
-use Rattle.record_fields.specs.Laws.{AreApart, OthersStay}
+use Rattle.record_fields.specs.Laws.{OthersStay}
 
 -- bytes within the front hang on nothing behind it
 within_front : (front rest : List ℕ) (from count : ℕ) → from + count ≤ length front → take count (drop from (front ++ rest)) ≡ take count (drop from front)

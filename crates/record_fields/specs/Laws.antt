@@ -1,6 +1,7 @@
--- What a user of the parts relies on, over the definitions alone.
-use Rattle.std.specs.Prelude.{◌≡◌, ◌≤◌, ◌+◌, ◌⊎◌, ℕ, List, length}
+-- What a user of the parts and of places relies on, over the definitions alone.
+use Rattle.std.specs.Prelude.{◌≡◌, ◌≤◌, ◌+◌, ◌⊎◌, ℕ, List, length, Option, Some, ℤ}
 use Rattle.record_fields.specs.declared.parts.Part.{Part}
+use Rattle.record_fields.specs.Bounds.{place_under}
 use Rattle.record_fields.specs.Parts.{LiesIn, part_of, with_part}
 
 -- what was written to a part is read there
@@ -18,3 +19,8 @@ abbrev pub OthersStay : Type 0
 OthersStay = (part other : Part) (bytes buffer : List ℕ) → LiesIn (length buffer) part
     → AreApart part other → length bytes ≡ part.length
     → part_of other (with_part part bytes buffer) ≡ part_of other buffer
+
+-- no two elements of an array stand at one place
+abbrev pub ElementsAreApart : Type 0
+ElementsAreApart = (first : ℕ) (second : Option ℕ) (i k : ℤ) (j l : Option ℤ) (place : ℕ)
+    → place_under first second i j ≡ Some place → place_under first second k l ≡ Some place → (i ≡ k) × (j ≡ l)

@@ -1,18 +1,26 @@
 //! Record fields: the buffers of a job's channels, the parts of them that FIELD names, and what
 //! LSET and RSET write there.
 //!
-//! `layout` carries which parts some widths give; `lend`, `write_part`, `lset_part` and `rset_part`
-//! carry that a part is a range of its buffer, and that a write replaces that range and no more; `laws` that what was
-//! written is read, and that other parts stay.
+//! `Buffers` carries which bytes each channel's buffer has, and of how many blocks; `layout` which
+//! parts some widths give; `lend`, `write_part`, `lset_part` and `rset_part` that a part is a range
+//! of its buffer, and that a write replaces that range and no more; `shift_within` that a field is
+//! moved onto another one in its place; `place_under` where an element of an array stands; `laws`
+//! that what was written is read, that other parts stay, and that no two elements share a place.
 #![tactic(auto)]
 
+mod bounds;
 mod buffers;
 pub mod laws;
 mod layouts;
 mod parts;
+mod sizes;
 mod writing;
 
+pub use bounds::{count, place_under};
 pub use buffers::{BUFFER_BYTES, BUFFER_COUNT, Buffers};
 pub use layouts::{layout, natural};
-pub use parts::{Part, lend, write_part};
-pub use writing::{lset, lset_part, rset, rset_part};
+pub use parts::{Part, cut, lend, write_part};
+pub use sizes::RecordSize;
+pub use writing::{
+    Side, fill, fill_part, lset, lset_part, rset, rset_part, set_part, shift_within, write_from,
+};

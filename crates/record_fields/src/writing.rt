@@ -1,10 +1,20 @@
-//! What LSET and RSET write.
+//! What LSET and RSET write, also where a field is moved onto another one, and what fills a buffer.
 
 ghost use Rattle.std.specs.Prelude.{◌≡◌, length};
-ghost use Rattle.record_fields.specs.Parts.{LiesIn, with_part};
-ghost use Rattle.record_fields.specs.Writing.{left_justified, right_justified};
+ghost use Rattle.record_fields.specs.Buffers.{filled, fill_part, written_from};
+ghost use Rattle.record_fields.specs.Parts.{LiesIn, part_of, with_part};
+ghost use Rattle.record_fields.specs.Writing.{left_justified, right_justified, set_part, shifted};
 
-use crate::parts::Part;
+use crate::parts::{Part, inside};
+
+/// The side of a field at which a value stands.
+#[derive(Clone, Copy)]
+pub enum Side {
+    /// That of LSET.
+    Left,
+    /// That of RSET.
+    Right,
+}
 
 /// Writes the first bytes of a value, with spaces behind a shorter one. The manual's LSET.
 pub fn lset(target: &mut [u8], value: &[u8])
@@ -25,6 +35,24 @@ pub fn rset(target: &mut [u8], value: &[u8])
     target[spaces..].copy_from_slice(&value[value.len() - kept..]);
 }
 
+/// Writes the first bytes of these, with zeros behind fewer ones.
+pub fn fill(target: &mut [u8], bytes: &[u8])
+    ensures { target.new ≡ filled bytes.now target.old }
+{
+    let kept = bytes.len().min(target.len());
+    target[..kept].copy_from_slice(&bytes[..kept]);
+    target[kept..].fill(0);
+}
+
+/// Writes these bytes from a place on; what passes the end is dropped. The rest stays.
+pub fn write_from(target: &mut [u8], place: usize, bytes: &[u8])
+    ensures { target.new ≡ written_from place bytes.now target.old }
+{
+    let start = place.min(target.len());
+    let kept = bytes.len().min(target.len() - start);
+    target[start..start + kept].copy_from_slice(&bytes[..kept]);
+}
+
 /// LSET of a part. The rest of the buffer stays.
 pub fn lset_part(buffer: &mut [u8], part: Part, value: &[u8])
     requires { LiesIn (length buffer.old) part }
@@ -41,4 +69,71 @@ pub fn rset_part(buffer: &mut [u8], part: Part, value: &[u8])
 {
     let start = part.offset as usize;
     rset(&mut buffer[start..start + part.length as usize], value);
+}
+
+/// Writes the first bytes of these into a part, with zeros behind fewer ones. A part that does not
+/// lie in the buffer takes nothing.
+pub fn fill_part(buffer: &mut [u8], part: Part, bytes: &[u8])
+    ensures { buffer.new ≡ fill_part part bytes.now buffer.old }
+{
+    let start = part.offset as usize;
+    let end = start + part.length as usize;
+    if end <= buffer.len() {
+        fill(&mut buffer[start..end], bytes);
+    }
+}
+
+/// LSET or RSET of a part. A part that does not lie in the buffer takes nothing.
+pub fn set_part(buffer: &mut [u8], part: Part, value: &[u8], side: Side)
+    ensures { buffer.new ≡ set_part side part value.now buffer.old }
+{
+    if part.offset as usize + part.length as usize > buffer.len() {
+        return;
+    }
+    match side {
+        Side::Left => lset_part(buffer, part, value),
+        Side::Right => rset_part(buffer, part, value),
+    }
+}
+
+/// Moves what one part holds to another, to the left or to the right of it, as LSET or RSET with
+/// these bytes as value would. The parts may overlap, and no copy of them is made.
+pub fn shift_within(buffer: &mut [u8], from: Part, to: Part, side: Side)
+    ensures { buffer.new ≡ shifted from to side buffer.old }
+{
+    if to.offset as usize + to.length as usize > buffer.len() {
+        return;
+    }
+    let from = inside(from, buffer.len());
+    match side {
+        Side::Left => shift_left(buffer, from, to),
+        Side::Right => shift_right(buffer, from, to),
+    }
+}
+
+fn shift_left(buffer: &mut [u8], from: Part, to: Part)
+    requires from { LiesIn (length buffer.old) from }
+    requires to { LiesIn (length buffer.old) to }
+    ensures { buffer.new ≡ with_part to
+        (left_justified to.length (part_of from buffer.old)) buffer.old }
+{
+    let kept = from.length.min(to.length) as usize;
+    let source = from.offset as usize;
+    let target = to.offset as usize;
+    buffer.copy_within(source..source + kept, target);
+    buffer[target + kept..target + to.length as usize].fill(b' ');
+}
+
+fn shift_right(buffer: &mut [u8], from: Part, to: Part)
+    requires from { LiesIn (length buffer.old) from }
+    requires to { LiesIn (length buffer.old) to }
+    ensures { buffer.new ≡ with_part to
+        (right_justified to.length (part_of from buffer.old)) buffer.old }
+{
+    let kept = from.length.min(to.length) as usize;
+    let spaces = to.length as usize - kept;
+    let source = from.offset as usize + (from.length as usize - kept);
+    let target = to.offset as usize;
+    buffer.copy_within(source..source + kept, target + spaces);
+    buffer[target..target + spaces].fill(b' ');
 }

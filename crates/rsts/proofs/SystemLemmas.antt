@@ -20,7 +20,7 @@ use Rattle.report_texts.specs.Names.{names_of}
 use Rattle.rsts.specs.Headline as headline
 use Rattle.rsts.specs.Headline.{Ends, NothingGiven, SourceFailed, InputTooLong, SinkFailed, WantedMemory, Answers, IsReport, HasRan, IsGoodLine, HasChecked, FoundDeck, SpellsNone}
 use Rattle.rsts.specs.Outcomes.{IfRan, OnChecked, OnUsage, OnReadFault, OnTooLong, IfDeck, OnWriteFault, OnNoMemory}
-use Rattle.rsts.specs.Readings.{outcome_of, WhyStopped, MustStop, MustFind, MustRefuse}
+use Rattle.rsts.specs.SourceEnds.{outcome_of, WhyStopped, MustStop, MustFind, MustRefuse}
 use Rattle.rsts.specs.Streams.{AreAll, IsOverLimit, BrokeOff}
 
 -- what a source tells that it has left is what was read of it to its end

@@ -2,6 +2,6 @@ pub mod AskedSeen
 pub mod Decks
 pub mod Headline
 pub mod Outcomes
-pub mod Readings
+pub mod SourceEnds
 pub mod Statuses
 pub mod Streams

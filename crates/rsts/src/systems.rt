@@ -4,7 +4,7 @@ ghost use Rattle.std.specs.Prelude.{◌≡◌, IfOk};
 ghost use Rattle.deck_model.specs.Deck.{IsDeck};
 ghost use Rattle.deck_reader.specs.Seen.{deck_of};
 ghost use Rattle.rsts.specs.Headline.{ends, Reports, Runs, Checks};
-ghost use Rattle.rsts.specs.Readings.{Found, MustFind, MustRefuse, MustStop, outcome_of};
+ghost use Rattle.rsts.specs.SourceEnds.{FoundInSource, MustFind, MustRefuse, MustStop, outcome_of};
 
 use crate::outcomes::Outcome;
 use crate::runs::run_deck;
@@ -92,7 +92,7 @@ pub fn check_system<S: Source, K: Sink>(alloc: Global, source: &mut S, sink: &mu
 
 /// The deck that the source spells, read to its end.
 fn read_system<S: Source>(alloc: Global, source: &mut S) -> Result<Deck, Stopped>
-    ensures found { Found result (S.state source.old) (S.state source.new) }
+    ensures found { FoundInSource result (S.state source.old) (S.state source.new) }
     ensures must_stop { MustStop result (S.state source.old) (S.state source.new) }
     ensures must_find { MustFind result (S.state source.old) (S.state source.new) }
     ensures must_refuse { MustRefuse result (S.state source.old) (S.state source.new) }

@@ -14,19 +14,21 @@ use Rattle.program_model.specs.declared.refusals.LowerRefusal.{LowerRefusal}
 use Rattle.program_model.specs.Program.{Program, Position, whole}
 use Rattle.program_model.specs.Job as program
 use Rattle.program_model.specs.Job.{Job}
+use Rattle.program_model.specs.Storage.{in_storage}
+use Rattle.program_model.specs.FileActs.{shut_act}
 use Rattle.program_model.specs.Control.{At, Behind, home_of, runs_at}
 use Rattle.program_model.specs.Bounds.{Alike, gives, breaks, asks, spent, takes}
-use Rattle.program_model.specs.Running.{dimension_program, runs_cleared, continues, line_alone, apart, together}
+use Rattle.program_model.specs.Running.{dimension_program, runs_open, runs_cleared, continues_open, continues, line_alone, apart, together}
 use Rattle.program_model.specs.Soundness.{refusal_of, refusal_now}
-use Rattle.program_model.proofs.BoundLemmas.{same, and_then, bounds_enough_from}
+use Rattle.program_model.proofs.BoundLemmas.{same, and_then, ends_closed_alike, bounds_enough_from}
 use Rattle.stage_forms.specs.Stage.{are_in_stage}
 use Rattle.file_names.specs.declared.spec.Spec.{Spec}
-use Rattle.line_editor.specs.Lines.{Lines}
+use Rattle.basic_tree.specs.ProgramLines.{Lines}
 use Rattle.program_files.specs.Programs.{reads_pages}
 use Rattle.session_model.specs.ProgramFiles.{spec_read, is_blank_text, program_on}
 use Rattle.session_model.specs.Commands.{Command, Run, RunFile, Continue, Immediate, command_of}
 use Rattle.session_model.specs.Texts.{not_in_stage, illegal_command}
-use Rattle.session_model.specs.Talk.{Session, Step, answered, says, keys_are, outlived, outlives, reported, run_is_over, runs_unless, begun, goes_on, line_unless, immediate, program_by, headed, tried, by_name, loaded, runs_loaded, reads_and_runs, user_acts, acts, line_acts, with_next, session}
+use Rattle.session_model.specs.Talk.{Session, Step, answered, says, keys_are, outlived, outlives, reported, run_is_over, runs_unless, begun, runs, with_storage, goes_on, line_unless, immediate, program_by, headed, tried, by_name, loaded, runs_loaded, reads_and_runs, user_acts, acts, line_acts, with_next, session}
 
 outlives_alike : {R A : Type 0} (n : ℕ) (over : Break (program.Leaving R) → Job R → Session R) (s : Session R) (m m' : program.Deed R A) → Alike n m m' → Alike n (outlives over s m) (outlives over s m')
 outlives_alike n over s m m' gives = gives
@@ -50,18 +52,27 @@ tried_alike n whole next next' (Asks r by) f = asks (λ x. tried_alike n whole n
 tried_alike zero whole next next' (Takes p rest) f = spent
 tried_alike (suc n) whole next next' (Takes p rest) f = takes (tried_alike n whole next next' rest (λ k a s le. f k a s (omega (arith, le))))
 
-module _ (judge : Judge) (n most more : ℕ) (less : n < most) (less' : n < more) where
+module _ (n most more : ℕ) (less : n < most) (less' : n < more) where
   cleared_alike : (p : Program) (j : Job Position) → Alike n (runs_cleared p most j) (runs_cleared p more j)
-  cleared_alike p j = and_then n (dimension_program p j) (dimension_program p j) _ _ (same n _) (λ k a j le. bounds_enough_from p most more k (At (whole 0)) j (omega (arith, le, less)) (omega (arith, le, less')))
+  cleared_alike p j = ends_closed_alike n (runs_open p most j) (runs_open p more j) (and_then n (dimension_program p j) (dimension_program p j) _ _ (same n _) (λ k a j le. bounds_enough_from p most more k (At (whole 0)) j (omega (arith, le, less)) (omega (arith, le, less'))))
 
   unless_alike : (o : Option LowerRefusal) (p : Program) (s : Session Position) → Alike n (runs_unless o p most s) (runs_unless o p more s)
   unless_alike (Some refusal) p s = same n _
   unless_alike None p s = outlives_alike n (run_is_over s) s _ _ (cleared_alike p s.job)
 
+module _ (n most more : ℕ) (less : n < most) (less' : n < more) where
+  runs_alike : (p : Program) (s : Session Position) → Alike n (runs p most s) (runs p more s)
+  runs_alike p s =
+      tried_alike n (with_storage s) _ _ (shut_act (in_storage.part s.job)) (λ k a s le. unless_alike k most more (omega (arith, le, less)) (omega (arith, le, less')) (refusal_of p) p (begun p s))
+
+module _ (judge : Judge) (n most more : ℕ) (less : n < most) (less' : n < more) where
+  open_alike : (p : Program) (way : program.Leaving Position) (j : Job Position) → Alike n (continues_open p most way j) (continues_open p more way j)
+  open_alike p program.Ended j = same n _
+  open_alike p (program.Stopped q) j = bounds_enough_from p most more n (Behind q) (runs_at (home_of p q.statement) j) less less'
+  open_alike p (program.StoppedInside home) j = bounds_enough_from p most more n (At (whole home.behind)) j less less'
+
   continues_alike : (p : Program) (way : program.Leaving Position) (j : Job Position) → Alike n (continues p most way j) (continues p more way j)
-  continues_alike p program.Ended j = same n _
-  continues_alike p (program.Stopped q) j = bounds_enough_from p most more n (Behind q) (runs_at (home_of p q.statement) j) less less'
-  continues_alike p (program.StoppedInside home) j = bounds_enough_from p most more n (At (whole home.behind)) j less less'
+  continues_alike p way j = ends_closed_alike n (continues_open p most way j) (continues_open p more way j) (open_alike p way j)
 
   on_alike : (p : Program) (stop : Option (program.Leaving Position)) (s : Session Position) → Alike n (goes_on p most stop s) (goes_on p more stop s)
   on_alike p None s = same n _
@@ -85,7 +96,7 @@ module _ (judge : Judge) (n most more : ℕ) (less : n < most) (less' : n < more
 
   runs_loaded_alike : (name : List ℕ) (o : Option Lines) (s : Session Position) → Alike n (runs_loaded judge most name o s) (runs_loaded judge more name o s)
   runs_loaded_alike name None s = same n _
-  runs_loaded_alike name (Some lines) s = let p = program_by judge lines in unless_alike (refusal_of p) p (begun p (loaded name lines s))
+  runs_loaded_alike name (Some lines) s = runs_alike n most more less less' (program_by judge lines) (loaded name lines s)
 
 module _ (judge : Judge) (n most more : ℕ) (less : n < most) (less' : n < more) where
   by_name_alike : (named : Result Spec ℕ) (s : Session Position) → Alike n (by_name named (reads_and_runs judge most) s) (by_name named (reads_and_runs judge more) s)
@@ -101,7 +112,7 @@ module _ (judge : Judge) (n most more : ℕ) (less : n < most) (less' : n < more
 
   user_alike : (own : Account) (command : Command) (s : Session Position) → Alike n (user_acts judge most own command s) (user_acts judge more own command s)
   user_alike own (RunFile tail) s = file_alike (is_blank_text tail) (answered illegal_command s) (spec_read own tail) s
-  user_alike own (Run with_name) s = let p = program_by judge s.lines in unless_alike judge n most more less less' (refusal_of p) p (begun p (headed with_name s))
+  user_alike own (Run with_name) s = runs_alike n most more less less' (program_by judge s.lines) (headed with_name s)
   user_alike own Continue s = on_alike judge n most more less less' (program_by judge s.lines) s.stop s
   user_alike own (Immediate statement) s = immediate_alike judge n most more less less' (judge statement) s
   user_alike own command s = same n _

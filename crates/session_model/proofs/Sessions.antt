@@ -12,8 +12,8 @@ use Rattle.basic_tree.specs.Trees.{StatementTree}
 use Rattle.job_model.specs.Act.{Act, Gives, Breaks, Asks, Takes, ◌then◌, Break, Faulted, Halted, Gone, Left}
 use Rattle.job_model.specs.Asking.{counts_as}
 use Rattle.file_names.specs.declared.spec.Spec.{Spec}
-use Rattle.line_editor.specs.Lines.{Lines}
-use Rattle.program_files.specs.declared.catalogs.TheConstants.{MOST_FILES}
+use Rattle.basic_tree.specs.ProgramLines.{Lines}
+use Rattle.basic_values.specs.declared.limits.TheConstants.{MOST_FILES}
 use Rattle.program_files.specs.Catalogs.{catalog_from}
 use Rattle.program_files.specs.Channels.{kills}
 use Rattle.program_files.specs.Programs.{reads_pages, writes_pages}
@@ -21,13 +21,15 @@ use Rattle.program_model.specs.declared.refusals.LowerRefusal.{LowerRefusal}
 use Rattle.program_model.specs.Program.{Program, Position}
 use Rattle.program_model.specs.Job as program
 use Rattle.program_model.specs.Job.{Job}
+use Rattle.program_model.specs.Storage.{in_storage}
+use Rattle.program_model.specs.FileActs.{shut_act}
 use Rattle.program_model.specs.Soundness.{refusal_of, refusal_now}
 use Rattle.stage_forms.specs.Stage.{are_in_stage}
 use Rattle.session_model.specs.Commands.{Login, Naming, Nameless, Named, Misnamed, Range, Command, Hello, Bye, New, Rename, ListLines, Delete, Run, RunFile, Continue, Old, Save, Unsave, Catalog, Cataloging, OfOwn, OfAccount, OfNone, Numbered, Immediate, command_of}
 use Rattle.session_model.specs.Editing.{Edited, Accepted, Refused, edited}
 use Rattle.session_model.specs.ProgramFiles.{spec_read, spec_or_own, is_blank_text, saved_pages, program_on}
 use Rattle.session_model.specs.Texts.{not_in_stage}
-use Rattle.session_model.specs.Talk.{Session, Step, answered, says, keys_are, entered, hello, leave, begins_new, renames, headed, lists, deletes, takes_edit, broken_off, tried, by_name, with_name_of, loaded, loads, reads_old, old, saves_as, saves, kills_file, unsaves, with_screen, catalogs_of, catalogs, rests, runs_loaded, reads_and_runs, runs_file, program_by, outlived, outlives, reported, run_is_over, runs_unless, begun, goes_on, line_unless, immediate, visitor_acts, user_acts, acts, line_acts, with_next, session, opening}
+use Rattle.session_model.specs.Talk.{Session, Step, answered, says, keys_are, entered, hello, leave, no_name, named, emptied, begins_new, renames, headed, lists, deletes, takes_edit, broken_off, tried, with_storage, shut_down, by_name, with_name_of, loaded, loads, reads_old, old, saves_as, saves, kills_file, unsaves, with_screen, catalogs_of, catalogs, rests, runs_loaded, reads_and_runs, runs_file, program_by, outlived, outlives, reported, run_is_over, runs_unless, begun, runs, goes_on, line_unless, immediate, visitor_acts, user_acts, acts, line_acts, with_next, session, opening}
 use Rattle.job_model.specs.Texts.{line_end}
 use Rattle.job_model.specs.Follow.{Path, here, asked, quiet, tick, gone}
 use Rattle.job_model.specs.Play.{Clock}
@@ -56,11 +58,6 @@ module _ {R : Type 0} (n : ℕ) where
   visitor_keeps (Hello login) s h = hello_keeps login s h
   visitor_keeps Bye s h = tt
   visitor_keeps command s h = h
-
-  new_keeps : (naming : Naming) (s : Session R) → Fewer n s.job → Keeps n (begins_new naming s)
-  new_keeps Nameless s h = h
-  new_keeps (Named name) s h = h
-  new_keeps Misnamed s h = h
 
   renames_keeps : (naming : Naming) (s : Session R) → Fewer n s.job → Keeps n (renames naming s)
   renames_keeps Nameless s h = h
@@ -101,6 +98,14 @@ module _ {R : Type 0} (n : ℕ) where
   tried_keeps whole next (Asks r by) h f = λ x. tried_keeps whole next (by x) h f
   tried_keeps whole next (Takes p rest) h f = tried_keeps whole next rest h f
 
+  shut_keeps : (next : Session R → Step R) (s : Session R) → Fewer n s.job → ((s : Session R) → Fewer n s.job → Keeps n (next s)) → Keeps n (shut_down next s)
+  shut_keeps next s h f = tried_keeps (with_storage s) (λ _ s. next s) (shut_act (in_storage.part s.job)) (λ _. h) (λ _ s g. f s g)
+
+  new_keeps : (naming : Naming) (s : Session R) → Fewer n s.job → Keeps n (begins_new naming s)
+  new_keeps Nameless s h = shut_keeps (λ s. answered [] (named no_name (emptied s))) s h (λ s g. g)
+  new_keeps (Named name) s h = shut_keeps (λ s. answered [] (named name (emptied s))) s h (λ s g. g)
+  new_keeps Misnamed s h = h
+
   by_name_keeps : (named : Result Spec ℕ) (act : Spec → Session R → Step R) (s : Session R) → Fewer n s.job → ((spec : Spec) → Keeps n (act spec s)) → Keeps n (by_name named act s)
   by_name_keeps (Ok spec) act s h f = f spec
   by_name_keeps (Err number) act s h f = h
@@ -110,7 +115,7 @@ module _ {R : Type 0} (n : ℕ) where
 
   loads_keeps : (name : List ℕ) (o : Option Lines) (s : Session R) → Fewer n s.job → Keeps n (loads name o s)
   loads_keeps name None s h = h
-  loads_keeps name (Some lines) s h = h
+  loads_keeps name (Some lines) s h = shut_keeps (λ s. answered [] (loaded name lines s)) s h (λ s g. g)
 
   old_keeps : (judge : Judge) (own : Account) (tail : List ℕ) (s : Session R) → Fewer n s.job → Keeps n (old judge own tail s)
   old_keeps judge own tail s h =
@@ -165,6 +170,9 @@ module _ (n : ℕ) where
   unless_keeps (Some refusal) p most s h = h
   unless_keeps None p most s h = outlives_keeps n (run_is_over s) s (λ why j g. g) _ (cleared_few n p most s.job h)
 
+  runs_keeps : (p : Program) (most : ℕ) (s : Session Position) → Fewer n s.job → Keeps n (runs p most s)
+  runs_keeps p most s h = shut_keeps n (λ s. runs_unless (refusal_of p) p most (begun p s)) s h (λ s g. unless_keeps (refusal_of p) p most (begun p s) g)
+
   on_keeps : (p : Program) (most : ℕ) (stop : Option (program.Leaving Position)) (s : Session Position) → Fewer n s.job → Keeps n (goes_on p most stop s)
   on_keeps p most None s h = h
   on_keeps p most (Some stop) s h = outlives_keeps n (run_is_over s) s (λ why j g. g) _ (continues_few n p most stop s.job h)
@@ -184,14 +192,14 @@ module _ (n : ℕ) where
 
   runs_loaded_keeps : (judge : Judge) (most : ℕ) (name : List ℕ) (o : Option Lines) (s : Session Position) → Fewer n s.job → Keeps n (runs_loaded judge most name o s)
   runs_loaded_keeps judge most name None s h = h
-  runs_loaded_keeps judge most name (Some lines) s h = let p = program_by judge lines in unless_keeps (refusal_of p) p most (begun p (loaded name lines s)) h
+  runs_loaded_keeps judge most name (Some lines) s h = runs_keeps (program_by judge lines) most (loaded name lines s) h
 
   runs_file_keeps : (judge : Judge) (most : ℕ) (own : Account) (tail : List ℕ) (s : Session Position) → Fewer n s.job → Keeps n (runs_file judge most own tail s)
   runs_file_keeps judge most own tail s h =
       with_name_keeps n own tail (reads_and_runs judge most) s h (λ spec. tried_keeps n (λ _. s) (λ pages s. runs_loaded judge most spec.name.stem (program_on judge pages) s) (reads_pages spec.name spec.code) (λ _. h) (λ pages s g. runs_loaded_keeps judge most spec.name.stem (program_on judge pages) s g))
 
   user_keeps : (judge : Judge) (most : ℕ) (own : Account) (command : Command) (s : Session Position) → Fewer n s.job → Keeps n (user_acts judge most own command s)
-  user_keeps judge most own (Run with_name) s h = let p = program_by judge s.lines in unless_keeps (refusal_of p) p most (begun p (headed with_name s)) (headed_keeps n with_name s h)
+  user_keeps judge most own (Run with_name) s h = runs_keeps (program_by judge s.lines) most (headed with_name s) (headed_keeps n with_name s h)
   user_keeps judge most own (RunFile tail) s h = runs_file_keeps judge most own tail s h
   user_keeps judge most own Continue s h = on_keeps (program_by judge s.lines) most s.stop s h
   user_keeps judge most own (Immediate statement) s h = immediate_keeps (judge statement) most s h

@@ -19,7 +19,7 @@ use Rattle.error_trap.specs.declared.trap.Raised.TheVariants.{Handle, Report}
 use Rattle.error_trap.specs.Trapping.{raised, resumed, handled_by}
 use Rattle.job_memory.specs.Memory.{Memory, store, store_at, room_of, made}
 use Rattle.job_memory.specs.Calls.{enter}
-use Rattle.job_model.specs.Act.{Gives, Breaks, Asks, Takes, ◌then◌, Break, Faulted, Halted, Gone, Left, over}
+use Rattle.job_model.specs.Act.{Act, Gives, Breaks, Asks, Takes, ◌then◌, Break, Faulted, Halted, Gone, Left, over, no_way}
 use Rattle.program_model.specs.Program.{Program, Position, whole, shapes_in}
 use Rattle.program_model.specs.declared.values.Value.{Value}
 use Rattle.program_model.specs.declared.values.Value.TheVariants.{Number, Text}
@@ -29,16 +29,18 @@ use Rattle.program_model.specs.Operators.{gives_number, sum_of, operated}
 use Rattle.program_model.specs.Functions.{applied, number_at}
 use Rattle.program_model.specs.Items.{items_in_line, item_value}
 use Rattle.program_model.specs.Variables.{held, element, second, content_of, remembered, stored, stored_at, dimensioned}
+use Rattle.program_model.specs.Storage.{Storage, StorageAct, in_storage, stores_by}
+use Rattle.program_model.specs.FileActs.{act_by, shut_act}
 use Rattle.program_model.specs.Control.{Onward, At, Behind, chosen, on_chosen, kept, returned, base_of, runs_at, home_of}
 use Rattle.program_model.specs.Loops.{is_past, opened, turned, next_turn, limit_and_step}
-use Rattle.program_model.specs.Reading.{item_taken}
+use Rattle.program_model.specs.DataItems.{item_taken}
 use Rattle.program_model.specs.Input.{line_taken, line_asked, enough}
 use Rattle.program_model.specs.Calls.{entered, arguments_stored, leaving, called, most_calls}
 use Rattle.program_model.specs.Traps.{handled, caught, trapped, left_to, leads_back}
-use Rattle.program_model.specs.Running.{runs_from, dimension_all, dimension_in, dimension_program, runs_cleared, continues, runs_line, line_alone, apart, together}
+use Rattle.program_model.specs.Running.{runs_from, dimension_all, dimension_in, dimension_program, ends_closed, runs_open, runs_cleared, continues_open, continues, runs_line, line_alone, apart, together}
 use Rattle.polish_code.specs.declared.items.Item.{Item}
 use Rattle.polish_code.specs.declared.items.Item.TheVariants as item
-use Rattle.polish_code.specs.Walk.{Spot, Setting, Code, Move, Pass, To, Away, setting_of, item_act, top, by_turn, pushed, goes, opens, led, walk, onward, started, starts, one_turn, turns, turns_from}
+use Rattle.polish_code.specs.Walk.{Spot, Setting, Code, Move, Pass, To, Away, taken, operand_count, setting_of, item_act, top, by_turn, pushed, goes, opens, led, walk, onward, started, starts, one_turn, turns, turns_from}
 use Rattle.polish_code.specs.Lowered.{lowered, lowers, coded, place_onward}
 use Rattle.polish_code.proofs.Compile.{code_goes_on}
 use Rattle.session_model.proofs.Ends.{Ends, ends_then}
@@ -104,6 +106,26 @@ module _ {R : Type 0} (n : ℕ) where
 
   element_few : (x : Name) (vs : List Value) (j : Job R) → Fewer n j → Few (element x vs j)
   element_few x vs j h = if_few x.text _ _ (texts_few _ j h) (numbers_few _ j h)
+
+  over_few : {A : Type 0} (j : Job R) (m : Act ⊥ Storage A) → Fewer n j → Few (over no_way (in_storage.with_part j) m)
+  over_few j (Gives a s) h = h
+  over_few j (Breaks why s) h = h
+  over_few j (Asks r by) h = λ x. over_few j (by x) h
+  over_few j (Takes s rest) h = (h, over_few j rest h)
+
+  pub storage_few : {A : Type 0} (act : StorageAct A) (j : Job R) → Fewer n j → Few (stores_by act j)
+  storage_few act j h = over_few j (act (in_storage.part j)) h
+
+  pub ends_closed_few : {A : Type 0} (m : Deed R A) → Few m → Few (ends_closed m)
+  ends_closed_few (Gives a j) h = h
+  ends_closed_few (Breaks (Faulted fault) j) h = h
+  ends_closed_few (Breaks (Halted halt) j) h = h
+  ends_closed_few (Breaks Gone j) h = h
+  ends_closed_few (Breaks (Left Ended) j) h = few_then (stores_by shut_act j) _ (storage_few shut_act j h) (λ a k g. g)
+  ends_closed_few (Breaks (Left (Stopped q)) j) h = h
+  ends_closed_few (Breaks (Left (StoppedInside home)) j) h = h
+  ends_closed_few (Asks r by) h = λ x. ends_closed_few (by x) (h x)
+  ends_closed_few (Takes j rest) h = (h.0, ends_closed_few rest h.1)
 
   remembered_few : (m : Memory) (j : Job R) → Fewer n j → Few (remembered m j)
   remembered_few m j h = if_few {A = Unit {0}} (nat_le (room_of m) MOST_ROOM) (Gives tt (record j { memory = m })) (Breaks (Halted RoomFull) j) h h
@@ -235,6 +257,8 @@ module _ (n : ℕ) (setting : Setting) (calls : (f : Name) (xs : List Name) (bod
   item_few behind item.Return stack j h = returned_few n (λ spot j. Gives (To spot.behind) (runs_at spot.home j)) j.returns j h (λ q k g. g)
   item_few behind (item.OnGoto places) stack j h = on_chosen_few n (chosen (number (top stack)) places) (λ to j. Gives (To to) j) j h (λ k. h)
   item_few behind (item.OnGosub home places) stack j h = on_chosen_few n (chosen (number (top stack)) places) (λ to j. kept (record { behind = behind; home = home }) (goes (To to)) j) j h (λ to. kept_few n (record { behind = behind; home = home }) (goes (To to)) j h (λ k g. g))
+  item_few behind (item.Ask act) stack j h =
+      few_then n (stores_by (act_by act (taken (operand_count act) stack)) j) _ (storage_few n (act_by act (taken (operand_count act) stack)) j h) (λ a k g. g)
   item_few behind (item.OnError line) stack j h = left_to_few n (goes (Pass 0 stack)) (handled_by line j.trap) j h (λ k g. g)
   item_few behind (item.Resume to) stack j h = back_few n To To to (resumed j.trap) j h
   item_few behind i stack j h = h
@@ -295,12 +319,16 @@ from_few n program most o j h =
     (subst (Few n) (code_goes_on program most o j) (turns_from_few n (coded program) most (place_onward program o) (lowered program j) h))
 
 pub cleared_few : (n : ℕ) (program : Program) (most : ℕ) (j : Job Position) → Fewer n j → Few n (runs_cleared program most j)
-cleared_few n program most j h = few_then n (dimension_program program j) _ (dimension_few n program j h) (λ a k g. from_few n program most (At (whole 0)) k g)
+cleared_few n program most j h =
+    ends_closed_few n (runs_open program most j) (few_then n (dimension_program program j) _ (dimension_few n program j h) (λ a k g. from_few n program most (At (whole 0)) k g))
+
+open_few : (n : ℕ) (program : Program) (most : ℕ) (way : Leaving Position) (j : Job Position) → Fewer n j → Few n (continues_open program most way j)
+open_few n program most Ended j h = h
+open_few n program most (Stopped q) j h = from_few n program most (Behind q) (runs_at (home_of program q.statement) j) h
+open_few n program most (StoppedInside home) j h = from_few n program most (At (whole home.behind)) j h
 
 pub continues_few : (n : ℕ) (program : Program) (most : ℕ) (way : Leaving Position) (j : Job Position) → Fewer n j → Few n (continues program most way j)
-continues_few n program most Ended j h = h
-continues_few n program most (Stopped q) j h = from_few n program most (Behind q) (runs_at (home_of program q.statement) j) h
-continues_few n program most (StoppedInside home) j h = from_few n program most (At (whole home.behind)) j h
+continues_few n program most way j h = ends_closed_few n (continues_open program most way j) (open_few n program most way j h)
 
 together_few : {A : Type 0} (n : ℕ) (before : Job Position) (m : Deed Position A) → Few n m → Few n (over (λ way. way) (together before) m)
 together_few n before (Gives a j) h = h

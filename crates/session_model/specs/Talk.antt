@@ -3,6 +3,7 @@
 -- it, or why it refuses it.
 use Rattle.std.specs.Prelude.{◌≡◌, ℕ, zero, suc, Bool, true, false, if◌then◌else◌, List, [], ◌∷◌, ◌++◌, length, map, replicate, Option, Some, None, Result, Ok, Err, codes}
 use Rattle.basic_values.specs.declared.errors.TheConstants.{DATA_FORMAT_ERROR}
+use Rattle.basic_values.specs.declared.limits.TheConstants.{LAST_CHANNEL}
 use Rattle.monitor_calls.specs.declared.names.Account.{Account}
 use Rattle.monitor_calls.specs.declared.files.OpenKind.{OpenKind}
 use Rattle.monitor_calls.specs.declared.calls.Request.{Request}
@@ -22,8 +23,8 @@ use Rattle.job_model.specs.PlayLaws.{Begins}
 use Rattle.job_model.specs.Texts.{line_end, job_expired}
 use Rattle.job_model.specs.Ends.{at_ends}
 use Rattle.file_names.specs.declared.spec.Spec.{Spec}
-use Rattle.line_editor.specs.Lines.{Lines, within, without, listing}
-use Rattle.program_files.specs.declared.catalogs.TheConstants.{MOST_FILES}
+use Rattle.basic_tree.specs.ProgramLines.{Lines, within, without, listing}
+use Rattle.basic_values.specs.declared.limits.TheConstants.{MOST_FILES}
 use Rattle.program_files.specs.Catalogs.{catalog_from}
 use Rattle.program_files.specs.Channels.{FileAct, kills}
 use Rattle.program_files.specs.Programs.{reads_pages, writes_pages}
@@ -33,6 +34,9 @@ use Rattle.program_model.specs.Job.{Job}
 use Rattle.program_model.specs.Job as program
 use Rattle.program_model.specs.Printing.{written}
 use Rattle.program_model.specs.Reports.{ended_screen}
+use Rattle.channels.specs.Files.{closed_channel}
+use Rattle.program_model.specs.Storage.{Storage, in_storage}
+use Rattle.program_model.specs.FileActs.{shut_act}
 use Rattle.program_model.specs.Running.{no_home, cleared, runs_cleared, continues, runs_line}
 use Rattle.program_model.specs.Soundness.{refusal_of, refusal_now}
 use Rattle.stage_forms.specs.Stage.{are_in_stage}
@@ -56,11 +60,11 @@ pub record Session (R : Type 0) : Type 0 where
   pub stop : Option (program.Leaving R)
 
 -- it is left by BYE, and at the end of its keys
-pub data Leaving : Type 0 where
-  Ended : Leaving
+pub data SessionEnd : Type 0 where
+  Ended : SessionEnd
 
 abbrev pub Step : Type 0 → Type 0
-Step R = Act Leaving (Session R) Unit
+Step R = Act SessionEnd (Session R) Unit
 
 abbrev pub with_job : {R : Type 0} → Job R → Session R → Session R
 with_job j s = record s { job = j }
@@ -70,7 +74,7 @@ abbrev pub says : {R : Type 0} → List ℕ → Session R → Session R
 says text s = with_job (written text s.job) s
 
 abbrev pub acts_for : {R : Type 0} → Account → Session R → Session R
-acts_for account s = record s { account = Some account }
+acts_for account s = with_job (record s.job { account = account }) (record s { account = Some account })
 
 abbrev pub keys_are : {R : Type 0} → List (List ℕ) → Session R → Session R
 keys_are keys s = with_job (record s.job { keys = keys }) s
@@ -120,11 +124,6 @@ with_lines lines s = record s { lines = lines; stop = None }
 abbrev pub emptied : {R : Type 0} → Session R → Session R
 emptied s = with_lines [] (with_job (cleared [] s.job) s)
 
-abbrev pub begins_new : {R : Type 0} → Naming → Session R → Step R
-begins_new Nameless s = answered [] (named no_name (emptied s))
-begins_new (Named name) s = answered [] (named name (emptied s))
-begins_new Misnamed s = answered illegal_file_name s
-
 abbrev pub renames : {R : Type 0} → Naming → Session R → Step R
 renames Nameless s = answered illegal_command s
 renames (Named name) s = answered [] (named name s)
@@ -165,6 +164,14 @@ tried whole next act = at_ends whole (λ value p. next value (whole p)) (λ why 
 abbrev pub on_files : {R A : Type 0} → FileAct A → (A → Session R → Step R) → Session R → Step R
 on_files act next s = tried (λ _. s) next act
 
+-- THE QUIET CLOSING of all channels, and how that goes on
+
+abbrev pub with_storage : {R : Type 0} → Session R → Storage → Session R
+with_storage s storage = with_job (in_storage.with_part s.job storage) s
+
+abbrev pub shut_down : {R : Type 0} → (Session R → Step R) → Session R → Step R
+shut_down next s = tried (with_storage s) (λ _ s. next s) (shut_act (in_storage.part s.job))
+
 -- what is done with the file that is named, or the error that refuses the name
 abbrev pub by_name : {R : Type 0} → Result Spec ℕ → (Spec → Session R → Step R) → Session R → Step R
 by_name (Ok spec) act s = act spec s
@@ -175,14 +182,20 @@ abbrev pub with_name_of : {R : Type 0} → Account → List ℕ → (Spec → Se
 with_name_of own tail act s =
     if is_blank_text tail then answered illegal_command s else by_name (spec_read own tail) act s
 
+-- NEW: the channels are closed first
+abbrev pub begins_new : {R : Type 0} → Naming → Session R → Step R
+begins_new Nameless s = shut_down (λ s. answered [] (named no_name (emptied s))) s
+begins_new (Named name) s = shut_down (λ s. answered [] (named name (emptied s))) s
+begins_new Misnamed s = answered illegal_file_name s
+
 -- the program that was read is in memory, and all is as NEW leaves it
 abbrev pub loaded : {R : Type 0} → List ℕ → Lines → Session R → Session R
 loaded name lines s = with_lines lines (named name (emptied s))
 
--- OLD: a text that is no program is an error, and nothing has changed
+-- OLD: a text that is no program is an error, and nothing has changed; else the channels are closed first
 abbrev pub loads : {R : Type 0} → List ℕ → Option Lines → Session R → Step R
 loads name None s = answered (fault_line DATA_FORMAT_ERROR) s
-loads name (Some lines) s = answered [] (loaded name lines s)
+loads name (Some lines) s = shut_down (λ s. answered [] (loaded name lines s)) s
 
 abbrev pub reads_old : {R : Type 0} → Judge → Spec → Session R → Step R
 reads_old judge spec s =
@@ -280,8 +293,12 @@ runs_unless None program most s = outlives (run_is_over s) s (runs_cleared progr
 abbrev pub begun : Program → Session Position → Session Position
 begun program s = record s { job = cleared program s.job; stop = None }
 
+-- behind the closing
+abbrev pub runs_shut : Program → ℕ → Session Position → Step Position
+runs_shut program most s = runs_unless (refusal_of program) program most (begun program s)
+
 abbrev pub runs : Program → ℕ → Session Position → Step Position
-runs program most s = runs_unless (refusal_of program) program most (begun program s)
+runs program most s = shut_down (runs_shut program most) s
 
 -- RUN with a name: the program is read as OLD reads it, and runs
 abbrev pub runs_loaded : Judge → ℕ → List ℕ → Option Lines → Session Position → Step Position
@@ -355,10 +372,17 @@ session judge most zero s = leave s.account s
 session judge most (suc count) s =
     with_next (λ line s. line_acts judge most line s then λ _ s. session judge most count s) s.job.keys s
 
+-- what stands for an account before a login
+abbrev pub no_account : Account
+no_account = record { project = 0; programmer = 0 }
+
 -- a job that has run nothing
 abbrev pub new_job : {R : Type 0} → List (List ℕ) → Job R
 new_job keys = record {
+  account = no_account;
   memory = empty;
+  channels = replicate LAST_CHANNEL closed_channel;
+  recount = 0;
   buffers = replicate 12 (replicate 512 0);
   screen = [];
   keys = keys;
@@ -385,7 +409,7 @@ abbrev pub expired : {R : Type 0} → Session R → Session R
 expired s = says job_expired (fresh s)
 
 -- the screen of a session that is over
-abbrev pub shown : {R : Type 0} → End Leaving (Session R) Unit → List ℕ
+abbrev pub shown : {R : Type 0} → End SessionEnd (Session R) Unit → List ℕ
 shown (Gave done s) = s.job.screen
 shown (Broke Gone s) = (expired s).job.screen
 shown (Broke why s) = s.job.screen

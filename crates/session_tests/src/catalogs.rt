@@ -1,8 +1,9 @@
 //! The catalog of an account.
 
 use crate::scripts::{Said, ending, expect_asked, port_of};
+use basic_values::limits::MOST_FILES;
 use monitor_calls::{Account, ScriptPort};
-use program_files::{MOST_FILES, show_catalog};
+use program_files::show_catalog;
 use std::alloc::Global;
 use std::test::Fail;
 use terminal_line::Screen;

@@ -126,13 +126,14 @@ fn a_refused_old_leaves_all(rt: HostRuntime) -> Result<(), Fail> {
     expect(rt.alloc(), &REFUSED_OLD)
 }
 
-static NO_PROGRAMS: [Answer; 6] = [
+static NO_PROGRAMS: [Answer; 7] = [
     Answer::Block("STOP\n"),
     Answer::Block("10 STOP\n\n"),
     Answer::Block("10 STOP\n 20 STOP\n"),
     Answer::Block("0 STOP\n"),
     Answer::Block("10 A=1\n"),
-    Answer::Block("10 CLOSE 1%\n"),
+    Answer::Block("10 MAT A%=ZER\n"),
+    Answer::Block("10 MAT A%=ZER\n10 STOP\n"),
 ];
 
 fn expect_no_program(alloc: Global, block: Answer) -> Result<(), Fail> {
@@ -188,6 +189,7 @@ static RUN: Talk = (
         ("LIST", "SUM\n10 PRINT A%\n20 STOP\nReady\n"),
         ("RUN X", "?Can't find file or account\nReady\n"),
         ("RUN X", NO_DATA),
+        ("RUN X", NO_DATA),
         ("RUN X", "?Undefined line at line 10\nReady\n"),
         ("LIST", "X\n10 GOTO 20\nReady\n"),
     ],
@@ -200,12 +202,16 @@ static RUN: Talk = (
         Answer::Block("STOP\n"),
         Answer::Done,
         Answer::Opened(1),
+        Answer::Block("10 CHAIN 'A'\n"),
+        Answer::Done,
+        Answer::Opened(1),
         Answer::Block("10 GOTO 20\n"),
         Answer::Done,
         Answer::Done,
     ],
     "Input [100,5]SUM.BAS Opened 1\nGet 1 Block\nClose 0 Done\n\
      Input [100,5]X.BAS Failed 5\n\
+     Input [100,5]X.BAS Opened 1\nGet 1 Block\nClose 0 Done\n\
      Input [100,5]X.BAS Opened 1\nGet 1 Block\nClose 0 Done\n\
      Input [100,5]X.BAS Opened 1\nGet 1 Block\nClose 0 Done\n",
 );

@@ -18,6 +18,8 @@ mod scripts;
 #[cfg(test)]
 mod sessions;
 #[cfg(test)]
+mod statements;
+#[cfg(test)]
 mod talks;
 #[cfg(test)]
 mod texts;

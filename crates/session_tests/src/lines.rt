@@ -187,11 +187,11 @@ fn words_of_commands_on_files(rt: HostRuntime) -> Result<(), Fail> {
 }
 
 static LATER: [&str; 8] = [
-    "OPEN 'A' AS FILE 1%",
-    "CLOSE 1%",
+    "FIELD #1%,2% AS A$",
+    "LSET A$='B'",
     "PRINT #1%,'A'",
-    "IF 0% THEN KILL 'A'",
-    "SLEEP 1%",
+    "IF 0% THEN CHAIN 'A'",
+    "INPUT #1%,A%",
     "CHAIN 'A'",
     "A%=RECOUNT",
     "PRINT SYS('A')",
@@ -212,7 +212,7 @@ fn statements_of_a_later_stage(rt: HostRuntime) -> Result<(), Fail> {
     Ok(())
 }
 
-static PROGRAM_LINES: [Row; 16] = [
+static PROGRAM_LINES: [Row; 18] = [
     ("10", ""),
     ("10 ", ""),
     ("10 PRINT 1", ""),
@@ -223,6 +223,8 @@ static PROGRAM_LINES: [Row; 16] = [
     ("0 PRINT 1", ILLEGAL_NUMBER),
     ("32768 PRINT 1", ILLEGAL_NUMBER),
     ("99999999999999999999 PRINT A", ILLEGAL_NUMBER),
+    ("99999 OPEN 'A' AS FILE 1%", ILLEGAL_NUMBER),
+    ("0 SLEEP 1%", ILLEGAL_NUMBER),
     ("10PRINT A", FLOATING_NAME),
     ("10 LIST", FLOATING_NAME),
     ("10.5", STRAY_BYTE),

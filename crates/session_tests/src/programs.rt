@@ -64,7 +64,7 @@ static ALLOWING: [Row; 11] = [
     ("RENAME X", READY),
     ("DELETE", ILLEGAL_COMMAND),
     ("20 PRINT 1%+", SYNTAX),
-    ("20 OPEN 'A' AS FILE 1%", "?Not in this stage\nReady\n"),
+    ("20 MAT A%=ZER", "?Not in this stage\nReady\n"),
     ("0 STOP", "?Illegal line number\nReady\n"),
     ("PRINT 1%/0%", "?Division by 0\nReady\n"),
     ("END", READY),

@@ -164,6 +164,12 @@ fn request_told(alloc: Global, request: &Request) -> Result<String, Fail> {
         Request::CloseFile { channel } => Ok(format!(in alloc; "Close {channel}")?),
         Request::Get { block, .. } => Ok(format!(in alloc; "Get {block}")?),
         Request::Put { block, .. } => Ok(format!(in alloc; "Put {block}")?),
+        Request::GetRecord { block, count, .. } => {
+            Ok(format!(in alloc; "GetRecord {block} {count}")?)
+        }
+        Request::Unlock { channel } => Ok(format!(in alloc; "Unlock {channel}")?),
+        Request::Sleep { seconds } => Ok(format!(in alloc; "Sleep {seconds}")?),
+        Request::Rename { new, code, .. } => named(alloc, "Rename to", new, *code),
         Request::Kill { name } => named(alloc, "Kill", name, None),
         Request::Directory { owner, index } => directory_told(alloc, *owner, *index),
         _ => Ok(String::from_str(alloc, "another")?),

@@ -1,4 +1,4 @@
--- Which statements run in this stage: those that use no channel, and no function of a later stage.
+-- Which statements run in this stage, by their forms and by the functions that they call.
 use Rattle.std.specs.Prelude.{Bool, true, false, ◌&&◌, List, Some, None}
 use Rattle.std.specs.List.{list_all}
 use Rattle.basic_tree.specs.declared.expressions.Function.{Function}
@@ -56,28 +56,28 @@ abbrev mutual
 
 -- STATEMENTS
 
--- of a statement without IFs and modifiers around it: what uses a channel comes later, and so do CHAIN, SLEEP, PRINT USING and MAT. Each form has its row.
+-- of a statement without IFs and modifiers around it: fields, text on channels and virtual arrays come later, and so do CHAIN, PRINT USING and MAT. Each form has its row.
 abbrev pub is_form_in_stage : StatementTree → Bool
 is_form_in_stage (Print (Some channel) items last) = false
 is_form_in_stage (PrintUsing channel format values last) = false
 is_form_in_stage (Input (Some channel) prompt targets) = false
 is_form_in_stage (InputLine (Some channel) variable) = false
 is_form_in_stage (DimFile channel shapes) = false
-is_form_in_stage (Open file purpose hash channel size cluster mode) = false
-is_form_in_stage (Close channels) = false
-is_form_in_stage (Get channel block) = false
-is_form_in_stage (Put channel block) = false
-is_form_in_stage (Unlock channel) = false
+is_form_in_stage (Open file purpose hash channel size cluster mode) = true
+is_form_in_stage (Close channels) = true
+is_form_in_stage (Get channel block) = true
+is_form_in_stage (Put channel block) = true
+is_form_in_stage (Unlock channel) = true
 is_form_in_stage (Field channel parts) = false
 is_form_in_stage (Lset variable e) = false
 is_form_in_stage (Rset variable e) = false
-is_form_in_stage (Kill e) = false
-is_form_in_stage (Rename old new) = false
+is_form_in_stage (Kill e) = true
+is_form_in_stage (Rename old new) = true
 is_form_in_stage (MatRead matrices) = false
 is_form_in_stage (MatPrint matrix separator) = false
 is_form_in_stage (MatLet target value) = false
 is_form_in_stage (Chain e line) = false
-is_form_in_stage (Sleep e) = false
+is_form_in_stage (Sleep e) = true
 is_form_in_stage (Print None items last) = true
 is_form_in_stage (Input None prompt targets) = true
 is_form_in_stage (InputLine None variable) = true

@@ -72,11 +72,9 @@ fn is_form_in_stage(statement: &Statement) -> bool
         Statement::Print { channel, .. } => channel.is_none(),
         Statement::Input { channel, .. } => channel.is_none(),
         Statement::InputLine { channel, .. } => channel.is_none(),
-        Statement::DimFile { .. } | Statement::Chain { .. } | Statement::Sleep(_) => false,
-        Statement::Open { .. } | Statement::Close(_) | Statement::Unlock(_) => false,
-        Statement::Get { .. } | Statement::Put { .. } | Statement::Field { .. } => false,
+        Statement::DimFile { .. } | Statement::Field { .. } => false,
         Statement::Lset { .. } | Statement::Rset { .. } => false,
-        Statement::Kill(_) | Statement::Rename { .. } | Statement::PrintUsing { .. } => false,
+        Statement::Chain { .. } | Statement::PrintUsing { .. } => false,
         Statement::MatRead(_) | Statement::MatPrint { .. } | Statement::MatLet { .. } => false,
         Statement::For { .. } | Statement::Next(_) => true,
         Statement::Def { .. } | Statement::FnEnd | Statement::Result { .. } => true,
@@ -86,6 +84,9 @@ fn is_form_in_stage(statement: &Statement) -> bool
         Statement::OnGoto { .. } | Statement::OnGosub { .. } => true,
         Statement::OnErrorGoto(_) | Statement::Resume(_) => true,
         Statement::Stop | Statement::End => true,
+        Statement::Open { .. } | Statement::Close(_) | Statement::Unlock(_) => true,
+        Statement::Get { .. } | Statement::Put { .. } | Statement::Sleep(_) => true,
+        Statement::Kill(_) | Statement::Rename { .. } => true,
         Statement::IfThen { .. } | Statement::IfGoto { .. } | Statement::Modified { .. } => true,
     }
 }

@@ -2,7 +2,7 @@
 use Rattle.std.proofs.Common.{◌≡◌, ℕ, Bool, true, false, ◌+◌, List, [], ◌∷◌, ◌++◌, drop, map, Some, None, refl, ap, ◌∙◌, arith}
 use Rattle.basic_expr.specs.declared.failures.Failure.{Failure}
 use Rattle.basic_expr.specs.declared.failures.Failure.TheVariants as failure
-use Rattle.basic_expr.specs.Reading.{First, Stands, is_sign}
+use Rattle.basic_expr.specs.ParsedSymbols.{First, WordStands, is_sign}
 use Rattle.basic_tree.specs.declared.tokens.Sign.TheVariants as sign
 use Rattle.basic_tree.specs.declared.names.Name.{Name}
 use Rattle.basic_tree.specs.declared.parts.Shape.{Shape}
@@ -13,16 +13,16 @@ use Rattle.basic_tree.specs.declared.parts.FieldPart.{FieldPart}
 use Rattle.basic_tree.specs.TreeViews.{target_of, close_channel_of, field_part_of}
 use Rattle.statement_parts.specs.Items.{target_item, channel_item, part_item}
 use Rattle.basic_tree.specs.SpellingWords.{Word, Punctuation}
-use Rattle.basic_tree.specs.MachineStack.{Values, Symbol, Go, Form, Item, ShapeItem, FileItem, NameItem, LineItem, Sequence, MoreOf, ItemIn, MoreItems}
-use Rattle.basic_tree.specs.MachineForms.{has_room, item_form, targets_in, shapes_in, files_in, names_in, lines_in, channels_in, parts_in}
-use Rattle.basic_tree.specs.MachineRun.{run}
-use Rattle.basic_tree.proofs.FormSteps.{one_more, run_made}
-use Rattle.statement_parts.specs.Reading.{Leads, Halts, AddsOne, AddsNone, Lists, Itemized, ItemAt}
+use Rattle.grammar_machine.specs.MachineStack.{Values, Symbol, Go, Form, Item, ShapeItem, FileItem, NameItem, LineItem, Sequence, MoreOf, ItemIn, MoreItems}
+use Rattle.grammar_machine.specs.MachineForms.{has_room, item_form, targets_in, shapes_in, files_in, names_in, lines_in, channels_in, parts_in}
+use Rattle.grammar_machine.specs.MachineRun.{run}
+use Rattle.grammar_machine.proofs.FormSteps.{one_more, run_made}
+use Rattle.statement_parts.specs.ParsedForms.{Leads, Halts, AddsOne, AddsNone, Lists, Itemized, ItemAt}
 use Rattle.statement_parts.proofs.Parts.{item_stands, item_missing, one_more_item, no_more_items, no_memory_halts}
 
 -- ---- one more
 
-pub adds_one : (ws : List Word) (from : ℕ) → Stands ws (Punctuation sign.Comma) from → AddsOne ws from true
+pub adds_one : (ws : List Word) (from : ℕ) → WordStands ws (Punctuation sign.Comma) from → AddsOne ws from true
 adds_one ws from h = (h.0, λ n s items g room k vs. rw h.1 (one_more n s items g (drop (from + 1) ws) k vs room))
 
 pub adds_none : (ws : List Word) (from : ℕ) → First (is_sign sign.Comma) (drop from ws) → (room : Bool) → AddsNone ws from room

@@ -1,17 +1,17 @@
 -- Steps of the machine at names, literals, texts and items.
 use Rattle.std.proofs.Common.{◌≡◌, ℕ, zero, suc, true, false, ◌+◌, ◌-◌, ◌<◌, ◌≤◌, List, [], ◌∷◌, ◌++◌, length, drop, Option, Some, None, Err, refl, ap, sym, ◌∙◌, subst, arith}
 use Rattle.basic_expr.specs.declared.failures.Failure.TheVariants as failure
-use Rattle.basic_expr.specs.Reading.{First, Stands, is_sign}
+use Rattle.basic_expr.specs.ParsedSymbols.{First, WordStands, is_sign}
 use Rattle.basic_tree.specs.declared.kinds.Want.{Want}
 use Rattle.basic_tree.specs.declared.names.Name.{Name}
 use Rattle.basic_tree.specs.declared.tokens.Sign.TheVariants as sign
 use Rattle.basic_tree.specs.SpellingWords.{Word, Punctuation, Named, FnNamed, Number, Quotation}
 use Rattle.basic_tree.specs.SpellingWords.{Item as ItemOf}
-use Rattle.basic_tree.specs.MachineStarts.{takes}
-use Rattle.basic_tree.specs.MachineStack.{Values, Symbol, Go, Form, TakeSign, TakeClosing, IfSign, NameIn, FnNameIn, LiteralIn, LiteralIf, QuotedIf, ItemIn, MoreItems, Limit, within}
-use Rattle.basic_tree.specs.MachineRun.{Halt, Wrong, TooDeep, run}
-use Rattle.basic_tree.proofs.FormSteps.{name_taken, fn_name_taken, literal_taken, literal_if, item_taken, item_added, quoted_if, sign_opened, closing_sign_taken, if_sign_opens}
-use Rattle.statement_parts.specs.Reading.{Leads, Halts, named, fn_named, number, is_variable_name, is_fn_name, is_number, is_quotation, is_item, NameAt, FnNameAt, NumberAt, IfLiteral, IfQuoted, ItemAt, IfOpens, OpensThere}
+use Rattle.grammar_machine.specs.MachineStarts.{takes}
+use Rattle.grammar_machine.specs.MachineStack.{Values, Symbol, Go, Form, TakeSign, TakeClosing, IfSign, NameIn, FnNameIn, LiteralIn, LiteralIf, QuotedIf, ItemIn, MoreItems, Limit, within}
+use Rattle.grammar_machine.specs.MachineRun.{Halt, Wrong, TooDeep, run}
+use Rattle.grammar_machine.proofs.FormSteps.{name_taken, fn_name_taken, literal_taken, literal_if, item_taken, item_added, quoted_if, sign_opened, closing_sign_taken, if_sign_opens}
+use Rattle.statement_parts.specs.ParsedForms.{Leads, Halts, named, fn_named, number, is_variable_name, is_fn_name, is_number, is_quotation, is_item, NameAt, FnNameAt, NumberAt, IfLiteral, IfQuoted, ItemAt, IfOpens, OpensThere}
 
 pub some_halt : {x y : Halt} → Some x ≡ Some y → x ≡ y
 some_halt e = cc
@@ -57,10 +57,10 @@ pub ruleset places = (name_there, fn_name_there, number_there, no_name_at_end, n
 
 -- ---- names
 
-pub name_stands : (ws : List Word) (from : ℕ) (name : Name) (w : Want) → Stands ws (Named name) from → takes w name.text ≡ true → (n : ℕ) (g : Name → Form) → Leads n n ws from (from + 1) (NameIn w g) (g name)
+pub name_stands : (ws : List Word) (from : ℕ) (name : Name) (w : Want) → WordStands ws (Named name) from → takes w name.text ≡ true → (n : ℕ) (g : Name → Form) → Leads n n ws from (from + 1) (NameIn w g) (g name)
 name_stands ws from name w h fits n g = λ k vs. rw h.1 (name_taken n w g name (drop (from + 1) ws) k vs fits)
 
-pub name_unfit : (ws : List Word) (from : ℕ) (name : Name) (w : Want) → Stands ws (Named name) from → takes w name.text ≡ false → (n : ℕ) (g : Name → Form) → Halts n ws from (NameIn w g) (failure.Wrong from)
+pub name_unfit : (ws : List Word) (from : ℕ) (name : Name) (w : Want) → WordStands ws (Named name) from → takes w name.text ≡ false → (n : ℕ) (g : Name → Form) → Halts n ws from (NameIn w g) (failure.Wrong from)
 unfolding run
 name_unfit ws from name w h unfit n g = wrong_halts n ws from (NameIn w g) (λ k vs. rw h.1 (rw unfit refl))
 
@@ -87,10 +87,10 @@ pub ruleset names = (name_stands, name_unfit, name_missing, fn_name_stands, fn_n
 
 -- ---- literals
 
-pub literal_stands : (ws : List Word) (from : ℕ) (c : ℕ) (limit : Limit) → Stands ws (Number c) from → within limit c ≡ true → (n : ℕ) (g : ℕ → Form) → Leads n n ws from (from + 1) (LiteralIn limit g) (g c)
+pub literal_stands : (ws : List Word) (from : ℕ) (c : ℕ) (limit : Limit) → WordStands ws (Number c) from → within limit c ≡ true → (n : ℕ) (g : ℕ → Form) → Leads n n ws from (from + 1) (LiteralIn limit g) (g c)
 literal_stands ws from c limit h fits n g = λ k vs. rw h.1 (literal_taken n limit g c (drop (from + 1) ws) k vs fits)
 
-pub literal_unfit : (ws : List Word) (from : ℕ) (c : ℕ) (limit : Limit) → Stands ws (Number c) from → within limit c ≡ false → (n : ℕ) (g : ℕ → Form) → Halts n ws from (LiteralIn limit g) (failure.Wrong from)
+pub literal_unfit : (ws : List Word) (from : ℕ) (c : ℕ) (limit : Limit) → WordStands ws (Number c) from → within limit c ≡ false → (n : ℕ) (g : ℕ → Form) → Halts n ws from (LiteralIn limit g) (failure.Wrong from)
 unfolding run
 literal_unfit ws from c limit h unfit n g = wrong_halts n ws from (LiteralIn limit g) (λ k vs. rw h.1 (rw unfit refl))
 
@@ -102,10 +102,10 @@ literal_missing ws from limit h n g = wrong_halts n ws from (LiteralIn limit g) 
   go (Number c ∷ ws) k vs h = absurd cc
   go (t ∷ ws) k vs h = refl
 
-pub if_literal_stands : (ws : List Word) (from : ℕ) (c : ℕ) (limit : Limit) → Stands ws (Number c) from → within limit c ≡ true → IfLiteral limit ws from (Some c)
+pub if_literal_stands : (ws : List Word) (from : ℕ) (c : ℕ) (limit : Limit) → WordStands ws (Number c) from → within limit c ≡ true → IfLiteral limit ws from (Some c)
 if_literal_stands ws from c limit h fits = (h.0, λ n g f k vs. rw h.1 (literal_if n limit g f c (drop (from + 1) ws) k vs fits))
 
-pub if_literal_unfit : (ws : List Word) (from : ℕ) (c : ℕ) (limit : Limit) → Stands ws (Number c) from → within limit c ≡ false → IfLiteral limit ws from None
+pub if_literal_unfit : (ws : List Word) (from : ℕ) (c : ℕ) (limit : Limit) → WordStands ws (Number c) from → within limit c ≡ false → IfLiteral limit ws from None
 unfolding run
 if_literal_unfit ws from c limit h unfit = λ n g f k vs. rw h.1 (rw unfit refl)
 
@@ -177,11 +177,11 @@ pub ruleset items = (item_stands, item_missing, item_there, item_elsewhere, item
 predecessor : (n : ℕ) → suc n - 1 ≡ n
 predecessor n = omega arith
 
-pub opens_level : (ws : List Word) (from n : ℕ) → 0 < n → Stands ws (Punctuation sign.Opening) from → (f : Form) → Leads n (n - 1) ws from (from + 1) (TakeSign true sign.Opening f) f
+pub opens_level : (ws : List Word) (from n : ℕ) → 0 < n → WordStands ws (Punctuation sign.Opening) from → (f : Form) → Leads n (n - 1) ws from (from + 1) (TakeSign true sign.Opening f) f
 opens_level ws from zero lt h f = absurd (omega (arith, lt))
 opens_level ws from (suc n) lt h f = λ k vs. rw (h.1, predecessor n) (sign_opened n sign.Opening f (drop (from + 1) ws) k vs)
 
-pub opens_too_deep : (ws : List Word) (from n : ℕ) → n ≤ 0 → Stands ws (Punctuation sign.Opening) from → (f : Form) → Halts n ws from (TakeSign true sign.Opening f) (failure.TooDeep from)
+pub opens_too_deep : (ws : List Word) (from n : ℕ) → n ≤ 0 → WordStands ws (Punctuation sign.Opening) from → (f : Form) → Halts n ws from (TakeSign true sign.Opening f) (failure.TooDeep from)
 unfolding run
 opens_too_deep ws from (suc n) le h f = absurd (omega (arith, le))
 opens_too_deep ws from zero le h f = λ halt e k vs. rw h.1 (ap (λ (x : Halt). Err x) (ap (λ (x : List Word). TooDeep x) (sym h.1) ∙ some_halt e))
@@ -194,7 +194,7 @@ opens_not ws from h n f = wrong_halts n ws from (TakeSign true sign.Opening f) (
   go (Punctuation s ∷ ws) k vs h = rw h refl
   go (t ∷ ws) k vs h = refl
 
-pub closes_level : (ws : List Word) (from n : ℕ) → 0 < n → Stands ws (Punctuation sign.Closing) from → (f : Form) → Leads (n - 1) n ws from (from + 1) (TakeClosing f) f
+pub closes_level : (ws : List Word) (from n : ℕ) → 0 < n → WordStands ws (Punctuation sign.Closing) from → (f : Form) → Leads (n - 1) n ws from (from + 1) (TakeClosing f) f
 closes_level ws from zero lt h f = absurd (omega (arith, lt))
 closes_level ws from (suc n) lt h f = λ k vs. rw (h.1, predecessor n) (closing_sign_taken n f (drop (from + 1) ws) k vs)
 
@@ -206,11 +206,11 @@ closes_not ws from h n f = wrong_halts n ws from (TakeClosing f) (λ k vs. go (d
   go (Punctuation s ∷ ws) k vs h = rw h refl
   go (t ∷ ws) k vs h = refl
 
-pub if_opens : (ws : List Word) (from n : ℕ) → 0 < n → Stands ws (Punctuation sign.Opening) from → (f g : Form) → Leads n (n - 1) ws from (from + 1) (IfSign true sign.Opening f g) f
+pub if_opens : (ws : List Word) (from n : ℕ) → 0 < n → WordStands ws (Punctuation sign.Opening) from → (f g : Form) → Leads n (n - 1) ws from (from + 1) (IfSign true sign.Opening f g) f
 if_opens ws from zero lt h f g = absurd (omega (arith, lt))
 if_opens ws from (suc n) lt h f g = λ k vs. rw (h.1, predecessor n) (if_sign_opens n sign.Opening f g (drop (from + 1) ws) k vs)
 
-pub if_opens_too_deep : (ws : List Word) (from n : ℕ) → n ≤ 0 → Stands ws (Punctuation sign.Opening) from → (f g : Form) → Halts n ws from (IfSign true sign.Opening f g) (failure.TooDeep from)
+pub if_opens_too_deep : (ws : List Word) (from n : ℕ) → n ≤ 0 → WordStands ws (Punctuation sign.Opening) from → (f g : Form) → Halts n ws from (IfSign true sign.Opening f g) (failure.TooDeep from)
 unfolding run
 if_opens_too_deep ws from (suc n) le h f g = absurd (omega (arith, le))
 if_opens_too_deep ws from zero le h f g = λ halt e k vs. rw h.1 (ap (λ (x : Halt). Err x) (ap (λ (x : List Word). TooDeep x) (sym h.1) ∙ some_halt e))
@@ -223,7 +223,7 @@ if_opens_not ws from h n = λ f g k vs. go (drop from ws) f g k vs h where
   go (Punctuation s ∷ ws) f g k vs h = rw h refl
   go (t ∷ ws) f g k vs h = refl
 
-pub opening_awaits : (ws : List Word) (from : ℕ) → Stands ws (Punctuation sign.Opening) from → OpensThere ws from
+pub opening_awaits : (ws : List Word) (from : ℕ) → WordStands ws (Punctuation sign.Opening) from → OpensThere ws from
 unfolding run
 opening_awaits ws from h = λ n f g k vs. rw h.1 (awaits n f g (drop (from + 1) ws) k vs) where
   awaits : (n : ℕ) (f g : Form) (ws : List Word) (k : List Symbol) (vs : Values) → run n (Punctuation sign.Opening ∷ ws) (Go (IfSign true sign.Opening f g) ∷ k) vs ≡ run n (Punctuation sign.Opening ∷ ws) (Go (TakeSign true sign.Opening f) ∷ k) vs

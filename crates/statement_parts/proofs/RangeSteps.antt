@@ -7,10 +7,10 @@ use Rattle.basic_tree.specs.declared.tokens.Keyword.TheVariants as keyword
 use Rattle.basic_tree.specs.declared.tokens.Sign.TheVariants as sign
 use Rattle.basic_tree.specs.SpellingWords.{Word}
 use Rattle.basic_tree.specs.Trees.{Tree}
-use Rattle.basic_tree.specs.MachineStack.{Form, ExprOf, NameIn, TakeKey, TakeSign}
-use Rattle.basic_tree.specs.MachineForms.{range_form}
+use Rattle.grammar_machine.specs.MachineStack.{Form, ExprOf, NameIn, TakeKey, TakeSign}
+use Rattle.grammar_machine.specs.MachineForms.{range_form}
 use Rattle.statement_parts.specs.Forms.{step_form}
-use Rattle.statement_parts.specs.Reading.{Halts, Leads}
+use Rattle.statement_parts.specs.ParsedForms.{Halts, Leads}
 
 -- it stops in the step
 pub step_halts : (n : ℕ) (ws : List Word) (from a b c d e : ℕ) (v : Name) (start limit : Tree) (f : Failure)

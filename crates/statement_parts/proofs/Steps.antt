@@ -2,22 +2,22 @@
 use Rattle.std.proofs.Common.{◌≡◌, ℕ, Bool, false, ◌+◌, ◌<◌, ◌≤◌, List, [], ◌∷◌, drop, Some, Result, Ok, Err, refl, ap, sym, ◌∙◌, subst, arith}
 use Rattle.basic_expr.specs.declared.failures.Failure.{Failure}
 use Rattle.basic_expr.specs.declared.failures.Failure.TheVariants as failure
-use Rattle.basic_expr.specs.Reading.{RefusesAt, First, Stands, is_key, is_sign}
+use Rattle.basic_expr.specs.ParsedSymbols.{RefusesAt, First, WordStands, is_key, is_sign}
 use Rattle.basic_tree.specs.declared.tokens.Keyword.{Keyword}
 use Rattle.basic_tree.specs.declared.tokens.Sign.{Sign}
 use Rattle.basic_tree.specs.declared.kinds.Want.{Want}
 use Rattle.basic_tree.specs.SpellingWords.{Word, Key, Punctuation}
 use Rattle.basic_tree.specs.Trees.{Tree}
-use Rattle.basic_tree.specs.MachineStack.{Values, Term, Symbol, Level, Go, Await, Form, IfKey, IfSign, TakeKey, TakeSign, ExprOf, loosest}
-use Rattle.basic_tree.specs.MachineRun.{Halt, Wrong, run}
-use Rattle.basic_tree.proofs.FormSteps.{run_made, run_await, run_expr, key_taken, sign_taken, if_key, if_sign}
+use Rattle.grammar_machine.specs.MachineStack.{Values, Term, Symbol, Level, Go, Await, Form, IfKey, IfSign, TakeKey, TakeSign, ExprOf, loosest}
+use Rattle.grammar_machine.specs.MachineRun.{Halt, Wrong, run}
+use Rattle.grammar_machine.proofs.FormSteps.{run_made, run_await, run_expr, key_taken, sign_taken, if_key, if_sign}
 use Rattle.basic_tree.specs.declared.statements.Statement.{Statement}
 use Rattle.statement_parts.specs.declared.read.Read.{Read}
-use Rattle.statement_parts.specs.Reading.{IsPlaced, Leads, Halts, States, StatesFrom, TakesKey, SkipsKey, TakesSign, SkipsSign}
+use Rattle.statement_parts.specs.ParsedForms.{IsPlaced, Leads, Halts, States, StatesFrom, TakesKeyword, SkipsKey, TakesSign, SkipsSign}
 
 -- ---- words and signs
 
-pub key_stands : (ws : List Word) (from : ℕ) (key : Keyword) → Stands ws (Key key) from → TakesKey ws from key
+pub key_stands : (ws : List Word) (from : ℕ) (key : Keyword) → WordStands ws (Key key) from → TakesKeyword ws from key
 key_stands ws from key h = (h.0, λ n f g k vs. rw h.1 (if_key n key f g (drop (from + 1) ws) k vs), λ n f k vs. rw h.1 (key_taken n key f (drop (from + 1) ws) k vs))
 
 pub key_stands_not : (ws : List Word) (from : ℕ) (key : Keyword) → First (is_key key) (drop from ws) → SkipsKey ws from key
@@ -28,7 +28,7 @@ key_stands_not ws from key h = λ n opens f g k vs. go (drop from ws) n opens f 
   go (Key l ∷ ws) n opens f g k vs h = rw h refl
   go (t ∷ ws) n opens f g k vs h = refl
 
-pub sign_stands : (ws : List Word) (from : ℕ) (s : Sign) → Stands ws (Punctuation s) from → TakesSign ws from s
+pub sign_stands : (ws : List Word) (from : ℕ) (s : Sign) → WordStands ws (Punctuation s) from → TakesSign ws from s
 sign_stands ws from s h = (h.0, λ n f g k vs. rw h.1 (if_sign n s f g (drop (from + 1) ws) k vs), λ n f k vs. rw h.1 (sign_taken n s f (drop (from + 1) ws) k vs))
 
 pub sign_stands_not : (ws : List Word) (from : ℕ) (s : Sign) → First (is_sign s) (drop from ws) → SkipsSign ws from s

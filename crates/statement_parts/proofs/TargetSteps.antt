@@ -2,21 +2,21 @@
 use Rattle.std.proofs.Common.{◌≡◌, ℕ, true, false, ◌+◌, ◌≤◌, List, [], ◌∷◌, ◌++◌, drop, None, Ok, Err, refl, ap, sym, ◌∙◌, subst}
 use Rattle.basic_expr.specs.declared.failures.Failure.{Failure}
 use Rattle.basic_expr.specs.declared.failures.Failure.TheVariants as failure
-use Rattle.basic_expr.specs.Reading.{First, RefusesAt, Stands}
+use Rattle.basic_expr.specs.ParsedSymbols.{First, RefusesAt, WordStands}
 use Rattle.basic_tree.specs.declared.kinds.Want.{Want}
 use Rattle.basic_tree.specs.declared.names.Name.{Name}
 use Rattle.basic_tree.specs.SpellingWords.{Word, Named}
 use Rattle.basic_tree.specs.SpellingParts.{is_target}
 use Rattle.basic_tree.specs.Trees.{Tree}
 use Rattle.basic_tree.specs.GrammarPlaces.{between}
-use Rattle.basic_tree.specs.MachineStarts.{takes}
-use Rattle.basic_tree.specs.MachineStack.{Values, Term, top, Symbol, Subscripts, Go, Await, Form, TargetOf}
-use Rattle.basic_tree.specs.MachineRun.{Halt, Wrong, run}
-use Rattle.basic_tree.proofs.BetweenLemmas.{cut_between}
-use Rattle.basic_tree.proofs.FormBack.{led_target}
-use Rattle.basic_tree.proofs.FormSteps.{run_await, target_taken}
-use Rattle.basic_tree.proofs.MachineStops.{finished}
-use Rattle.statement_parts.specs.Reading.{IsPlaced, Leads, Halts, is_variable_name, NameAt}
+use Rattle.grammar_machine.specs.MachineStarts.{takes}
+use Rattle.grammar_machine.specs.MachineStack.{Values, Term, top, Symbol, Subscripts, Go, Await, Form, TargetOf}
+use Rattle.grammar_machine.specs.MachineRun.{Halt, Wrong, run}
+use Rattle.grammar_machine.proofs.BetweenLemmas.{cut_between}
+use Rattle.grammar_machine.proofs.FormBack.{led_target}
+use Rattle.grammar_machine.proofs.FormSteps.{run_await, target_taken}
+use Rattle.grammar_machine.proofs.MachineStops.{finished}
+use Rattle.statement_parts.specs.ParsedForms.{IsPlaced, Leads, Halts, is_variable_name, NameAt}
 use Rattle.statement_parts.proofs.Parts.{some_halt}
 
 -- at the end of what is expected the machine stops
@@ -36,7 +36,7 @@ subscripts_target n ws name from end t le h =
     subst (λ (x : Tree). is_target x ≡ true) same (led_target name s.1 s.0 s.4.spelled s.4.level)
 
 pub target_leads : (n : ℕ) (ws : List Word) (name : Name) (w : Want) (from end : ℕ) (t : Tree)
-    → Stands ws (Named name) from
+    → WordStands ws (Named name) from
     → takes w name.text ≡ true
     → ((k : List Symbol) (vs : Values) → run n (drop (from + 1) ws) (Subscripts name ∷ k) vs ≡ run n (drop end ws) k (Term t ∷ vs))
     → (g : Tree → Form)
@@ -44,7 +44,7 @@ pub target_leads : (n : ℕ) (ws : List Word) (name : Name) (w : Want) (from end
 target_leads n ws name w from end t h fits reads g = λ k vs. rw h.1 (target_taken n w g name (drop (from + 1) ws) k vs fits) ∙ reads (Await g ∷ k) vs ∙ run_await n g (drop end ws) k t vs
 
 pub target_halts : (n : ℕ) (ws : List Word) (name : Name) (w : Want) (from : ℕ) (e : Failure)
-    → Stands ws (Named name) from
+    → WordStands ws (Named name) from
     → takes w name.text ≡ true
     → RefusesAt n ws (Subscripts name) (from + 1) e
     → IsPlaced ws e × ((g : Tree → Form) → Halts n ws from (TargetOf w g) e)
@@ -52,7 +52,7 @@ target_halts n ws name w from failure.NoMemory h fits stops = (tt, λ g halt e. 
 target_halts n ws name w from (failure.Wrong place) h fits stops = (stops.0, λ g halt e k vs. rw h.1 (target_taken n w g name (drop (from + 1) ws) k vs fits) ∙ stops.1 (Await g ∷ k) vs ∙ ap (λ (x : Halt). Err x) (some_halt e))
 target_halts n ws name w from (failure.TooDeep place) h fits stops = (stops.0, λ g halt e k vs. rw h.1 (target_taken n w g name (drop (from + 1) ws) k vs fits) ∙ stops.1 (Await g ∷ k) vs ∙ ap (λ (x : Halt). Err x) (some_halt e))
 
-pub target_unfit : (n : ℕ) (ws : List Word) (name : Name) (w : Want) (from : ℕ) → Stands ws (Named name) from → takes w name.text ≡ false → (g : Tree → Form) → Halts n ws from (TargetOf w g) (failure.Wrong from)
+pub target_unfit : (n : ℕ) (ws : List Word) (name : Name) (w : Want) (from : ℕ) → WordStands ws (Named name) from → takes w name.text ≡ false → (g : Tree → Form) → Halts n ws from (TargetOf w g) (failure.Wrong from)
 unfolding run
 target_unfit n ws name w from h unfit g = λ halt e k vs. rw h.1 (rw unfit (ap (λ (x : Halt). Err x) (ap (λ (x : List Word). Wrong x) (sym h.1) ∙ some_halt e)))
 
@@ -68,7 +68,7 @@ pub no_other_target : (n : ℕ) (ws : List Word) (name : Name) (from end : ℕ) 
 no_other_target n ws name from end t le h not_one = let is : is_target t ≡ true = subscripts_target n ws name from end t le h in cc
 
 pub same_target : (n : ℕ) (ws : List Word) (name : Name) (w : Want) (from end : ℕ) (t u : Tree)
-    → Stands ws (Named name) from
+    → WordStands ws (Named name) from
     → takes w name.text ≡ true
     → ((k : List Symbol) (vs : Values) → run n (drop (from + 1) ws) (Subscripts name ∷ k) vs ≡ run n (drop end ws) k (Term t ∷ vs))
     → u ≡ t

@@ -5,8 +5,8 @@ use Rattle.basic_tree.specs.declared.tokens.Sign.TheVariants as sign
 use Rattle.basic_tree.specs.declared.kinds.Want.TheVariants as want
 use Rattle.basic_tree.specs.Trees.{Tree}
 use Rattle.basic_tree.specs.SpellingExpressions.{is_text, want_of}
-use Rattle.basic_tree.specs.MachineStack.{Form, TakeSign, IfKey, ExprOf, TargetOf, MoreOf, Targets, TargetItem, ItemIn, MoreItems}
-use Rattle.basic_tree.specs.MachineForms.{targets_in}
+use Rattle.grammar_machine.specs.MachineStack.{Form, TakeSign, IfKey, ExprOf, TargetOf, MoreOf, Targets, TargetItem, ItemIn, MoreItems}
+use Rattle.grammar_machine.specs.MachineForms.{targets_in}
 
 -- the step of a range
 abbrev pub step_form : (Option Tree → Form) → Form

@@ -1,4 +1,4 @@
 pub mod Forms
 pub mod Items
-pub mod Reading
+pub mod ParsedForms
 pub mod Sentences

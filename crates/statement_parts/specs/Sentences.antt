@@ -5,10 +5,10 @@ use Rattle.basic_tree.specs.SpellingWords.{Word}
 use Rattle.basic_tree.specs.declared.statements.Statement.{Statement}
 use Rattle.basic_tree.specs.StatementViews.{statement_of}
 use Rattle.basic_tree.specs.Trees.{StatementTree}
-use Rattle.basic_tree.specs.MachineStack.{Stated, Form}
-use Rattle.basic_tree.specs.MachineSentences as sentences
-use Rattle.basic_tree.specs.MachineSentences.{Sentence}
-use Rattle.statement_parts.specs.Reading.{Behind, IsPlaced, Makes, Halts}
+use Rattle.grammar_machine.specs.MachineStack.{Stated, Form}
+use Rattle.grammar_machine.specs.MachineSentences as sentences
+use Rattle.grammar_machine.specs.MachineSentences.{Sentence}
+use Rattle.statement_parts.specs.ParsedForms.{Behind, IsPlaced, Makes, Halts}
 use Rattle.statement_parts.specs.declared.read.Read.{Read}
 
 -- the words up to the end are a statement of this form; of an IF nothing is said

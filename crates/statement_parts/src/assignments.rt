@@ -4,7 +4,7 @@ ghost use Rattle.std.specs.Prelude.{◌≡◌, ◌≤◌, length, map};
 ghost use Rattle.basic_tree.specs.SpellingExpressions.{want_of};
 ghost use Rattle.basic_tree.specs.TreeViews.{target_of, tree_of};
 ghost use Rattle.statement_parts.specs.Forms.{assigned_form};
-ghost use Rattle.statement_parts.specs.Reading.{Parts};
+ghost use Rattle.statement_parts.specs.ParsedForms.{Parts};
 
 use crate::lists::more_elements;
 use crate::read::Read;

@@ -2,7 +2,7 @@
 
 ghost use Rattle.std.specs.Prelude.{◌≡◌, ℕ, ◌+◌, ◌<◌, ◌≤◌, [], ◌∷◌, length, IfOk};
 ghost use Rattle.basic_expr.specs.Views.{most_words};
-ghost use Rattle.statement_parts.specs.Reading.{ItemAt, FlatParts};
+ghost use Rattle.statement_parts.specs.ParsedForms.{ItemAt, FlatParts};
 ghost use Rattle.statement_parts.specs.Forms.{items_form};
 
 use crate::read::Read;

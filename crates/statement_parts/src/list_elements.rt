@@ -1,10 +1,10 @@
 //! The elements of lists with commas.
 
 ghost use Rattle.std.specs.Prelude.{◌≡◌, ℕ, ◌+◌, ◌<◌, ◌≤◌, length};
-ghost use Rattle.basic_tree.specs.MachineStack.{Targets, Shapes, FileShapes, Lines, Channels, FieldParts, ShapeItem, FileItem, NameItem, LineItem};
-ghost use Rattle.basic_tree.specs.MachineForms.{shape_form, size_form};
+ghost use Rattle.grammar_machine.specs.MachineStack.{Targets, Shapes, FileShapes, Lines, Channels, FieldParts, ShapeItem, FileItem, NameItem, LineItem};
+ghost use Rattle.grammar_machine.specs.MachineForms.{shape_form, size_form};
 ghost use Rattle.statement_parts.specs.Items.{channel_item, names_wanted, part_item, target_item};
-ghost use Rattle.statement_parts.specs.Reading.{Parts, FlatPartsFrom};
+ghost use Rattle.statement_parts.specs.ParsedForms.{Parts, FlatPartsFrom};
 
 use crate::lists::Element;
 use crate::literals::Literal;

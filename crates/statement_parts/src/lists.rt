@@ -3,9 +3,9 @@
 ghost use Rattle.std.specs.Prelude.{◌≡◌, ℕ, ◌+◌, ◌<◌, ◌≤◌, List, [], ◌∷◌, length, map, MatchBool};
 ghost use Rattle.basic_expr.specs.Views.{most_words};
 ghost use Rattle.basic_tree.specs.declared.kinds.Want.{Want};
-ghost use Rattle.basic_tree.specs.MachineStack.{Item, MoreOf, Sequence};
-ghost use Rattle.basic_tree.specs.MachineForms.{has_room, item_form, list_form};
-ghost use Rattle.statement_parts.specs.Reading.{AddsNone, AddsOne, Parts, PartsFrom};
+ghost use Rattle.grammar_machine.specs.MachineStack.{Item, MoreOf, Sequence};
+ghost use Rattle.grammar_machine.specs.MachineForms.{has_room, item_form, list_form};
+ghost use Rattle.statement_parts.specs.ParsedForms.{AddsNone, AddsOne, Parts, PartsFrom};
 
 use crate::read::Read;
 use basic_expr::{Failure, Words, next_is_sign};

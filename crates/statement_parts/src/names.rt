@@ -2,8 +2,8 @@
 
 ghost use Rattle.std.specs.Prelude.{◌≡◌, ℕ, ◌+◌, ◌<◌, ◌≤◌, length, IfOk};
 ghost use Rattle.basic_expr.specs.Views.{as_word, most_words};
-ghost use Rattle.basic_tree.specs.MachineStack.{NameIn, FnNameIn, LiteralIn, within};
-ghost use Rattle.statement_parts.specs.Reading.{FnNameAt, IfLiteral, IfQuoted, NameAt, NumberAt, FlatParts, fn_named, limit_of, named, number};
+ghost use Rattle.grammar_machine.specs.MachineStack.{NameIn, FnNameIn, LiteralIn, within};
+ghost use Rattle.statement_parts.specs.ParsedForms.{FnNameAt, IfLiteral, IfQuoted, NameAt, NumberAt, FlatParts, fn_named, limit_of, named, number};
 
 use crate::literals::Literal;
 use crate::read::Read;

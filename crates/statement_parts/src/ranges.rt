@@ -2,9 +2,9 @@
 
 ghost use Rattle.std.specs.Prelude.{◌≡◌, ℕ, ◌+◌, ◌<◌, ◌≤◌, length, option_map};
 ghost use Rattle.basic_tree.specs.TreeViews.{tree_of};
-ghost use Rattle.basic_tree.specs.MachineForms.{range_form};
+ghost use Rattle.grammar_machine.specs.MachineForms.{range_form};
 ghost use Rattle.statement_parts.specs.Forms.{step_form};
-ghost use Rattle.statement_parts.specs.Reading.{Parts, PartsFrom};
+ghost use Rattle.statement_parts.specs.ParsedForms.{Parts, PartsFrom};
 
 use crate::names::name;
 use crate::read::Read;

@@ -3,9 +3,9 @@
 ghost use Rattle.std.specs.Prelude.{◌≡◌, ℕ, false, ◌+◌, ◌-◌, ◌<◌, ◌≤◌, length, MatchBool};
 ghost use Rattle.basic_expr.specs.Views.{most_words};
 ghost use Rattle.basic_tree.specs.TreeViews.{tree_of};
-ghost use Rattle.basic_tree.specs.MachineStack.{ExprOf, TakeKey, TakeSign};
+ghost use Rattle.grammar_machine.specs.MachineStack.{ExprOf, TakeKey, TakeSign};
 ghost use Rattle.basic_tree.specs.declared.tokens.Sign.TheVariants.{Opening};
-ghost use Rattle.statement_parts.specs.Reading.{MayOpen, OpensThere, Parts, SkipsKey, SkipsSign, TakesWord, TakesClosing, TakesKey, TakesOpening, TakesSign};
+ghost use Rattle.statement_parts.specs.ParsedForms.{MayOpen, OpensThere, Parts, SkipsKey, SkipsSign, TakesWord, TakesClosing, TakesKeyword, TakesOpening, TakesSign};
 
 use crate::read::Read;
 use basic_expr::{Failure, Words, expression_at, next_is_key, next_is_sign};
@@ -16,7 +16,7 @@ use std::alloc::Global;
 #[tactic(auto, using(crate::proofs::Steps::words_at))]
 pub fn if_key(words: &Words<'_>, from: usize, key: Keyword) -> bool
     requires { from ≤ length words.now }
-    ensures stands { MatchBool result (TakesKey words.now from key) (SkipsKey words.now from key) }
+    ensures stands { MatchBool result (TakesKeyword words.now from key) (SkipsKey words.now from key) }
     ensures few { length words.now ≤ most_words }
 {
     next_is_key(words, from, key)

@@ -4,8 +4,8 @@ ghost use Rattle.std.specs.Prelude.{◌≡◌, ℕ, false, ◌+◌, ◌<◌, ◌
 ghost use Rattle.basic_tree.specs.SpellingParts.{is_target};
 ghost use Rattle.basic_tree.specs.SpellingExpressions.{is_text};
 ghost use Rattle.basic_tree.specs.TreeViews.{tree_of, target_of};
-ghost use Rattle.basic_tree.specs.MachineStack.{TargetOf};
-ghost use Rattle.statement_parts.specs.Reading.{Parts};
+ghost use Rattle.grammar_machine.specs.MachineStack.{TargetOf};
+ghost use Rattle.statement_parts.specs.ParsedForms.{Parts};
 
 use crate::names::next_name;
 use crate::read::Read;

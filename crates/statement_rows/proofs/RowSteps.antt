@@ -5,13 +5,13 @@ use Rattle.basic_tree.specs.declared.tokens.Keyword.{Keyword}
 use Rattle.basic_tree.specs.declared.tokens.Keyword.TheVariants as keyword
 use Rattle.basic_tree.specs.declared.statements.Statement.{Statement}
 use Rattle.basic_tree.specs.SpellingWords.{Word}
-use Rattle.basic_tree.specs.MachineSentences as sentences
-use Rattle.basic_tree.specs.MachineSentences.{Sentence, key_sentence}
-use Rattle.basic_tree.proofs.FormSteps.{run_made}
-use Rattle.basic_tree.specs.MachineStack.{Form, Go}
-use Rattle.basic_tree.specs.MachineRun.{run}
+use Rattle.grammar_machine.specs.MachineSentences as sentences
+use Rattle.grammar_machine.specs.MachineSentences.{Sentence, key_sentence}
+use Rattle.grammar_machine.proofs.FormSteps.{run_made}
+use Rattle.grammar_machine.specs.MachineStack.{Form, Go}
+use Rattle.grammar_machine.specs.MachineRun.{run}
 use Rattle.statement_parts.specs.declared.read.Read.{Read}
-use Rattle.statement_parts.specs.Reading.{Halts, Leads, States}
+use Rattle.statement_parts.specs.ParsedForms.{Halts, Leads, States}
 use Rattle.statement_parts.specs.Sentences.{StatesAs}
 use Rattle.statement_parts.proofs.Parts.{no_memory_halts}
 use Rattle.statement_rows.specs.declared.piece.Piece.{Piece}

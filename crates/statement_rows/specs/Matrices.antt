@@ -5,7 +5,7 @@ use Rattle.basic_tree.specs.declared.tokens.Keyword.TheVariants as keyword
 use Rattle.basic_tree.specs.declared.tokens.Sign.TheVariants as sign
 use Rattle.basic_tree.specs.declared.kinds.Want.TheVariants as want
 use Rattle.basic_tree.specs.Trees.{MatrixTree, Copy, Sum, Difference, Product, Scaled, Transposed}
-use Rattle.basic_tree.specs.MachineStack.{Form, TakeSign, TakeClosing, IfKey, IfSign, ExprOf, NameIn}
+use Rattle.grammar_machine.specs.MachineStack.{Form, TakeSign, TakeClosing, IfKey, IfSign, ExprOf, NameIn}
 
 -- behind TRN
 abbrev pub transposed_form : (MatrixTree → Form) → Form

@@ -2,8 +2,8 @@
 use Rattle.std.specs.Prelude.{Option, Some, None}
 use Rattle.basic_tree.specs.declared.kinds.Want.TheVariants as want
 use Rattle.basic_tree.specs.Trees.{Tree}
-use Rattle.basic_tree.specs.MachineStack.{Form, ExprOf}
-use Rattle.basic_tree.specs.MachineForms.{cluster_form, mode_form}
+use Rattle.grammar_machine.specs.MachineStack.{Form, ExprOf}
+use Rattle.grammar_machine.specs.MachineForms.{cluster_form, mode_form}
 
 -- behind RECORDSIZE
 abbrev pub recorded_form : (Option Tree → Option Tree → Option Tree → Form) → Form

@@ -4,8 +4,8 @@ use Rattle.basic_tree.specs.declared.tokens.Keyword.TheVariants as keyword
 use Rattle.basic_tree.specs.declared.tokens.Sign.TheVariants as sign
 use Rattle.basic_tree.specs.declared.kinds.Want.TheVariants as want
 use Rattle.basic_tree.specs.Trees.{Tree, StatementTree, OnErrorGoto, OnGoto, OnGosub, Dim, DimFile, Input, InputLine, MatRead, MatPrint, MatLet}
-use Rattle.basic_tree.specs.MachineStack.{Form}
-use Rattle.basic_tree.specs.MachineForms.{says}
+use Rattle.grammar_machine.specs.MachineStack.{Form}
+use Rattle.grammar_machine.specs.MachineForms.{says}
 use Rattle.statement_rows.specs.declared.piece.Piece.{Piece}
 use Rattle.statement_rows.specs.declared.piece.Piece.TheVariants as piece
 use Rattle.statement_rows.specs.declared.rests.Rest.{Rest}

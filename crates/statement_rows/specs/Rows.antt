@@ -1,12 +1,12 @@
 -- The rows of statements by their first words: what stands behind the word, and the statement that is made of it.
-use Rattle.std.specs.Prelude.{◌≡◌, ℕ, Bool, true, false, List, [], ◌∷◌, Option, Some, None}
+use Rattle.std.specs.Prelude.{ℕ, Bool, true, false, List, [], ◌∷◌, Option, Some, None}
 use Rattle.basic_tree.specs.declared.tokens.Keyword.{Keyword}
 use Rattle.basic_tree.specs.declared.tokens.Keyword.TheVariants as keyword
 use Rattle.basic_tree.specs.declared.tokens.Sign.TheVariants as sign
 use Rattle.basic_tree.specs.declared.kinds.Want.TheVariants as want
 use Rattle.basic_tree.specs.Trees.{StatementTree, For, Next, FnEnd, Data, Let, Read, Restore, Goto, Gosub, Resume, Open, Close, Field, Return, Stop, End, Sleep, Get, Put, Unlock, Lset, Rset, Kill, Rename}
-use Rattle.basic_tree.specs.MachineStack.{Form, TakeKey}
-use Rattle.basic_tree.specs.MachineForms.{says}
+use Rattle.grammar_machine.specs.MachineStack.{Form, TakeKey}
+use Rattle.grammar_machine.specs.MachineForms.{says}
 use Rattle.statement_rows.specs.declared.piece.Piece.{Piece}
 use Rattle.statement_rows.specs.declared.piece.Piece.TheVariants as piece
 use Rattle.statement_rows.specs.Pieces.{row_form}

@@ -15,6 +15,7 @@ mod piece;
 mod reader;
 mod rests;
 mod rows;
+mod singles;
 mod slots;
 mod source;
 mod wholes;

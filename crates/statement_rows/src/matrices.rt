@@ -2,7 +2,7 @@
 
 ghost use Rattle.std.specs.Prelude.{◌+◌, ◌-◌, ◌<◌, ◌≤◌, length};
 ghost use Rattle.basic_tree.specs.TreeViews.{matrix_of};
-ghost use Rattle.statement_parts.specs.Reading.{FlatPartsFrom, Parts};
+ghost use Rattle.statement_parts.specs.ParsedForms.{FlatPartsFrom, Parts};
 ghost use Rattle.statement_rows.specs.declared.piece.Piece.TheVariants as piece;
 ghost use Rattle.statement_rows.specs.Matrices.{operands_form, pair_form, scaled_form, transposed_form};
 ghost use Rattle.statement_rows.specs.Pieces.{PieceRead};

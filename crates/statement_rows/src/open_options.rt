@@ -2,8 +2,8 @@
 
 ghost use Rattle.std.specs.Prelude.{◌≤◌, length, option_map};
 ghost use Rattle.basic_tree.specs.TreeViews.{tree_of};
-ghost use Rattle.basic_tree.specs.MachineForms.{cluster_form, number_option, options_form};
-ghost use Rattle.statement_parts.specs.Reading.{Parts, PartsFrom};
+ghost use Rattle.grammar_machine.specs.MachineForms.{cluster_form, number_option, options_form};
+ghost use Rattle.statement_parts.specs.ParsedForms.{Parts, PartsFrom};
 ghost use Rattle.statement_rows.specs.OptionForms.{clustered_form, recorded_form};
 
 use basic_expr::{Failure, Words};

@@ -11,11 +11,12 @@ use crate::optional::{
 };
 use crate::part::Part;
 use crate::piece::Piece;
+use crate::singles::{bound, key, line, sign, value, variable};
 use crate::slots::Slots;
 use crate::source::source;
 use crate::wholes::{assigned, items, looped};
 use basic_expr::{Failure, Words};
-use statement_parts::{Literal, Read, expression, literal, name, take_key, take_sign};
+use statement_parts::Read;
 use std::alloc::Global;
 
 /// What a piece gives at a place, and the place behind it.
@@ -31,50 +32,17 @@ fn read_piece(
     ensures { PieceRead levels words.now from piece result }
 {
     match piece {
-        Piece::Key(key) => {
-            let end = take_key(words, from, key)?;
-            Ok(Read { value: None, end })
-        }
-        Piece::Sign(sign) => {
-            let end = take_sign(words, from, sign)?;
-            Ok(Read { value: None, end })
-        }
+        Piece::Key(word) => key(words, from, word, levels),
+        Piece::Sign(mark) => sign(words, from, mark, levels),
         Piece::Either(first, second) => either(words, from, first, second, levels),
         Piece::Mark(sign) => mark(words, from, sign, levels),
-        Piece::Value(want) => {
-            let Read { value, end } = expression(alloc, words, from, want, levels)?;
-            Ok(Read {
-                value: Some(Part::Value(value)),
-                end,
-            })
-        }
+        Piece::Value(want) => value(alloc, words, from, want, levels),
         Piece::Option(key) => perhaps_number(alloc, words, from, key, levels),
         Piece::PerhapsChannel => perhaps_channel(alloc, words, from, levels),
-        Piece::Variable(want) => {
-            let Read {
-                value: variable,
-                end,
-            } = name(words, from, want)?;
-            Ok(Read {
-                value: Some(Part::Variable(variable)),
-                end,
-            })
-        }
-        Piece::Line => {
-            let Read { value: line, end } = literal(words, from, Literal::LineNumber)?;
-            Ok(Read {
-                value: Some(Part::Number(line)),
-                end,
-            })
-        }
+        Piece::Variable(want) => variable(words, from, want, levels),
+        Piece::Line => line(words, from, levels),
         Piece::PerhapsLine => perhaps_line(words, from, levels),
-        Piece::Bound => {
-            let Read { value: bound, end } = literal(words, from, Literal::Bound)?;
-            Ok(Read {
-                value: Some(Part::Number(bound)),
-                end,
-            })
-        }
+        Piece::Bound => bound(words, from, levels),
         Piece::Purpose => purpose(words, from, levels),
         Piece::OpenOptions => open_options(alloc, words, from, levels),
         Piece::Source => source(alloc, words, from, levels),

@@ -1,9 +1,9 @@
 //! Statements whose second word chooses what stands behind it: ON, DIM, INPUT and MAT.
 
 ghost use Rattle.std.specs.Prelude.{◌≡◌, ℕ, ◌+◌, ◌<◌, ◌≤◌, length};
-ghost use Rattle.basic_tree.specs.MachineSentences.{dim_form, input_form, mat_form, on_form};
+ghost use Rattle.grammar_machine.specs.MachineSentences.{dim_form, input_form, mat_form, on_form};
 ghost use Rattle.basic_tree.specs.StatementViews.{statement_of};
-ghost use Rattle.statement_parts.specs.Reading.{States, StatesFrom};
+ghost use Rattle.statement_parts.specs.ParsedForms.{States, StatesFrom};
 ghost use Rattle.statement_rows.specs.Rests.{on_lines, rest_built, rest_form, rest_row};
 ghost use Rattle.statement_rows.specs.Slots.{slots_of};
 ghost use Rattle.basic_tree.specs.TreeViews.{tree_of};

@@ -1,9 +1,9 @@
 //! The rows of statements by their first words, and the statements that are made of them.
 
 ghost use Rattle.std.specs.Prelude.{◌≡◌, ◌≤◌, None, Some, length, MatchOption};
-ghost use Rattle.basic_tree.specs.MachineSentences.{key_sentence};
+ghost use Rattle.grammar_machine.specs.MachineSentences.{key_sentence};
 ghost use Rattle.basic_tree.specs.StatementViews.{statement_of};
-ghost use Rattle.statement_parts.specs.Reading.{States};
+ghost use Rattle.statement_parts.specs.ParsedForms.{States};
 ghost use Rattle.statement_parts.specs.Sentences.{StatesAs};
 ghost use Rattle.statement_rows.specs.Rows.{built, gone, opened, row_of, statement_form};
 ghost use Rattle.statement_rows.specs.Slots.{slots_of};

@@ -1,7 +1,7 @@
 //! Where INPUT reads: a channel, or behind a prompt.
 
 ghost use Rattle.std.specs.Prelude.{◌≤◌, length, option_map};
-ghost use Rattle.statement_parts.specs.Reading.{PartsFrom};
+ghost use Rattle.statement_parts.specs.ParsedForms.{PartsFrom};
 ghost use Rattle.statement_rows.specs.declared.piece.Piece.TheVariants as piece;
 ghost use Rattle.statement_rows.specs.Slots.{part_of};
 ghost use Rattle.statement_rows.specs.Pieces.{PieceRead, prompted_form};

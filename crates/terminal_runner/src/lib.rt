@@ -5,7 +5,9 @@
 //! which tells a pacer of each call (`port`). What a job does is known by its body alone.
 #![tactic(auto)]
 
+mod bodies;
 mod port;
 mod runs;
 
+pub use bodies::JobBody;
 pub use runs::{RunEnd, run_jobs};

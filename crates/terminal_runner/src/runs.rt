@@ -5,9 +5,10 @@ ghost use Rattle.monitor_gate.specs.Passes.{spare_value, first_pass};
 ghost use Rattle.terminal_runner.specs.Runs.{IsRun};
 ghost use Rattle.terminal_runner.specs.Seats.{CameBack, pass_at, AllFresh, AllAtGate, AllCameBack, Joined};
 
+use crate::bodies::JobBody;
 use crate::port::SeatPort;
 use basic_values::NoMemory;
-use monitor_calls::{JobBody, RunRecord, Screen2};
+use monitor_calls::{RunRecord, Screen2};
 use monitor_core::Monitor;
 use monitor_gate::{Gate, JobSeat, Spare};
 use rsts_io::Pacer;

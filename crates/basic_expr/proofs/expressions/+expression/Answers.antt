@@ -3,18 +3,18 @@ use Rattle.std.proofs.lemmas.Result.{err_from_is_err_and}
 use Rattle.basic_tree.specs.declared.tokens.Sign.TheVariants.{Closing, Comma}
 use Rattle.basic_tree.specs.declared.kinds.Want.TheVariants as want
 use Rattle.basic_tree.specs.declared.expressions.Expr.{Expr}
-use Rattle.basic_tree.specs.MachineStack.{Arguments, Close, Collect, Do, Expect, Exponent, Level, MakeCall, MakeComparison, MakeElement, MakeFunction, MakeOperation, MakeParenthesized, More, MoreArguments, SecondSubscript, Several, Subscripts, Term, loosest}
-use Rattle.basic_tree.specs.MachineStarts.{relations, takes}
+use Rattle.grammar_machine.specs.MachineStack.{Arguments, Close, Collect, Do, Expect, Exponent, Level, MakeCall, MakeComparison, MakeElement, MakeFunction, MakeOperation, MakeParenthesized, More, MoreArguments, SecondSubscript, Several, Subscripts, Term, loosest}
+use Rattle.grammar_machine.specs.MachineStarts.{relations, takes}
 use Rattle.basic_tree.specs.GrammarTables.{arguments_of, gives_text}
-use Rattle.basic_tree.specs.GrammarWords.{function_of}
-use Rattle.basic_tree.specs.MachineRun.{run}
+use Rattle.grammar_machine.specs.GrammarWords.{function_of}
+use Rattle.grammar_machine.specs.MachineRun.{run}
 use Rattle.basic_tree.specs.SpellingExpressions.{is_text, want_of}
 use Rattle.basic_tree.specs.Trees.{AndTrees, Call, FunctionOf, NoTrees, Quoted}
 use Rattle.basic_tree.specs.TreeViews.{tree_of}
-use Rattle.basic_tree.proofs.MachineSteps.{run_do}
+use Rattle.grammar_machine.proofs.MachineSteps.{run_do}
 use Rattle.basic_expr.specs.declared.words.Word.TheVariants as word
 use Rattle.basic_expr.specs.Views.{as_word}
-use Rattle.basic_expr.specs.Reading.{always, begins_atom, exponents, fits_function, function_expected, number_atom, second_tree, signed_level, takes_number, takes_relations, trees_in}
+use Rattle.basic_expr.specs.ParsedSymbols.{always, begins_atom, exponents, fits_function, function_expected, number_atom, second_tree, signed_level, takes_number, takes_relations, trees_in}
 use Rattle.basic_expr.proofs.Compose as compose
 use Rattle.basic_expr.proofs.Compose.{inside, through}
 use Rattle.basic_expr.proofs.expressions.+expression.Goals as goal

@@ -1,10 +1,10 @@
 use Rattle.std.proofs.Common.{◌≤◌, ◌<◌, ◌+◌, ◌*◌, ◌-◌, [], ◌∷◌, ◌++◌, length, drop}
-use Rattle.basic_tree.specs.MachineStack.{Arguments, Close, Do, Expect, Level, MakeCall, MakeFunction, More, MoreArguments, Several}
-use Rattle.basic_tree.specs.MachineStarts.{more_expected, relations}
+use Rattle.grammar_machine.specs.MachineStack.{Arguments, Close, Do, Expect, Level, MakeCall, MakeFunction, More, MoreArguments, Several}
+use Rattle.grammar_machine.specs.MachineStarts.{more_expected, relations}
 use Rattle.basic_tree.specs.GrammarTables.{arguments_of}
 use Rattle.basic_tree.specs.Trees.{NoTrees}
 use Rattle.basic_tree.specs.declared.tokens.Sign.TheVariants.{Closing}
-use Rattle.basic_expr.specs.Reading.{Continues, Gathers, function_expected}
+use Rattle.basic_expr.specs.ParsedSymbols.{Continues, Gathers, function_expected}
 use Rattle.basic_expr.proofs.expressions.+expression.Given as goal
 
 abbrev pub decreases-parse_atom : goal.decreases-parse_atom

@@ -1,7 +1,7 @@
 use Rattle.std.proofs.Common.{◌≡◌, Some, None, true, false}
 use Rattle.basic_expr.specs.Views.{as_word}
-use Rattle.basic_tree.specs.GrammarWords.{operator_of}
-use Rattle.basic_expr.specs.Reading.{goes_on}
+use Rattle.grammar_machine.specs.GrammarWords.{operator_of}
+use Rattle.basic_expr.specs.ParsedSymbols.{goes_on}
 use Rattle.basic_expr.proofs.Steps.{operator_there, operator_elsewhere, no_operator, no_word_operator}
 use Rattle.basic_expr.proofs.signs.next_operator.Goals as goal
 

@@ -1,9 +1,9 @@
 use Rattle.std.proofs.Common.{rules, ◌∙◌, false, [], option_map}
 use Rattle.basic_tree.specs.declared.tokens.Sign.TheVariants as sign
 use Rattle.basic_tree.specs.TreeViews.{tree_of}
-use Rattle.basic_tree.specs.MachineStack.{TakeSign}
-use Rattle.basic_tree.specs.MachineSentences.{using_form}
-use Rattle.statement_parts.specs.Reading.{States}
+use Rattle.grammar_machine.specs.MachineStack.{TakeSign}
+use Rattle.grammar_machine.specs.MachineSentences.{using_form}
+use Rattle.statement_parts.specs.ParsedForms.{States}
 use Rattle.statement_parts.proofs.Steps.{on_err}
 use Rattle.basic_stmt.specs.Usings.{value_form}
 use Rattle.basic_stmt.proofs.using.print_using.Goals as goal

@@ -1,9 +1,9 @@
 -- The targets and their value lead to the statement.
 use Rattle.std.proofs.Common.{rules, ◌∙◌, false}
 use Rattle.basic_tree.specs.Trees.{Let}
-use Rattle.basic_tree.specs.MachineForms.{says, targets_form}
-use Rattle.basic_tree.proofs.FormSteps.{run_made}
-use Rattle.statement_parts.specs.Reading.{States}
+use Rattle.grammar_machine.specs.MachineForms.{says, targets_form}
+use Rattle.grammar_machine.proofs.FormSteps.{run_made}
+use Rattle.statement_parts.specs.ParsedForms.{States}
 use Rattle.statement_parts.proofs.Steps.{on_err}
 use Rattle.basic_stmt.proofs.values.assigned.Goals as goal
 

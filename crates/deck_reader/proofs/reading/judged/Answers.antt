@@ -1,5 +1,5 @@
 use Rattle.std.proofs.Common.{arith, sym, subst, ◌∙◌}
-use Rattle.deck_model.specs.Reading.{Verdict, verdict}
+use Rattle.deck_model.specs.Reading.{DeckVerdict, verdict}
 use Rattle.deck_reader.specs.Seen.{front_of, Tells}
 use Rattle.deck_model.specs.Lines.{whole_lines}
 use Rattle.deck_reader.proofs.TextLemmas.{first_lacks}
@@ -26,6 +26,6 @@ loop-line-preserved c = record {
 
 pub returns : goal.returns
 returns c =
-    subst (λ (v : Verdict). Tells c.at_end.result v)
+    subst (λ (v : DeckVerdict). Tells c.at_end.result v)
     (sym (c.loop-line.invariant.told ∙ ends (front_of c.loop-line.front) c.loop-line.number c.loop-line.rest.now c.in_default.ensures.line))
     c.at_end.ensures

@@ -1,6 +1,6 @@
 use Rattle.std.proofs.Common.{◌≡◌, ◌++◌, take}
 use Rattle.std.specs.Prelude.{filter}
-use Rattle.line_editor.specs.Files.{is_written}
+use Rattle.basic_tree.specs.FileLines.{is_written}
 use Rattle.line_editor.proofs.files.append_written.Given as goal
 
 abbrev pub invariant-loop-byte : goal.invariant-loop-byte

@@ -1,6 +1,6 @@
 use Rattle.std.proofs.Common.{◌∙◌, ◌++◌, List, ℕ, take, ap, sym}
 use Rattle.std.specs.Prelude.{filter}
-use Rattle.line_editor.specs.Files.{is_written, file_text}
+use Rattle.basic_tree.specs.FileLines.{is_written, file_text}
 use Rattle.line_editor.proofs.PageLemmas.{text_more}
 use Rattle.line_editor.proofs.files.bytes_of.Goals as goal
 

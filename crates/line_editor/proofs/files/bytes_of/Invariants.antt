@@ -1,5 +1,5 @@
 use Rattle.std.proofs.Common.{◌≡◌, take}
-use Rattle.line_editor.specs.Files.{file_text}
+use Rattle.basic_tree.specs.FileLines.{file_text}
 use Rattle.line_editor.proofs.files.bytes_of.Given as goal
 
 abbrev pub invariant-loop-page : goal.invariant-loop-page

@@ -1,7 +1,7 @@
 use Rattle.std.proofs.Common.{◌≡◌, ◌+◌, ◌-◌, ◌<◌, List, ℕ, ◌∷◌, length, take, drop, sym, ap, ◌∙◌, arith, length-drop}
 use Rattle.std.proofs.lemmas.Bool.Decides.{nat_tests}
 use Rattle.std.proofs.lemmas.List.{take_all}
-use Rattle.line_editor.specs.Files.{file_lines}
+use Rattle.basic_tree.specs.FileLines.{file_lines}
 use Rattle.line_editor.proofs.CutLemmas.{cut_line, one_line}
 use Rattle.line_editor.proofs.files.first_line.Goals as goal
 

@@ -1,5 +1,5 @@
 use Rattle.std.proofs.Common.{◌≡◌, ℕ, ◌<◌, false, get_or}
-use Rattle.line_editor.specs.Files.{is_line_feed}
+use Rattle.basic_tree.specs.FileLines.{is_line_feed}
 use Rattle.line_editor.proofs.files.first_line.Given as goal
 
 abbrev pub invariant-loop-place : goal.invariant-loop-place

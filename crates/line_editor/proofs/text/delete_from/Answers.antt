@@ -1,7 +1,7 @@
 use Rattle.std.proofs.Common.{◌≡◌, rules}
 use Rattle.std.specs.Prelude.{not}
 use Rattle.std.proofs.lemmas.Map.Entries.{filter_from_retain_pairs}
-use Rattle.line_editor.specs.Lines.{is_within}
+use Rattle.basic_tree.specs.ProgramLines.{is_within}
 use Rattle.line_editor.proofs.text.delete_from.Goals as goal
 
 pub returns-clause-entries : goal.returns-clause-entries

@@ -1,6 +1,6 @@
 use Rattle.std.proofs.Common.{◌≡◌, ◌++◌, drop}
 use Rattle.program_model.specs.Parts.{kinds}
-use Rattle.program_soundness.specs.Texts.{trees_in}
+use Rattle.program_model.specs.InMemory.{trees_in}
 use Rattle.program_soundness.proofs.kinds.kinds_of.Given as goal
 
 abbrev pub invariant-loop-argument : goal.invariant-loop-argument

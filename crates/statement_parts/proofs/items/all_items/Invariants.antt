@@ -1,5 +1,5 @@
 use Rattle.std.proofs.Common.{◌-◌, length}
-use Rattle.statement_parts.specs.Reading.{Itemized}
+use Rattle.statement_parts.specs.ParsedForms.{Itemized}
 use Rattle.statement_parts.proofs.items.all_items.Given as goal
 
 abbrev pub invariant-more : goal.invariant-more

@@ -1,7 +1,7 @@
 use Rattle.std.proofs.Common.{rules, ◌∙◌, [], ◌∷◌, map, arith}
-use Rattle.basic_tree.specs.MachineStack.{MoreOf}
-use Rattle.basic_tree.specs.MachineForms.{list_form}
-use Rattle.statement_parts.specs.Reading.{Parts}
+use Rattle.grammar_machine.specs.MachineStack.{MoreOf}
+use Rattle.grammar_machine.specs.MachineForms.{list_form}
+use Rattle.statement_parts.specs.ParsedForms.{Parts}
 use Rattle.statement_parts.proofs.Steps.{on_err}
 use Rattle.statement_parts.proofs.lists.elements.Goals as goal
 

@@ -1,7 +1,7 @@
 use Rattle.std.proofs.Common.{rules, map, [], ◌∷◌}
 use Rattle.std.proofs.lemmas.List.{length-map}
-use Rattle.basic_tree.specs.MachineStack.{MoreOf}
-use Rattle.statement_parts.specs.Reading.{PartsFrom}
+use Rattle.grammar_machine.specs.MachineStack.{MoreOf}
+use Rattle.statement_parts.specs.ParsedForms.{PartsFrom}
 use Rattle.statement_parts.proofs.ListSteps.{list_halts}
 use Rattle.statement_parts.proofs.Steps.{on_err}
 use Rattle.statement_parts.proofs.lists.more_elements.Goals as goal

@@ -1,5 +1,5 @@
 use Rattle.std.proofs.Common.{◌-◌, length, map}
-use Rattle.statement_parts.specs.Reading.{Lists}
+use Rattle.statement_parts.specs.ParsedForms.{Lists}
 use Rattle.statement_parts.proofs.lists.more_elements.Given as goal
 
 abbrev pub invariant-more : goal.invariant-more

@@ -1,7 +1,7 @@
 use Rattle.std.proofs.Common.{rules, option_map}
 use Rattle.basic_tree.specs.TreeViews.{tree_of}
-use Rattle.basic_tree.specs.MachineForms.{range_form}
-use Rattle.statement_parts.specs.Reading.{Parts}
+use Rattle.grammar_machine.specs.MachineForms.{range_form}
+use Rattle.statement_parts.specs.ParsedForms.{Parts}
 use Rattle.statement_parts.proofs.Steps.{on_err}
 use Rattle.statement_parts.proofs.RangeSteps.{step_halts}
 use Rattle.statement_parts.proofs.ranges.range.Goals as goal

@@ -1,7 +1,7 @@
 use Rattle.std.proofs.Common.{rules, ◌+◌}
 use Rattle.basic_tree.specs.TreeViews.{tree_of, target_of}
-use Rattle.basic_tree.specs.MachineStack.{TargetOf}
-use Rattle.statement_parts.specs.Reading.{Parts}
+use Rattle.grammar_machine.specs.MachineStack.{TargetOf}
+use Rattle.statement_parts.specs.ParsedForms.{Parts}
 use Rattle.statement_parts.proofs.Steps.{on_err}
 use Rattle.statement_parts.proofs.TargetSteps.{target_halts, no_other_target}
 use Rattle.statement_parts.proofs.targets.target.Goals as goal

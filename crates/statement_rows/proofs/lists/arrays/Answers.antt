@@ -1,5 +1,5 @@
 use Rattle.std.proofs.Common.{rules, ◌∙◌, Some, arith}
-use Rattle.basic_tree.specs.MachineForms.{names_in}
+use Rattle.grammar_machine.specs.MachineForms.{names_in}
 use Rattle.statement_parts.proofs.ListSteps.{names_same}
 use Rattle.statement_parts.proofs.Steps.{on_err}
 use Rattle.statement_rows.specs.declared.piece.Piece.TheVariants as piece

@@ -1,7 +1,7 @@
 use Rattle.std.proofs.Common.{rules, ◌∙◌, Some, option_map}
 use Rattle.basic_tree.specs.TreeViews.{tree_of}
-use Rattle.basic_tree.specs.MachineForms.{mode_form, cluster_form}
-use Rattle.statement_parts.specs.Reading.{PartsFrom}
+use Rattle.grammar_machine.specs.MachineForms.{mode_form, cluster_form}
+use Rattle.statement_parts.specs.ParsedForms.{PartsFrom}
 use Rattle.statement_parts.proofs.Steps.{on_err}
 use Rattle.statement_rows.proofs.open_options.cluster_and_mode.Goals as goal
 

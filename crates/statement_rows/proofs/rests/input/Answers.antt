@@ -1,5 +1,5 @@
-use Rattle.std.proofs.Common.{rules, ◌∙◌, false, arith}
-use Rattle.basic_tree.specs.MachineSentences.{input_form}
+use Rattle.std.proofs.Common.{◌∙◌, false, arith}
+use Rattle.grammar_machine.specs.MachineSentences.{input_form}
 use Rattle.statement_parts.proofs.Steps.{states_on_from}
 use Rattle.statement_rows.specs.declared.rests.Rest.TheVariants as rest
 use Rattle.statement_rows.specs.Rests.{rest_form}

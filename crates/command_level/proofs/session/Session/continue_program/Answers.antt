@@ -1,5 +1,5 @@
 use Rattle.std.proofs.Common.{ap}
-use Rattle.basic_tree.specs.MachineJudge.{judge_of}
+use Rattle.grammar_machine.specs.MachineJudge.{judge_of}
 use Rattle.session_model.specs.Talk.{goes_on, program_by}
 use Rattle.session_model.specs.Texts.{cant_continue}
 use Rattle.command_level.proofs.Runs.{serves_answer, no_stop}

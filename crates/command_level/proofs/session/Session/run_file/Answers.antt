@@ -1,5 +1,5 @@
 use Rattle.std.proofs.Common.{sym, ◌∙◌}
-use Rattle.basic_tree.specs.MachineJudge.{judge_of}
+use Rattle.grammar_machine.specs.MachineJudge.{judge_of}
 use Rattle.session_model.specs.Talk.{reads_and_runs}
 use Rattle.session_model.specs.Texts.{illegal_command, fault_line}
 use Rattle.command_level.proofs.FileLemmas.{name_missing, name_told, name_refused}

@@ -1,7 +1,7 @@
 use Rattle.std.proofs.Common.{ℕ, Option, ap, sym, ◌∙◌}
 use Rattle.basic_values.specs.declared.errors.TheConstants.{DATA_FORMAT_ERROR}
-use Rattle.basic_tree.specs.MachineJudge.{judge_of}
-use Rattle.line_editor.specs.Lines.{Lines}
+use Rattle.grammar_machine.specs.MachineJudge.{judge_of}
+use Rattle.basic_tree.specs.ProgramLines.{Lines}
 use Rattle.session_model.specs.Talk.{answered, loaded, runs_loaded}
 use Rattle.session_model.specs.Texts.{fault_line}
 use Rattle.command_level.specs.Seen.{seen}

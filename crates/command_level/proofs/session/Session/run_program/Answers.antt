@@ -1,43 +1,30 @@
-use Rattle.std.proofs.Common.{refl, subst, sym, ap, ◌∙◌, Err}
-use Rattle.basic_tree.specs.MachineJudge.{judge_of}
-use Rattle.basic_values.specs.declared.failures.Trouble.{Trouble}
-use Rattle.program_model.specs.declared.refusals.LowerRefusal.{LowerRefusal}
-use Rattle.lowering.specs.Lowering.{Lowers}
-use Rattle.program_soundness.specs.Texts.{program_of}
-use Rattle.program_model.specs.Soundness.{refusal_of}
-use Rattle.polish_code.specs.Lowered.{coded}
-use Rattle.session_model.specs.Talk as talk
-use Rattle.session_model.specs.Talk.{begun, headed, program_by}
-use Rattle.polish_code.specs.Walk.{Spot}
-use Rattle.command_level.proofs.Runs.{serves_lost, serves_program, serves_refused, here_behind, lines_behind}
-use Rattle.command_level.proofs.Serving.{serves_nothing}
+use Rattle.std.proofs.Common.{List, refl, sym, ap}
+use Rattle.grammar_machine.specs.MachineJudge.{judge_of}
+use Rattle.basic_tree.specs.ProgramLines.{Lines}
+use Rattle.session_model.specs.Talk.{headed, program_by, runs, runs_shut, with_storage}
+use Rattle.command_level.proofs.FileLemmas.{shut_run, shut_broke}
+use Rattle.command_level.proofs.Lows.{headed_lines}
+use Rattle.command_level.proofs.Runs.{serves_lost, stands_headed}
+use Rattle.command_level.proofs.Serving.{serves_from}
 use Rattle.command_level.proofs.session.Session.run_program.Goals as goal
 
-pub returns-in_err-begin_run : goal.returns-in_err-begin_run
-returns-in_err-begin_run g c s st = serves_lost _ _ c.from_residual.ensures.1
+pub returns-in_err-write_name : goal.returns-in_err-write_name
+returns-in_err-write_name g c s st = serves_lost _ _ c.from_residual.ensures.1
 
 pub returns-in-Ok : goal.returns-in-Ok
 returns-in-Ok g c s st =
-    let prog = program_by judge_of s.lines in
-    let mid = c.begin_run.new.self in
-    let t = begun prog (headed c.args.with_name s) in
-    let low = c.in_ok-begin_run.ensures s st in
-    let here = here_behind mid s c.args.with_name prog c.program.result.now.lines.entries low c.program.ensures.trees in
-    let here_too = here_behind mid s c.args.with_name prog c.program-in-Ok.result.now.lines.entries low c.program-in-Ok.ensures.trees in
-    let coded_here = c.in-Ok.ensures.1 ∙ ap coded here in
-    serves_program prog (headed c.args.with_name s) t mid (record mid { running = c.run_program-end.new.state }) c.end_run.new.self c.run_program-end.result c.end_run.result
-    refl low refl (lines_behind c.args.with_name s) (sym (ap refusal_of here) ∙ c.in-Ok.ensures.0)
-    (c.run_program-end.ensures prog t.job (sym here_too) coded_here (ap (λ (u : talk.Session Spot). u.job) low))
-    c.end_run.ensures
+    let t = headed c.args.with_name s in
+    let mid = c.write_name.new.self in
+    let storage = c.shut_all.new.self in
+    serves_from (λ most. ap (λ (lines : Lines). runs (program_by judge_of lines) most t) (sym (headed_lines c.args.with_name s)))
+    (shut_run mid (record mid { running = record mid.running { storage = storage } }) t (stands_headed c.args.self.now mid s c.args.with_name st c.in_ok-write_name.ensures) storage
+    (runs_shut (program_by judge_of t.lines)) c.run_shut.new.self c.run_shut.result (c.in-Ok.ensures c.args.clock.now) refl (c.run_shut.ensures (with_storage t storage)))
 
-pub returns-in-Err-Refused : goal.returns-in-Err-Refused
-returns-in-Err-Refused g c s st =
-    let prog = program_by judge_of s.lines in
-    let mid = c.begin_run.new.self in
-    let low = c.in_ok-begin_run.ensures s st in
-    let here = here_behind mid s c.args.with_name prog c.program.result.now.lines.entries low c.program.ensures.trees in
-    let refused = subst (λ (e : Trouble LowerRefusal). Lowers (program_of c.program.result.now.lines.entries) (Err e)) c.in-Err-Refused.field-0-is c.in-Err-Refused.ensures in
-    serves_refused prog (headed c.args.with_name s) mid c.refuse.new.self c.in-Err-Refused.refusal c.refuse.result low (sym (ap refusal_of here) ∙ refused) c.refuse.ensures
-
-pub returns-in-Err-NoMemory : goal.returns-in-Err-NoMemory
-returns-in-Err-NoMemory g c s st = serves_nothing _
+pub returns-in-Err : goal.returns-in-Err
+returns-in-Err g c s st =
+    let t = headed c.args.with_name s in
+    let mid = c.write_name.new.self in
+    let storage = c.shut_all.new.self in
+    serves_from (λ most. ap (λ (lines : Lines). runs (program_by judge_of lines) most t) (sym (headed_lines c.args.with_name s)))
+    (shut_broke mid (record mid { running = record mid.running { storage = storage } }) t (stands_headed c.args.self.now mid s c.args.with_name st c.in_ok-write_name.ensures) storage
+    (runs_shut (program_by judge_of t.lines)) c.in-Err.stop c.break_off.new.self c.break_off.result (c.in-Err.ensures c.args.clock.now) refl c.break_off.ensures)

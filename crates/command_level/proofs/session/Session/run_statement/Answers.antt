@@ -1,14 +1,14 @@
 use Rattle.std.proofs.Common.{◌≡◌, subst, sym, ap, ◌∙◌, Err, rules}
 use Rattle.std.specs.Prelude.{IfOk}
 use Rattle.basic_tree.specs.LineVerdicts as grammar
-use Rattle.basic_tree.specs.MachineJudge.{judge_of}
+use Rattle.grammar_machine.specs.MachineJudge.{judge_of}
 use Rattle.basic_tree.specs.declared.tokens.Cause.{Cause}
 use Rattle.basic_values.specs.declared.failures.Trouble.{Trouble}
 use Rattle.session_model.specs.Talk.{answered, immediate, does_line}
 use Rattle.session_model.specs.Texts.{refusal_text}
 use Rattle.command_level.proofs.Runs.{serves_answer}
 use Rattle.command_level.proofs.Serving.{serves_from, serves_nothing}
-use Rattle.command_level.specs.Onwards.{goes}
+use Rattle.command_level.specs.AfterLines.{goes}
 use Rattle.command_level.specs.Seen.{seen}
 use Rattle.command_level.specs.Standing.{HasVerdict}
 use Rattle.command_level.proofs.session.Session.run_statement.Goals as goal

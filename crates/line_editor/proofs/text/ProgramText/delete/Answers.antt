@@ -1,5 +1,5 @@
 use Rattle.std.specs.Prelude.{not}
-use Rattle.line_editor.specs.Lines.{is_within}
+use Rattle.basic_tree.specs.ProgramLines.{is_within}
 use Rattle.line_editor.proofs.ProgramLemmas.{whole_filtered}
 use Rattle.line_editor.proofs.text.ProgramText.delete.Goals as goal
 

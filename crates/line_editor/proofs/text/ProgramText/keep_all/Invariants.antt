@@ -1,5 +1,5 @@
 use Rattle.std.proofs.Common.{length}
-use Rattle.line_editor.specs.Files.{file_lines}
+use Rattle.basic_tree.specs.FileLines.{file_lines}
 use Rattle.line_editor.proofs.KeepLemmas.{KeptSoFar}
 use Rattle.line_editor.proofs.text.ProgramText.keep_all.Given as goal
 

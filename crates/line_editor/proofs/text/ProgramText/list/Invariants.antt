@@ -1,5 +1,5 @@
 use Rattle.std.proofs.Common.{◌≡◌, ◌++◌}
-use Rattle.line_editor.specs.Lines.{within, listing}
+use Rattle.basic_tree.specs.ProgramLines.{within, listing}
 use Rattle.line_editor.proofs.text.ProgramText.list.Given as goal
 
 abbrev pub invariant-loop-number : goal.invariant-loop-number

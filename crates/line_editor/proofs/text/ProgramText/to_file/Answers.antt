@@ -1,6 +1,7 @@
 use Rattle.std.proofs.Common.{◌≡◌, ◌∙◌, ℕ, List, Result, Ok, Err, ap, subst}
 use Rattle.std.specs.Prelude.{IfOk}
-use Rattle.line_editor.specs.Lines.{Lines, listing, IsProgram}
+use Rattle.basic_tree.specs.ProgramLines.{Lines, listing}
+use Rattle.line_editor.specs.Lines.{IsProgram}
 use Rattle.line_editor.specs.Files.{IsPaged}
 use Rattle.line_editor.proofs.FileLemmas.{read_again, within_all}
 use Rattle.line_editor.proofs.text.ProgramText.to_file.Goals as goal

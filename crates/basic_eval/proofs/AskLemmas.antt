@@ -1,0 +1,40 @@
+-- What a statement on files asks is asked by the job.
+use Rattle.std.proofs.Common.{◌≡◌, List, drop, Option, Some, Ok, Err, refl, sym, ap}
+use Rattle.std.specs.Option.{option_map}
+use Rattle.basic_values.specs.declared.failures.Stop.{Stop}
+use Rattle.basic_values.specs.declared.failures.Stop.TheVariants as stop
+use Rattle.monitor_calls.specs.Pairs.{Pair}
+use Rattle.job_model.specs.Act.{Gives, ◌then◌}
+use Rattle.job_model.specs.Play.{Clock}
+use Rattle.job_model.specs.Follow.{Follows, answered_by}
+use Rattle.job_model.proofs.Follows.{follows_from, follows_to, follows_is, follows_then, follows_with, follows_in}
+use Rattle.program_model.specs.Storage.{Storage, in_storage}
+use Rattle.program_model.specs.FileActs.{act_by}
+use Rattle.program_model.specs.Job.{Job}
+use Rattle.program_model.specs.declared.values.Value.{Value}
+use Rattle.program_model.specs.declared.file_acts.FileAct.{FileAct}
+use Rattle.polish_code.specs.Walk.{Spot, Walked, Move, Pass, taken, passed, operand_count, asks}
+use Rattle.basic_eval.specs.Acting.{left_by}
+use Rattle.basic_eval.specs.Keeping.{exit_at}
+
+-- a stop goes past what would go on
+stopped : (next : Unit {0} → Job Spot → Walked Move) (e : Stop) (k : Job Spot) → option_map (λ t. t then next) (answered_by (Err e) k) ≡ left_by (Err (exit_at e)) k
+stopped next (stop.Fault n) k = refl
+stopped next (stop.Halt h) k = refl
+stopped next stop.Expired k = refl
+stopped next stop.NoMemory k = refl
+
+module _ {P W : Type 0} {who : P → W} {log : P → List Pair} {p q : P} {c d : Clock} (act : FileAct) (stack values : List Value) (j : Job Spot) (are : values ≡ taken (operand_count act) stack) (t : Storage) where
+  pub ask_passes : (stack' : List Value) → stack' ≡ drop (operand_count act) stack → Follows who log p q c d (act_by act values (in_storage.part j)) (Some (Gives tt t))
+      → Follows who log p q c d (asks act stack j) (Some (Gives (Pass 0 stack') (in_storage.with_part j t)))
+  ask_passes stack' is f =
+      follows_with (passed (drop (operand_count act) stack))
+      (follows_in in_storage j (act_by act (taken (operand_count act) stack)) (Ok tt) t (follows_from (ap (λ (vs : List Value). act_by act vs (in_storage.part j)) (sym are)) f))
+      (follows_is (ap (λ (l : List Value). Gives (Pass 0 l) (in_storage.with_part j t)) (sym is)))
+
+  pub ask_stops : (e : Stop) → Follows who log p q c d (act_by act values (in_storage.part j)) (answered_by (Err e) t)
+      → Follows who log p q c d (asks act stack j) (left_by (Err (exit_at e)) (in_storage.with_part j t))
+  ask_stops e f =
+      follows_to (stopped (passed (drop (operand_count act) stack)) e (in_storage.with_part j t))
+      (follows_then (passed (drop (operand_count act) stack))
+      (follows_in in_storage j (act_by act (taken (operand_count act) stack)) (Err e) t (follows_from (ap (λ (vs : List Value). act_by act vs (in_storage.part j)) (sym are)) f)))

@@ -1,0 +1,192 @@
+//! RUN, CONT and immediate mode: each call is one run of code, behind what is set for it.
+
+ghost use Rattle.std.specs.Prelude.{◌≡◌, ℕ, List, OnErr, OnOk};
+ghost use Rattle.basic_eval.specs.Acting.{seen};
+ghost use Rattle.basic_interpreter.specs.Meaning.{Means};
+ghost use Rattle.basic_tree.specs.Trees.{StatementTree};
+ghost use Rattle.basic_interpreter.specs.Stopping.{is_ended, leaving_of};
+ghost use Rattle.program_model.specs.InMemory.{program_of};
+ghost use Rattle.polish_code.specs.KeptCode.{code_kept};
+ghost use Rattle.polish_code.specs.Lowered.{coded, lowered, low_leaving};
+ghost use Rattle.program_model.specs.Job.{Job, Leaving};
+ghost use Rattle.program_model.specs.Program as model;
+ghost use Rattle.program_model.specs.Program.{Position, loops_of};
+ghost use Rattle.program_model.specs.Running.{Coming, cleared, continues, continues_open};
+ghost use Rattle.program_model.specs.Running.{ends_closed, line_alone, runs_cleared, runs_line, runs_open};
+ghost use Rattle.program_model.specs.Control.{Doing};
+ghost use Rattle.job_model.specs.Play as play;
+
+use crate::asides::Aside;
+use crate::clock::Clock;
+use crate::dimensions::dimension_program;
+use crate::runs::run;
+use crate::settings::{NO_HOME, fresh_limits};
+use crate::stops::Stop;
+use basic_eval::{Exit, Running, exit_at};
+use basic_tree::Program;
+use basic_values::{NoMemory, Trouble};
+use error_trap::Trap;
+use monitor_calls::Port;
+use polish_code::Code;
+
+/// What a program finds that begins: no variables, no trap, no return places, no limits of its so
+/// many FORs yet, and the first DATA item. Where memory runs out the state is as it was.
+pub fn clear(state: &mut Running, loops: usize) -> Result<(), NoMemory>
+    ensures ok { (program : model.Program) → loops ≡ loops_of program
+        → OnOk result (seen state.new ≡ cleared program (seen state.old)) }
+    ensures memory { OnErr result (seen state.new ≡ seen state.old) }
+{
+    state.limits = fresh_limits(state.alloc, loops)?;
+    state.storage.clear();
+    state.trap = Trap::new();
+    state.returns.clear();
+    state.item = 0;
+    state.line = 0;
+    state.home = NO_HOME;
+    state.frames.clear();
+    Ok(())
+}
+
+/// Makes the arrays of the program's DIMs, and runs it from its first statement. Behind its end no
+/// channel is open.
+pub fn run_program<P: Port>(
+    lines: &Program,
+    code: &Code,
+    state: &mut Running,
+    clock: &mut Clock,
+    port: &mut P,
+) -> Result<(), Trouble<Exit>>
+    ensures { (program : model.Program) (j : Job Position)
+        → program ≡ program_of lines.now.lines.entries → code_kept code.now ≡ coded program
+        → lowered program j ≡ seen state.old
+        → Means P.who P.log port.old port.new clock.old clock.new
+        (low_leaving program) (lowered program) (λ most. runs_cleared program most j)
+        (seen state.new) result }
+{
+    let end = run_open(lines, code, state, clock, port);
+    close_at_end(end, state, port)
+}
+
+/// The same, without what is done behind its end.
+fn run_open<P: Port>(
+    lines: &Program,
+    code: &Code,
+    state: &mut Running,
+    clock: &mut Clock,
+    port: &mut P,
+) -> Result<(), Trouble<Exit>>
+    ensures { (program : model.Program) (j : Job Position)
+        → program ≡ program_of lines.now.lines.entries → code_kept code.now ≡ coded program
+        → lowered program j ≡ seen state.old
+        → Means P.who P.log port.old port.new clock.old clock.new
+        (low_leaving program) (lowered program) (λ most. runs_open program most j)
+        (seen state.new) result }
+{
+    match dimension_program(lines, state) {
+        Ok(()) => run(code, 0, state, clock, port),
+        Err(trouble) => Err(trouble),
+    }
+}
+
+/// CONT: the program goes on where it stopped. Behind its end no channel is open.
+pub fn continue_program<P: Port>(
+    code: &Code,
+    stop: Stop,
+    state: &mut Running,
+    clock: &mut Clock,
+    port: &mut P,
+) -> Result<(), Trouble<Exit>>
+    ensures { (program : model.Program) (way : Leaving Position) (j : Job Position)
+        → code_kept code.now ≡ coded program → low_leaving program way ≡ leaving_of stop
+        → lowered program j ≡ seen state.old
+        → Means P.who P.log port.old port.new clock.old clock.new
+        (low_leaving program) (lowered program) (λ most. continues program most way j)
+        (seen state.new) result }
+{
+    let end = continue_open(code, stop, state, clock, port);
+    close_at_end(end, state, port)
+}
+
+/// The same, without what is done behind its end.
+fn continue_open<P: Port>(
+    code: &Code,
+    stop: Stop,
+    state: &mut Running,
+    clock: &mut Clock,
+    port: &mut P,
+) -> Result<(), Trouble<Exit>>
+    ensures { (program : model.Program) (way : Leaving Position) (j : Job Position)
+        → code_kept code.now ≡ coded program → low_leaving program way ≡ leaving_of stop
+        → lowered program j ≡ seen state.old
+        → Means P.who P.log port.old port.new clock.old clock.new
+        (low_leaving program) (lowered program) (λ most. continues_open program most way j)
+        (seen state.new) result }
+{
+    match stop {
+        Stop::At(spot) => {
+            state.run_at(spot.home());
+            run(code, spot.behind(), state, clock, port)
+        }
+        Stop::Inside(home) => run(code, home.behind as usize, state, clock, port),
+    }
+}
+
+/// What came to its end leaves no channel open; any other end stays.
+fn close_at_end<P: Port>(
+    end: Result<(), Trouble<Exit>>,
+    state: &mut Running,
+    port: &mut P,
+) -> Result<(), Trouble<Exit>>
+    // Whatever had this end, it is now what is closed at its end.
+    ensures { (start : P) (before behind : play.Clock) (program : model.Program)
+        (meaning : ℕ → Doing Coming)
+        → Means P.who P.log start port.old before behind
+        (low_leaving program) (lowered program) meaning (seen state.old) end
+        → Means P.who P.log start port.new before behind
+        (low_leaving program) (lowered program) (λ most. ends_closed (meaning most))
+        (seen state.new) result }
+{
+    if !is_ended(&end) {
+        return end;
+    }
+    match state.storage.shut_all(state.alloc, port) {
+        Ok(()) => Err(Trouble::Refused(Exit::Ended)),
+        Err(stop) => Err(exit_at(&stop)),
+    }
+}
+
+/// Whether a program came to its end.
+fn is_ended(end: &Result<(), Trouble<Exit>>) -> bool
+    ensures { result ≡ is_ended end.now }
+{
+    match end {
+        Err(Trouble::Refused(Exit::Ended)) => true,
+        _ => false,
+    }
+}
+
+/// Runs a line of immediate mode, which has so many FORs, beside the program that ran last.
+pub fn run_line<P: Port>(
+    code: &Code,
+    loops: usize,
+    state: &mut Running,
+    clock: &mut Clock,
+    port: &mut P,
+) -> Result<(), Trouble<Exit>>
+    ensures { (statements : List StatementTree) (program : model.Program) (j : Job Position)
+        → code_kept code.now ≡ coded (line_alone statements)
+        → loops ≡ loops_of (line_alone statements)
+        → lowered program j ≡ seen state.old
+        → Means P.who P.log port.old port.new clock.old clock.new
+        (low_leaving (line_alone statements)) (lowered program)
+        (λ most. runs_line statements most j) (seen state.new) result }
+{
+    match Aside::set_apart(state, loops) {
+        Ok(aside) => {
+            let ended = run(code, 0, state, clock, port);
+            aside.put_back(state);
+            ended
+        }
+        Err(NoMemory) => Err(Trouble::NoMemory),
+    }
+}

@@ -1,6 +1,0 @@
-use Rattle.std.proofs.Common.{sym}
-use Rattle.basic_scanner.proofs.WordLemmas.{stands_short}
-use Rattle.basic_scanner.proofs.words.stands.Goals as goal
-
-pub returns-then-rest-word : goal.returns-then-rest-word
-returns-then-rest-word c = sym (stands_short _ _ c.if-rest-word.true)

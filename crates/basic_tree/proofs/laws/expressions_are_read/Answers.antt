@@ -1,6 +1,0 @@
--- The machine reads or refuses the words from each place on.
-use Rattle.basic_tree.proofs.Judged.{expressions_read}
-use Rattle.basic_tree.proofs.laws.expressions_are_read.Goals as goal
-
-pub returns : goal.returns
-returns c = expressions_read

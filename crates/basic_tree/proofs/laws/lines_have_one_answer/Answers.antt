@@ -1,5 +1,0 @@
-use Rattle.basic_tree.proofs.OneAnswer.{one_line_answer}
-use Rattle.basic_tree.proofs.laws.lines_have_one_answer.Goals as goal
-
-pub returns : goal.returns
-returns c = one_line_answer

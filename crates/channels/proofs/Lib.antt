@@ -1,0 +1,10 @@
+pub mod Beside
+pub mod Calls
+pub mod Ended
+pub mod Gathered
+pub mod Pages
+pub mod Runs
+pub mod SizeLaws
+pub mod SizeMoves
+pub mod TextLaws
+pub mod Turned

@@ -1,0 +1,12 @@
+use Rattle.std.proofs.Common.{refl}
+use Rattle.job_model.specs.Act.{Gives}
+use Rattle.job_model.proofs.Ends.{follows_ends}
+use Rattle.job_model.proofs.Follows.{follows_to}
+use Rattle.channels.specs.Openings.{past_faults}
+use Rattle.channels.specs.Seen.{files}
+use Rattle.channels.proofs.channels.Channels.settle_quietly.Goals as goal
+
+pub returns : goal.returns
+returns g c clock =
+    follows_to (c.past_faults.ensures (files c.settle-settled.new.self c.args.buffers.now))
+    (follows_ends (λ files. files) (λ _ files. Gives tt files) past_faults (λ _. refl) (c.settle-settled.ensures.follows clock))

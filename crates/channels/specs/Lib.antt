@@ -1,0 +1,10 @@
+pub mod Files
+pub mod Openings
+pub mod Records
+pub mod Seen
+pub mod Sizes
+pub mod TextIn
+pub mod TextOut
+pub mod Transfers
+pub mod Waiting
+pub mod Windows

@@ -1,0 +1,6 @@
+-- The machine reads or refuses the words from each place on.
+use Rattle.grammar_machine.proofs.Judged.{expressions_read}
+use Rattle.grammar_machine.proofs.laws.expressions_are_read.Goals as goal
+
+pub returns : goal.returns
+returns c = expressions_read

@@ -1,0 +1,13 @@
+use Rattle.std.proofs.Common.{ap, sym}
+use Rattle.channels.specs.Records.{gets_record}
+use Rattle.channels.specs.Seen.{files}
+use Rattle.program_model.specs.Storage.{Storage, in_files}
+use Rattle.job_model.proofs.Follows.{follows_from, follows_in}
+use Rattle.program_model.specs.FileActs.{get_act}
+use Rattle.job_storage.proofs.storage.Storage.get.Goals as goal
+
+pub returns : goal.returns
+returns g c clock =
+    let s : Storage = record { account = c.self.inside.account; memory = c.self.inside.memory; files = files c.self.inside.channels c.self.inside.buffers } in
+    follows_from (ap (λ (s : Storage). get_act c.args.channel c.args.block s) (sym c.self.view_is))
+    (follows_in in_files s (gets_record c.args.channel c.args.block) c.get.result (files c.get.new.self c.get.new.buffers) (c.get.ensures clock))

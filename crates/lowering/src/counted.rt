@@ -1,0 +1,61 @@
+//! How many items code has, and nothing else of it.
+
+ghost use Rattle.std.specs.Prelude.{◌≡◌};
+
+use crate::numbers::next;
+use crate::sink::{Jump, Over, Sink};
+use basic_values::NoMemory;
+use polish_code::Item;
+use std::alloc::Global;
+use std::marker::Model;
+
+/// How many items were put in front of each other.
+#[derive(Drop)]
+pub struct Counted {
+    count: u32,
+}
+
+impl Model for Counted {
+    ghost use Rattle.std.specs.Prelude.{ℕ};
+
+    ghost Value = { ℕ };
+
+    ghost view = { λ counted. counted.count };
+}
+
+impl Counted {
+    /// None so far.
+    pub fn new() -> Counted
+        ensures { result ≡ 0 }
+    {
+        Counted { count: 0 }
+    }
+
+    /// How many.
+    pub fn count(&self) -> u32
+        ensures { result ≡ self.entry.now }
+    {
+        self.count
+    }
+}
+
+impl Sink for Counted {
+    ghost use Rattle.lowering.specs.Emission.{one_more};
+
+    ghost with = { one_more };
+
+    fn put(&mut self, _item: Item) -> Result<(), NoMemory> {
+        self.count = next(self.count)?;
+        Ok(())
+    }
+
+    fn put_jump(
+        &mut self,
+        _alloc: Global,
+        _jump: Jump<'_>,
+        _over: Over<'_>,
+    ) -> Result<(), NoMemory> {
+        self.count = next(self.count)?;
+        Ok(())
+    }
+}

@@ -1,0 +1,5 @@
+pub mod FieldLaws
+pub mod FormatLaws
+pub mod RunLemmas
+mod UsingRows
+pub mod WritingLemmas

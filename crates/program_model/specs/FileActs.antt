@@ -1,0 +1,127 @@
+-- What the statements on files do, each with the values of its operands.
+use Rattle.std.specs.Prelude.{ℕ, ◌==◌, Bool, true, false, ◌||◌, if◌then◌else◌, List, [], Option, Some, None, unwrap_or, Result, Ok, Err, ℤ}
+use Rattle.basic_values.specs.declared.errors.TheConstants.{ILLEGAL_BYTE_COUNT}
+use Rattle.monitor_calls.specs.declared.files.OpenKind.{OpenKind}
+use Rattle.monitor_calls.specs.declared.calls.Request.{Request}
+use Rattle.monitor_calls.specs.declared.calls.Request.TheVariants as request
+use Rattle.channels.specs.Files.{tested, channel_to_open}
+use Rattle.channels.specs.Openings.{opens_file, closes_file, closes_all}
+use Rattle.channels.specs.Records.{gets_record, puts_record, unlocks}
+use Rattle.file_names.specs.declared.spec.Spec.{Spec}
+use Rattle.file_names.specs.SpecFronts.{spec_said}
+use Rattle.job_memory.specs.Memory.{forget, forget_all}
+use Rattle.job_model.specs.Act.{Gives, ◌then◌, on}
+use Rattle.job_model.specs.Replies.{asks_for, done_by, no_part}
+use Rattle.record_fields.specs.declared.sizes.RecordSize.{RecordSize}
+use Rattle.record_fields.specs.declared.sizes.RecordSize.TheVariants as size
+use Rattle.record_fields.specs.Layouts.{natural}
+use Rattle.program_model.specs.declared.file_acts.FileAct.{FileAct}
+use Rattle.program_model.specs.declared.file_acts.FileAct.TheVariants as file
+use Rattle.program_model.specs.Job.{Value}
+use Rattle.program_model.specs.Functions.{number_at, text_at}
+use Rattle.program_model.specs.Storage.{Storage, StorageAct, in_files}
+
+-- what is tested before anything is asked
+abbrev pub is_tested : {A : Type 0} → Result A ℕ → StorageAct A
+is_tested result s = on in_files (tested result) s
+
+-- a request that is done, or refused
+abbrev pub asks_done : Request → StorageAct Unit
+asks_done request s = on no_part (λ _. asks_for done_by request) s
+
+-- the file that a text names, where nothing stands for its extension
+abbrev pub file_said : List ℕ → Storage → Result Spec ℕ
+file_said text s = spec_said s.account [] text
+
+-- OPEN
+
+-- RECORDSIZE: 0 is one block
+abbrev pub record_size : Option ℕ → Option RecordSize
+record_size (Some bytes) =
+    if bytes == 0 || bytes == 512 then Some size.One
+    else if bytes == 1024 then Some size.Two
+    else if bytes == 1536 then Some size.Three
+    else None
+record_size None = None
+
+-- MODE: with 1 a block that was got is held
+abbrev pub is_update : Option ℕ → Option Bool
+is_update (Some mode) = if mode == 0 then Some false else if mode == 1 then Some true else None
+is_update None = None
+
+abbrev pub both_given : {A B : Type 0} → Option A → Option B → Result (A × B) ℕ
+both_given (Some a) (Some b) = Ok (a, b)
+both_given (Some a) None = Err ILLEGAL_BYTE_COUNT
+both_given None b = Err ILLEGAL_BYTE_COUNT
+
+abbrev pub record_and_mode : ℤ → ℤ → Result (RecordSize × Bool) ℕ
+record_and_mode bytes mode = both_given (record_size (natural bytes)) (is_update (natural mode))
+
+-- on a channel that an OPEN may take, with the size of its records and its mode
+abbrev pub opens_on : OpenKind → ℕ → RecordSize × Bool → Spec → StorageAct Unit
+opens_on kind c how spec s = on in_files (opens_file c spec.name kind how.1 spec.code how.0) s
+
+abbrev pub opens_said : OpenKind → List ℕ → ℕ → RecordSize × Bool → StorageAct Unit
+opens_said kind text c how s = is_tested (file_said text s) s then λ spec. opens_on kind c how spec
+
+-- a channel outside 1 to 12, one that is open, a size or mode that is none, and a text that names no file are refused, in this order
+abbrev pub open_act : OpenKind → List ℕ → ℤ → ℤ → ℤ → StorageAct Unit
+open_act kind text channel bytes mode s =
+    is_tested (channel_to_open channel s.files.channels) s then λ c s.
+    is_tested (record_and_mode bytes mode) s then λ how. opens_said kind text c how
+
+-- CLOSE
+
+-- what was fielded on a channel that was closed is empty
+abbrev pub without_fields : Option ℕ → Storage → Storage
+without_fields None s = s
+without_fields (Some c) s = record s { memory = forget c s.memory }
+
+abbrev pub close_act : ℤ → StorageAct Unit
+close_act channel s = on in_files (closes_file channel) s then λ closed s. Gives tt (without_fields closed s)
+
+-- the quiet closing of all channels
+abbrev pub shut_act : StorageAct Unit
+shut_act s = on in_files closes_all s then λ _ s. Gives tt (record s { memory = forget_all s.memory })
+
+-- GET, PUT AND UNLOCK
+
+abbrev pub get_act : ℤ → ℤ → StorageAct Unit
+get_act channel block s = on in_files (gets_record channel block) s
+
+abbrev pub put_act : ℤ → ℤ → StorageAct Unit
+put_act channel block s = on in_files (puts_record channel block) s
+
+abbrev pub unlock_act : ℤ → StorageAct Unit
+unlock_act channel s = on in_files (unlocks channel) s
+
+-- KILL AND NAME: the code that stands with the file to be killed or renamed is not looked at
+
+abbrev pub kill_act : List ℕ → StorageAct Unit
+kill_act text s = is_tested (file_said text s) s then λ spec. asks_done (request.Kill spec.name)
+
+abbrev pub rename_act : List ℕ → List ℕ → StorageAct Unit
+rename_act old new s =
+    is_tested (file_said old s) s then λ old s.
+    is_tested (file_said new s) s then λ new. asks_done (request.Rename old.name new.name new.code)
+
+-- SLEEP: so many seconds, and none for a negative number
+
+abbrev pub seconds_of : ℤ → ℕ
+seconds_of number = unwrap_or (natural number) 0
+
+abbrev pub sleep_act : ℤ → StorageAct Unit
+sleep_act number = asks_done (request.Sleep (seconds_of number))
+
+-- EACH WITH THE VALUES OF ITS OPERANDS, in the order of the text. CLUSTERSIZE changes nothing.
+
+abbrev pub act_by : FileAct → List Value → StorageAct Unit
+act_by (file.Open kind) vs = open_act kind (text_at 0 vs) (number_at 1 vs) (number_at 2 vs) (number_at 4 vs)
+act_by file.Close vs = close_act (number_at 0 vs)
+act_by file.ShutAll vs = shut_act
+act_by file.Get vs = get_act (number_at 0 vs) (number_at 1 vs)
+act_by file.Put vs = put_act (number_at 0 vs) (number_at 1 vs)
+act_by file.Unlock vs = unlock_act (number_at 0 vs)
+act_by file.Kill vs = kill_act (text_at 0 vs)
+act_by file.Rename vs = rename_act (text_at 0 vs) (text_at 1 vs)
+act_by file.Sleep vs = sleep_act (number_at 0 vs)

@@ -1,0 +1,41 @@
+-- What a job keeps of its variables and files, on which the statements on files act.
+use Rattle.monitor_calls.specs.declared.names.Account.{Account}
+use Rattle.channels.specs.Files.{Files}
+use Rattle.job_memory.specs.Memory.{Memory}
+use Rattle.job_model.specs.Act.{Act, Place, on}
+use Rattle.program_model.specs.Job.{Job, Deed}
+
+pub record Storage : Type 0 where
+  -- for whom the job acts
+  pub account : Account
+  pub memory : Memory
+  -- the channels with RECOUNT, and the buffers
+  pub files : Files
+
+-- it is left in no way of its own
+abbrev pub StorageAct : Type 0 → Type 0
+StorageAct A = Storage → Act ⊥ Storage A
+
+-- where the files stand in it, and where it stands in a job
+abbrev pub in_files : Place Storage Files
+in_files = record { part = λ s. s.files; with_part = λ s files. record s { files = files } }
+
+abbrev pub in_storage : {R : Type 0} → Place (Job R) Storage
+in_storage = record {
+  part = λ j. record {
+    account = j.account;
+    memory = j.memory;
+    files = record { channels = j.channels; recount = j.recount; buffers = j.buffers };
+  };
+  with_part = λ j s. record j {
+    account = s.account;
+    memory = s.memory;
+    channels = s.files.channels;
+    recount = s.files.recount;
+    buffers = s.files.buffers;
+  };
+}
+
+-- what is done on it is done by the job
+abbrev pub stores_by : {R A : Type 0} → StorageAct A → Job R → Deed R A
+stores_by act j = on in_storage act j

@@ -1,0 +1,25 @@
+//! What the statements on files do.
+
+use monitor_calls::OpenKind;
+
+/// What a statement on files does with the values of its operands, which are told here in the order
+/// of the text. A number that is left out is 0.
+#[derive(Drop)]
+pub enum FileAct {
+    /// The file, the channel, RECORDSIZE, CLUSTERSIZE and MODE.
+    Open(OpenKind),
+    /// A channel, as with the others below.
+    Close,
+    /// The quiet closing of all channels, which takes no operand.
+    ShutAll,
+    /// The channel and the block.
+    Get,
+    Put,
+    Unlock,
+    /// The file.
+    Kill,
+    /// The file and its new name. The manual's NAME.
+    Rename,
+    /// Seconds.
+    Sleep,
+}

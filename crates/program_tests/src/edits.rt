@@ -1,0 +1,230 @@
+//! Lines that are stored, replaced, deleted, listed and refused.
+
+use basic_tree::{Cause, Refusal};
+use basic_values::Trouble;
+use line_editor::{EditRefusal, ProgramText};
+use std::alloc::Global;
+use std::test::Fail;
+
+/// The answer to a line that is put into a text.
+#[derive(Clone, Copy, Debug, PartialEq, Eq)]
+enum Put {
+    Done,
+    /// The line's number is none.
+    Number,
+    TooLong,
+    /// A statement in it is of a later stage.
+    Later,
+    TooMany,
+    /// The line is refused at this place.
+    Line(u16, Cause),
+    NoMemory,
+}
+
+fn line_put(text: &mut ProgramText, number: u16, rest: &[u8]) -> Put {
+    match text.put_line(number, rest) {
+        Ok(()) => Put::Done,
+        Err(Trouble::Refused(refusal)) => refused(refusal),
+        Err(Trouble::NoMemory) => Put::NoMemory,
+    }
+}
+
+fn refused(refusal: EditRefusal) -> Put {
+    match refusal {
+        EditRefusal::Number => Put::Number,
+        EditRefusal::TooLong => Put::TooLong,
+        EditRefusal::Later => Put::Later,
+        EditRefusal::TooMany => Put::TooMany,
+        EditRefusal::Line(Refusal { place, cause }) => Put::Line(place, cause),
+    }
+}
+
+fn lists(text: &ProgramText, from: u16, to: u16, listing: &[u8]) -> Result<bool, Fail> {
+    Ok(text.list(from, to)?.as_slice() == listing)
+}
+
+/// The number of a line, the rest of it, and the listing when it has been put.
+static STORED: [(u16, &[u8], &[u8]); 7] = [
+    (20, b" PRINT 2%", b"20 PRINT 2%\r\n"),
+    (5, b" A%=1%", b"5 A%=1%\r\n20 PRINT 2%\r\n"),
+    (20, b" STOP", b"5 A%=1%\r\n20 STOP\r\n"),
+    (32767, b"  ", b"5 A%=1%\r\n20 STOP\r\n32767  \r\n"),
+    (5, b"", b"20 STOP\r\n32767  \r\n"),
+    (6, b"", b"20 STOP\r\n32767  \r\n"),
+    (1, b"!", b"1!\r\n20 STOP\r\n32767  \r\n"),
+];
+
+fn first_wrong_store(text: &mut ProgramText) -> Result<Option<usize>, Fail> {
+    for (place, (number, rest, listing)) in STORED.iter().enumerate() {
+        if line_put(text, *number, rest) != Put::Done || !lists(text, 1, 32767, listing)? {
+            return Ok(Some(place));
+        }
+    }
+    Ok(None)
+}
+
+/// How many lines a program has.
+fn count(text: &ProgramText) -> usize {
+    text.program().lines.len()
+}
+
+#[test]
+fn lines_are_stored_in_order(rt: HostRuntime) -> Result<(), Fail> {
+    let mut text = ProgramText::new(rt.alloc());
+    let wrong = first_wrong_store(&mut text)?;
+    assert_eq!(rt; wrong, None);
+    assert_eq!(rt; count(&text), 3);
+    Ok(())
+}
+
+/// A range, what is listed of it, and what is left when it has been deleted.
+static RANGES: [(u16, u16, &[u8], &[u8]); 6] = [
+    (1, 32767, b"10!\r\n20!\r\n30!\r\n", b""),
+    (10, 10, b"10!\r\n", b"20!\r\n30!\r\n"),
+    (11, 30, b"20!\r\n30!\r\n", b"10!\r\n"),
+    (21, 29, b"", b"10!\r\n20!\r\n30!\r\n"),
+    (30, 10, b"", b"10!\r\n20!\r\n30!\r\n"),
+    (0, 65535, b"10!\r\n20!\r\n30!\r\n", b""),
+];
+
+/// Three lines, which are put out of their order.
+fn three_lines(alloc: Global) -> Option<ProgramText> {
+    let mut text = ProgramText::new(alloc);
+    for number in [30, 10, 20] {
+        if line_put(&mut text, number, b"!") != Put::Done {
+            return None;
+        }
+    }
+    Some(text)
+}
+
+fn is_listed_and_deleted(
+    alloc: Global,
+    from: u16,
+    to: u16,
+    listed: &[u8],
+    left: &[u8],
+) -> Result<bool, Fail> {
+    let mut text = three_lines(alloc).ok_or("a line is refused")?;
+    let is_listed = lists(&text, from, to, listed)?;
+    text.delete(from, to);
+    Ok(is_listed && lists(&text, 0, 65535, left)?)
+}
+
+fn first_wrong_range(alloc: Global) -> Result<Option<usize>, Fail> {
+    for (place, (from, to, listed, left)) in RANGES.iter().enumerate() {
+        if !is_listed_and_deleted(alloc, *from, *to, listed, left)? {
+            return Ok(Some(place));
+        }
+    }
+    Ok(None)
+}
+
+#[test]
+fn ranges_are_listed_and_deleted(rt: HostRuntime) -> Result<(), Fail> {
+    let wrong = first_wrong_range(rt.alloc())?;
+    assert_eq!(rt; wrong, None);
+    Ok(())
+}
+
+/// The number of a line, the rest of it, and its answer; none stands for 300 bytes.
+static REFUSED: [(u16, Option<&[u8]>, Put); 10] = [
+    (0, Some(b""), Put::Number),
+    (0, None, Put::Number),
+    (32768, Some(b" STOP"), Put::Number),
+    (10, None, Put::TooLong),
+    (10, Some(b" A=1"), Put::Line(1, Cause::FloatingName)),
+    (10, Some(b" GOTO"), Put::Line(1, Cause::Syntax)),
+    (10, Some(b" A%=40000"), Put::Line(4, Cause::NumberTooWide)),
+    (10, Some(b"5 STOP"), Put::Line(0, Cause::Syntax)),
+    (32768, Some(b" CHAIN 'A'"), Put::Number),
+    (10, Some(b" CHAIN 'A'"), Put::Later),
+];
+
+/// Whether a text of one line is answered so, and keeps its line.
+fn is_refused(alloc: Global, number: u16, rest: &[u8], answer: Put) -> Result<bool, Fail> {
+    let mut text = ProgramText::new(alloc);
+    let is_put = line_put(&mut text, 10, b" STOP") == Put::Done;
+    let is_refused = line_put(&mut text, number, rest) == answer;
+    Ok(is_put && is_refused && lists(&text, 1, 32767, b"10 STOP\r\n")?)
+}
+
+fn first_wrong_refusal(alloc: Global) -> Result<Option<usize>, Fail> {
+    let long = vec![in alloc; b'&'; 300]?;
+    for (place, (number, rest, answer)) in REFUSED.iter().enumerate() {
+        let rest = match rest {
+            Some(rest) => *rest,
+            None => long.as_slice(),
+        };
+        if !is_refused(alloc, *number, rest, *answer)? {
+            return Ok(Some(place));
+        }
+    }
+    Ok(None)
+}
+
+#[test]
+fn refused_lines_change_nothing(rt: HostRuntime) -> Result<(), Fail> {
+    let wrong = first_wrong_refusal(rt.alloc())?;
+    assert_eq!(rt; wrong, None);
+    Ok(())
+}
+
+/// The answer to a comment of so many bytes.
+fn comment(alloc: Global, number: u16, length: usize) -> Result<Put, Fail> {
+    let mut text = ProgramText::new(alloc);
+    let rest = vec![in alloc; b'!'; length]?;
+    Ok(line_put(&mut text, number, &rest))
+}
+
+#[test]
+fn a_line_has_255_bytes_with_its_number(rt: HostRuntime) -> Result<(), Fail> {
+    for (number, longest, longer) in [(1, 254, 255), (99, 253, 254), (32767, 250, 251)] {
+        let answers = (
+            comment(rt.alloc(), number, longest)?,
+            comment(rt.alloc(), number, longer)?,
+        );
+        assert_eq!(rt; answers, (Put::Done, Put::TooLong));
+    }
+    Ok(())
+}
+
+/// A text of 1,000 lines; none where a line is refused.
+fn full_text(alloc: Global) -> Option<ProgramText> {
+    let mut text = ProgramText::new(alloc);
+    for number in 1..=1000 {
+        if line_put(&mut text, number, b"!") != Put::Done {
+            return None;
+        }
+    }
+    Some(text)
+}
+
+/// Lines that are put into a text of 1,000 lines one after another, and their answers.
+static BEYOND: [(u16, &[u8], Put); 7] = [
+    (1001, b"!", Put::TooMany),
+    (1001, b" A=1", Put::Line(1, Cause::FloatingName)),
+    (1001, b"", Put::Done),
+    (1000, b" STOP", Put::Done),
+    (500, b"", Put::Done),
+    (1001, b"!", Put::Done),
+    (500, b"!", Put::TooMany),
+];
+
+fn first_wrong_beyond(text: &mut ProgramText) -> Option<usize> {
+    for (place, (number, rest, answer)) in BEYOND.iter().enumerate() {
+        if line_put(text, *number, rest) != *answer {
+            return Some(place);
+        }
+    }
+    None
+}
+
+#[test]
+fn a_text_has_1000_lines(rt: HostRuntime) -> Result<(), Fail> {
+    let mut text = full_text(rt.alloc()).ok_or("a line is refused")?;
+    let wrong = first_wrong_beyond(&mut text);
+    assert_eq!(rt; wrong, None);
+    assert_eq!(rt; count(&text), 1000);
+    Ok(())
+}

@@ -1,0 +1,5 @@
+pub mod ReadIsSaid
+pub mod ReceiverLemmas
+pub mod SaidIsRead
+pub mod TableLaws
+mod TableRows

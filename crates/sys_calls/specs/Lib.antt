@@ -1,0 +1,3 @@
+pub mod CallFronts
+pub mod Laws
+pub mod Table

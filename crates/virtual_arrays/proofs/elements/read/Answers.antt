@@ -1,0 +1,22 @@
+use Rattle.std.proofs.Common.{ℕ, Bool, Ok, Err}
+use Rattle.job_model.proofs.Follows.{follows_with, broken}
+use Rattle.channels.specs.Files.{Files, FilesAct}
+use Rattle.channels.specs.Seen.{files}
+use Rattle.channels.proofs.Calls.{follows_tested}
+use Rattle.virtual_arrays.specs.declared.places.Place.{Place}
+use Rattle.virtual_arrays.specs.declared.elements.Element.{Element}
+use Rattle.virtual_arrays.specs.Elements.{reads_at}
+use Rattle.virtual_arrays.proofs.elements.read.Goals as goal
+
+abbrev next : Bool → ℕ × Place → Files → FilesAct Element
+next text at = reads_at text at.0 at.1
+
+pub returns-in_err-channel : goal.returns-in_err-channel
+returns-in_err-channel g c clock =
+    let old = files c.args.channels.now c.args.buffers.now in
+    broken c.in_err-channel.field-0.0 c.from_residual.result old (next c.args.shape.now.name.text) c.from_residual.ensures.1 (follows_tested (Err c.in_err-channel.field-0.0) old (c.in_err-channel.ensures.judged old))
+
+pub returns : goal.returns
+returns g c clock =
+    let old = files c.args.channels.now c.args.buffers.now in
+    follows_with (next c.args.shape.now.name.text) (follows_tested (Ok (c.in_ok-channel.channel, c.in_ok-channel.place)) old (c.in_ok-channel.ensures.judged old)) (c.read_at.ensures clock)
