@@ -32,6 +32,18 @@ pub record Store : Type 0 where
   pub calls : ℕ
   pub faults : ℕ
 
+-- the bytes that are left, how many were taken, and the most that one call gives
+pub record DribbleFeed : Type 0 where
+  pub left : List ℕ
+  pub taken : ℕ
+  pub most : ℕ
+
+-- the bytes that were given, how many calls failed, and the most that one call takes
+pub record DribbleStore : Type 0 where
+  pub given : List ℕ
+  pub faults : ℕ
+  pub most : ℕ
+
 -- each as a source or a sink that can tell its bytes
 abbrev pub plain_feed_state : PlainFeed → SourceState
 plain_feed_state feed = record { left = Some feed.left; taken = feed.taken; faults = 0 }
@@ -44,6 +56,12 @@ plain_store_state store = record { given = Some store.given; faults = store.faul
 
 abbrev pub store_state : Store → SinkState
 store_state store = record { given = Some store.given; faults = store.faults }
+
+abbrev pub dribble_feed_state : DribbleFeed → SourceState
+dribble_feed_state feed = record { left = Some feed.left; taken = feed.taken; faults = 0 }
+
+abbrev pub dribble_store_state : DribbleStore → SinkState
+dribble_store_state store = record { given = Some store.given; faults = store.faults }
 
 -- whether a call is among those that fail
 abbrev pub is_listed : ℕ → List ℕ → Bool

@@ -3,11 +3,13 @@
 //! A source and a sink tell of themselves by their ghost `state`. `Source::take` and `Sink::give`
 //! carry the promise: `IsTaken` and `Accepts` say what each answer changes of it. Ends in memory tell
 //! their bytes; `MemorySource` and `MemorySink` fail where they are told, `PlainSource` never, and
-//! `PlainSink` where it is full. `StdSource` and `StdSink`, over any reader and writer, tell none.
+//! `PlainSink` where it is full. `DribbleSource` and `DribbleSink` are the same, with few bytes a
+//! call. `StdSource` and `StdSink`, over any reader and writer, tell none.
 //! It stands on `basic_values`, for the want of memory.
 #![tactic(auto)]
 
 mod copies;
+mod dribbles;
 mod memory;
 mod pacers;
 mod plain;
@@ -16,6 +18,7 @@ mod source;
 mod streams;
 
 pub use copies::SINK_ROOM;
+pub use dribbles::{DribbleSink, DribbleSource};
 pub use memory::{MemorySink, MemorySource};
 pub use pacers::{IdlePacer, Pacer};
 pub use plain::{PlainSink, PlainSource};

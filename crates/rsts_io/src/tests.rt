@@ -98,6 +98,48 @@ fn a_full_sink_takes_what_fits(rt: HostRuntime) -> Result<(), Fail> {
     Ok(())
 }
 
+/// Ends that move at most so many bytes a call, at least one.
+#[test]
+fn few_bytes_move_a_call(rt: HostRuntime) -> Result<(), Fail> {
+    let rows: [(usize, [Took; 4], [Gave; 4], &[u8]); 3] = [
+        (
+            1,
+            [Took::Bytes(1), Took::Bytes(1), Took::Bytes(1), Took::End],
+            [
+                Gave::Bytes(1),
+                Gave::Bytes(1),
+                Gave::Bytes(1),
+                Gave::Bytes(1),
+            ],
+            b"abcd",
+        ),
+        (
+            2,
+            [Took::Bytes(2), Took::Bytes(1), Took::End, Took::End],
+            [Gave::Bytes(2), Gave::Bytes(2), Gave::Bytes(1), Gave::Failed],
+            b"abcde",
+        ),
+        (
+            7,
+            [Took::Bytes(2), Took::Bytes(1), Took::End, Took::End],
+            [Gave::Bytes(5), Gave::Failed, Gave::Failed, Gave::Failed],
+            b"abcde",
+        ),
+    ];
+    for (most, taken, given, bytes) in rows {
+        let mut source = DribbleSource::new(rt.alloc(), b"abc", most)?;
+        let mut got = [Took::Failed; 4];
+        answers(&mut source, &mut got);
+        assert_eq!(rt; got, taken);
+        let mut sink = DribbleSink::new(rt.alloc(), most)?;
+        let mut put = [Gave::Failed; 4];
+        gifts(&mut sink, b"abcde", &mut put);
+        assert_eq!(rt; put, given);
+        assert_eq!(rt; sink.bytes(), bytes);
+    }
+    Ok(())
+}
+
 /// A reader that gives one byte a call, and fails once, before its second byte.
 #[derive(Drop)]
 struct FailsOnce {
