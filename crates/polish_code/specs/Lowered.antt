@@ -18,6 +18,7 @@ lowered program j = record {
   channels = j.channels;
   recount = j.recount;
   buffers = j.buffers;
+  common = j.common;
   screen = j.screen;
   keys = j.keys;
   trap = record j.trap { place = statement_place program j.trap.place };

@@ -3,6 +3,8 @@
 use basic_tree::{Function, Name, Operator, Relation, Series};
 use basic_values::Text;
 use program_model::{FileAct, Home};
+use record_fields::Side;
+use virtual_arrays::VirtualShape;
 
 /// An item. Values lie on a stack, the last one on top.
 #[derive(Drop)]
@@ -17,6 +19,11 @@ pub enum Item {
     /// An element, by so many subscripts.
     LoadElement {
         name: Name,
+        count: u32,
+    },
+    /// An element of an array in a file.
+    LoadFileElement {
+        array: VirtualShape,
         count: u32,
     },
     /// A function of the language, with so many arguments.
@@ -41,6 +48,10 @@ pub enum Item {
         name: Name,
         count: u32,
     },
+    StoreFileElement {
+        array: VirtualShape,
+        count: u32,
+    },
     Discard,
     /// The result of the running function.
     Answer,
@@ -48,12 +59,26 @@ pub enum Item {
     PrintTab,
     Zone,
     EndLine,
+    /// The channel of PRINT # lies below its items: it is tested here, and each writing goes to it.
+    TestOutput,
+    /// What moves to a column, or to the next zone.
+    TabText,
+    ZoneText,
+    WriteOn,
+    /// PRINT USING writes so many values, by the format below them.
+    WriteUsing {
+        count: u32,
+        ends_line: bool,
+    },
     /// A line of keys, whose items are then on the stack, the first one on top.
     AskItems {
         prompt: Text,
         count: u32,
     },
     AskLine,
+    /// A line of the channel that lies on the stack, and its items, the first one on top.
+    LineOn,
+    Split(u32),
     /// The next item of DATA.
     TakeItem,
     /// An item becomes a value, a text or a number.
@@ -105,6 +130,16 @@ pub enum Item {
     Resume(Option<u32>),
     Stop(Home),
     End,
+    /// LSET or RSET by the last value; and by what another variable holds.
+    Justify {
+        side: Side,
+        name: Name,
+    },
+    JustifyBy {
+        side: Side,
+        name: Name,
+        by: Name,
+    },
     /// What a statement on files does, by the values of its operands, which it takes off the stack.
     Ask(FileAct),
     /// Out of the body of a function.

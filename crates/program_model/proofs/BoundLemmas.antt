@@ -1,20 +1,27 @@
 -- A program means the same for all bounds that the units do not reach.
 use Rattle.std.proofs.Common.{ℕ, zero, suc, ◌<◌, ◌≤◌, List, [], ◌∷◌, Option, Some, None, length, arith}
-use Rattle.std.specs.Prelude.{nat_lt, Bool, true, false}
+use Rattle.std.specs.Prelude.{nat_lt, Bool, true, false, map, ◌++◌, ℤ, is_some}
 use Rattle.basic_values.specs.declared.failures.Halt.TheVariants.{TooDeep}
 use Rattle.basic_tree.specs.declared.names.Name.{Name}
-use Rattle.basic_tree.specs.Trees.{Tree, Literal, Quoted, Variable, Element, FunctionOf, Call, Parenthesized, Negative, Positive, Not, Operation, Comparison, Trees, NoTrees, AndTrees, PrintedTree, Value as ValueOf, Tab, PrintItemTree, ModifierTree, If, Unless, While, Until, ForModifier, StatementTree, IfThen, IfGoto, Modified, For, Def, Let, Result as ResultOf, Print, Input, Read, OnGoto, OnGosub, Sleep, Open, Close, Get, Put, Unlock, Kill, Rename, CloseChannelTree}
+use Rattle.basic_tree.specs.Trees.{Tree, Literal, Quoted, Variable, Element, FunctionOf, Call, Parenthesized, Negative, Positive, Not, Operation, Comparison, Trees, NoTrees, AndTrees, PrintedTree, Value as ValueOf, Tab, PrintItemTree, ModifierTree, If, Unless, While, Until, ForModifier, StatementTree, IfThen, IfGoto, Modified, For, Def, Let, Result as ResultOf, Print, PrintUsing, Input, InputLine, Read, OnGoto, OnGosub, Field, Lset, Rset, UsingItemTree, Sleep, Open, Close, Get, Put, Unlock, Kill, Rename, CloseChannelTree}
 use Rattle.job_model.specs.Act.{Act, Gives, Breaks, Asks, Takes, ◌then◌, Halted}
 use Rattle.program_model.specs.Program.{Program, Position, Way, whole, statement_at, inner_at, line_start, parameters_of, def_of, items_of}
-use Rattle.program_model.specs.Job.{Value, Job, Deed, or_fault}
+use Rattle.record_fields.specs.declared.writing.Side.{Side}
+use Rattle.record_fields.specs.declared.writing.Side.TheVariants.{Left, Right}
+use Rattle.job_model.specs.Texts.{line_end}
+use Rattle.program_model.specs.Job.{Value, number, text, Job, Deed, text_made, or_fault}
+use Rattle.program_model.specs.FileArrays.{file_array}
+use Rattle.program_model.specs.Justified.{justifies, justifies_by}
+use Rattle.program_model.specs.Variables.{stored}
 use Rattle.program_model.specs.Expressions.{Around, value_of, values_of}
 use Rattle.program_model.specs.Targets.{stored_to, stored_to_all, wants_text}
 use Rattle.program_model.specs.Items.{items_in_line, item_value}
 use Rattle.program_model.specs.Control.{Onward, At, Behind, Leave, home_of, runs_at}
 use Rattle.program_model.specs.Loops.{step_of, begins_loop, again, behind}
 use Rattle.program_model.specs.DataItems.{item_taken, read_all}
-use Rattle.program_model.specs.Printing.{print_one, print_items, print_end, separated}
-use Rattle.program_model.specs.Input.{line_asked, prompt_text, enough, items_stored}
+use Rattle.program_model.specs.Printing.{value_bytes, print_one, print_items, print_end, separated}
+use Rattle.program_model.specs.PrintingOnChannels.{writes_on, tab_on, output_tested, print_one_on, separated_on, print_items_on, print_end_on, print_all_on, or_terminal, used_values, writes_used, print_using_on}
+use Rattle.program_model.specs.Input.{line_asked, prompt_text, enough, items_stored, line_on, input_on, input_line_on}
 use Rattle.program_model.specs.Calls.{entered, arguments_stored, leaving, called, most_calls}
 use Rattle.program_model.specs.Traps.{trapped}
 use Rattle.program_model.specs.declared.file_acts.FileAct.{FileAct}
@@ -85,7 +92,13 @@ module _ {R A : Type 0} where
       go false = breaks
 
 -- calls that are alike as far as n units go
-module _ (program : Program) (n : ℕ) (c c' : Around Position) (calls : (k : ℕ) → k ≤ n → (f : Name) (vs : List Value) (j : Job Position) → Alike k (c.calls f vs j) (c'.calls f vs j)) where
+module _ (program : Program) (n : ℕ) (call call' : Name → List Value → Job Position → Deed Position Value) (calls : (k : ℕ) → k ≤ n → (f : Name) (vs : List Value) (j : Job Position) → Alike k (call f vs j) (call' f vs j)) where
+  abbrev c : Around Position
+  c = record { calls = call; array = file_array program }
+
+  abbrev c' : Around Position
+  c' = record { calls = call'; array = file_array program }
+
   mutual
     value_alike : (k : ℕ) → k ≤ n → (e : Tree) (j : Job Position) → Alike k (value_of c e j) (value_of c' e j)
     value_alike k le (Literal v) j = gives
@@ -153,6 +166,35 @@ module _ (program : Program) (n : ℕ) (c c' : Around Position) (calls : (k : �
   file_alike : (k : ℕ) → k ≤ n → (q : Position) (act : FileAct) (es : List Tree) (j : Job Position) → Alike k (file_act c q act es j) (file_act c' q act es j)
   file_alike k le q act es j = and_then k _ _ _ _ (acts_alike k le act es j) (λ l _ j less. gives)
 
+  justifies_alike : (k : ℕ) → k ≤ n → (side : Side) (x : Name) (e : Tree) (j : Job Position) → Alike k (justifies_by c side x e j) (justifies_by c' side x e j)
+  justifies_alike k le side x e j = and_then k _ _ _ _ (value_alike k le e j) (λ l v j less. same l (justifies side x v j))
+
+  -- on a channel
+  printed_on_alike : (k : ℕ) → k ≤ n → (channel : ℤ) (p : PrintedTree) (j : Job Position) → Alike k (print_one_on c channel p j) (print_one_on c' channel p j)
+  printed_on_alike k le channel (ValueOf e) j = and_then k _ _ _ _ (value_alike k le e j) (λ l v j less. same l (writes_on channel (value_bytes v) j))
+  printed_on_alike k le channel (Tab e) j = and_then k _ _ _ _ (value_alike k le e j) (λ l v j less. same l (tab_on channel (number v) j then λ spaces j. writes_on channel spaces j))
+
+  prints_on_alike : (k : ℕ) → k ≤ n → (channel : ℤ) (ones : List PrintItemTree) (j : Job Position) → Alike k (print_items_on c channel ones j) (print_items_on c' channel ones j)
+  prints_on_alike k le channel [] j = gives
+  prints_on_alike k le channel (one ∷ ones) j = and_then k _ _ _ _ (printed_on_alike k le channel one.printed j) (λ l _ j less. and_then l _ _ _ _ (same l (separated_on channel one.separator j)) (λ i _ j less2. prints_on_alike i (omega (arith, le, less, less2)) channel ones j))
+
+  end_on_alike : (k : ℕ) → k ≤ n → (channel : ℤ) (ones : List PrintItemTree) (last : Option PrintedTree) (j : Job Position) → Alike k (print_end_on c channel ones last j) (print_end_on c' channel ones last j)
+  end_on_alike k le channel ones (Some p) j = and_then k _ _ _ _ (printed_on_alike k le channel p j) (λ l _ j less. same l (writes_on channel line_end j))
+  end_on_alike k le channel [] None j = same k (writes_on channel line_end j)
+  end_on_alike k le channel (one ∷ ones) None j = gives
+
+  print_on_alike : (k : ℕ) → k ≤ n → (channel : Tree) (ones : List PrintItemTree) (last : Option PrintedTree) (j : Job Position) → Alike k (print_all_on c channel ones last j) (print_all_on c' channel ones last j)
+  print_on_alike k le channel ones last j = and_then k _ _ _ _ (value_alike k le channel j) (λ l v j less. and_then l _ _ _ _ (same l (output_tested (number v) j)) (λ i _ j less2. and_then i _ _ _ _ (prints_on_alike i (omega (arith, le, less, less2)) (number v) ones j) (λ o _ j less3. end_on_alike o (omega (arith, le, less, less2, less3)) (number v) ones last j)))
+
+  using_alike : (k : ℕ) → k ≤ n → (channel : Option Tree) (format : Tree) (items : List UsingItemTree) (last : Option Tree) (j : Job Position) → Alike k (print_using_on c channel format items last j) (print_using_on c' channel format items last j)
+  using_alike k le channel format items last j = and_then k _ _ _ _ (value_alike k le (or_terminal channel) j) (λ l v j less. and_then l _ _ _ _ (same l (output_tested (number v) j)) (λ i _ j less2. and_then i _ _ _ _ (value_alike i (omega (arith, le, less, less2)) format j) (λ o f j less3. and_then o _ _ _ _ (values_alike o (omega (arith, le, less, less2, less3)) (in_order (used_values items last)) j) (λ u vs j _. same u (writes_used (is_some last) (number v) (text f) vs j)))))
+
+  input_on_alike : (k : ℕ) → k ≤ n → (channel : Tree) (ts : List Tree) (j : Job Position) → Alike k (input_on c channel ts j) (input_on c' channel ts j)
+  input_on_alike k le channel ts j = and_then k _ _ _ _ (value_alike k le channel j) (λ l v j less. and_then l _ _ _ _ (same l (line_on (number v) j)) (λ i line j less2. and_then i _ _ _ _ (same i (enough (length ts) (items_in_line line) j)) (λ o items j less3. items_alike o (omega (arith, le, less, less2, less3)) ts items j)))
+
+  line_on_alike : (k : ℕ) → k ≤ n → (channel : Tree) (x : Name) (j : Job Position) → Alike k (input_line_on c channel x j) (input_line_on c' channel x j)
+  line_on_alike k le channel x j = and_then k _ _ _ _ (value_alike k le channel j) (λ l v j less. same l (line_on (number v) j then λ line j. text_made (line ++ line_end) j then λ v j. stored x v j))
+
   again_alike : (k : ℕ) → k ≤ n → (place : ℕ) (s : StatementTree) (j : Job Position) → Alike k (again c place s j) (again c' place s j)
   again_alike k le place (Modified s (While e)) j = and_then k _ _ _ _ (value_alike k le e j) (λ l v j less. gives)
   again_alike k le place (Modified s (Until e)) j = and_then k _ _ _ _ (value_alike k le e j) (λ l v j less. gives)
@@ -183,6 +225,13 @@ module _ (program : Program) (n : ℕ) (c c' : Around Position) (calls : (k : �
   does_alike k le q (ResultOf f e) j = and_then k _ _ _ _ (value_alike k le e j) (λ l v j less. gives)
   does_alike k le q (Print None items last) j = and_then k _ _ _ _ (and_then k _ _ _ _ (prints_alike k le items j) (λ l _ j less. end_alike l (omega (arith, le, less)) items last j)) (λ l _ j less. gives)
   does_alike k le q (Input None p ts) j = and_then k _ _ _ _ (and_then k _ _ _ _ (same k (line_asked (prompt_text p) j)) (λ l line j less. and_then l _ _ _ _ (same l (enough (length ts) (items_in_line line) j)) (λ i items j less2. items_alike i (omega (arith, le, less, less2)) ts items j))) (λ l _ j less. gives)
+  does_alike k le q (Print (Some channel) items last) j = and_then k _ _ _ _ (print_on_alike k le channel.number items last j) (λ l _ j less. gives)
+  does_alike k le q (PrintUsing channel format items last) j = and_then k _ _ _ _ (using_alike k le channel format items last j) (λ l _ j less. gives)
+  does_alike k le q (Input (Some channel) p ts) j = and_then k _ _ _ _ (input_on_alike k le channel ts j) (λ l _ j less. gives)
+  does_alike k le q (InputLine (Some channel) x) j = and_then k _ _ _ _ (line_on_alike k le channel x j) (λ l _ j less. gives)
+  does_alike k le q (Field channel parts) j = file_alike k le q (file.Field (map (λ part. part.name) parts)) (channel ∷ map (λ part. part.width) parts) j
+  does_alike k le q (Lset x e) j = and_then k _ _ _ _ (justifies_alike k le Left x e j) (λ l _ j less. gives)
+  does_alike k le q (Rset x e) j = and_then k _ _ _ _ (justifies_alike k le Right x e j) (λ l _ j less. gives)
   does_alike k le q (Read ts) j = and_then k _ _ _ _ (read_alike k le (items_of program) ts j) (λ l _ j less. gives)
   does_alike k le q (OnGoto e ns) j = and_then k _ _ _ _ (value_alike k le e j) (λ l v j less. same l _)
   does_alike k le q (OnGosub e ns) j = and_then k _ _ _ _ (value_alike k le e j) (λ l v j less. same l _)
@@ -230,7 +279,7 @@ calls_alike program i i' n h k le f vs j = called_alike k f (parameters_of progr
 -- the value of a function of one line takes no unit, but a handler behind it does
 value_turn : (program : Program) (i i' n m : ℕ) (j : Job Position) → ((l : ℕ) (coming : Coming) (j : Job Position) → l < n → Alike l (runs program i coming j) (runs program i' coming j)) → Alike n (runs program (suc i) (Value_of m) j) (runs program (suc i') (Value_of m) j)
 value_turn program i i' n m j h =
-    and_more n _ _ (out_or_at around program) (out_or_at around' program) (λ coming j. runs program i coming j) (λ coming j. runs program i' coming j) (trapped_alike n Some _ _ (one_line_alike program n around around' calls n (omega arith) m (statement_at program m) j)) behind
+    and_more n _ _ (out_or_at around program) (out_or_at around' program) (λ coming j. runs program i coming j) (λ coming j. runs program i' coming j) (trapped_alike n Some _ _ (one_line_alike program n (around.calls) (around'.calls) calls n (omega arith) m (statement_at program m) j)) behind
   where
     around : Around Position
     around = calls_of program (runs program i)
@@ -243,7 +292,7 @@ value_turn program i i' n m j h =
 
     behind : (k : ℕ) (o : Option ℕ) (j : Job Position) → k ≤ n → Alike k (out_or_at around program o j then λ coming j. runs program i coming j) (out_or_at around' program o j then λ coming j. runs program i' coming j)
     behind k None j le = out_alike program i i' k j
-    behind k (Some line) j le = begun_alike program n around around' calls k le (whole (line_start line program)) (statement_at program (line_start line program)) j _ _ (λ l coming j less. h l coming j (omega (arith, le, less)))
+    behind k (Some line) j le = begun_alike program n (around.calls) (around'.calls) calls k le (whole (line_start line program)) (statement_at program (line_start line program)) j _ _ (λ l coming j less. h l coming j (omega (arith, le, less)))
 
 pub bounds_enough : BoundsAreEnough
 bounds_enough program zero more n coming j lt lt' = absurd (omega (arith, lt))

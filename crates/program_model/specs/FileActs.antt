@@ -1,23 +1,29 @@
 -- What the statements on files do, each with the values of its operands.
-use Rattle.std.specs.Prelude.{ℕ, ◌==◌, Bool, true, false, ◌||◌, if◌then◌else◌, List, [], Option, Some, None, unwrap_or, Result, Ok, Err, ℤ}
+use Rattle.std.specs.Prelude.{ℕ, ◌==◌, nat_le, Bool, true, false, ◌||◌, if◌then◌else◌, List, [], ◌∷◌, length, map, drop, Option, Some, None, unwrap_or, Result, Ok, Err, ℤ}
 use Rattle.basic_values.specs.declared.errors.TheConstants.{ILLEGAL_BYTE_COUNT}
 use Rattle.monitor_calls.specs.declared.files.OpenKind.{OpenKind}
 use Rattle.monitor_calls.specs.declared.calls.Request.{Request}
 use Rattle.monitor_calls.specs.declared.calls.Request.TheVariants as request
-use Rattle.channels.specs.Files.{tested, channel_to_open}
+use Rattle.basic_tree.specs.declared.names.Name.{Name}
+use Rattle.basic_values.specs.declared.failures.Halt.TheVariants.{RoomFull}
+use Rattle.channels.specs.Files.{tested, channel_to_open, channel_opened}
 use Rattle.channels.specs.Openings.{opens_file, closes_file, closes_all}
 use Rattle.channels.specs.Records.{gets_record, puts_record, unlocks}
 use Rattle.file_names.specs.declared.spec.Spec.{Spec}
 use Rattle.file_names.specs.SpecFronts.{spec_said}
-use Rattle.job_memory.specs.Memory.{forget, forget_all}
-use Rattle.job_model.specs.Act.{Gives, ◌then◌, on}
+use Rattle.job_memory.specs.declared.contents.Content.TheVariants.{Fielded}
+use Rattle.job_memory.specs.declared.contents.TheConstants.{MOST_ROOM}
+use Rattle.job_memory.specs.Memory.{Memory, store, room_of, forget, forget_all}
+use Rattle.job_model.specs.Act.{Gives, Breaks, Halted, ◌then◌, on}
 use Rattle.job_model.specs.Replies.{asks_for, done_by, no_part}
 use Rattle.record_fields.specs.declared.sizes.RecordSize.{RecordSize}
 use Rattle.record_fields.specs.declared.sizes.RecordSize.TheVariants as size
-use Rattle.record_fields.specs.Layouts.{natural}
+use Rattle.record_fields.specs.declared.parts.Part.{Part}
+use Rattle.record_fields.specs.Buffers.{buffer_of}
+use Rattle.record_fields.specs.Layouts.{natural, laid_out}
 use Rattle.program_model.specs.declared.file_acts.FileAct.{FileAct}
 use Rattle.program_model.specs.declared.file_acts.FileAct.TheVariants as file
-use Rattle.program_model.specs.Job.{Value}
+use Rattle.program_model.specs.Job.{Value, number}
 use Rattle.program_model.specs.Functions.{number_at, text_at}
 use Rattle.program_model.specs.Storage.{Storage, StorageAct, in_files}
 
@@ -95,6 +101,24 @@ put_act channel block s = on in_files (puts_record channel block) s
 abbrev pub unlock_act : ℤ → StorageAct Unit
 unlock_act channel s = on in_files (unlocks channel) s
 
+-- FIELD: a width that is refused binds nothing; then the variables are bound from left to right, where there is room
+
+abbrev pub bound : Memory → StorageAct Unit
+bound m s = if nat_le (room_of m) MOST_ROOM then Gives tt (record s { memory = m }) else Breaks (Halted RoomFull) s
+
+abbrev pub binds : ℕ → List Name → List Part → StorageAct Unit
+binds c (x ∷ xs) (part ∷ parts) s = bound (store x (Fielded c part) s.memory) s then λ _. binds c xs parts
+binds c [] parts s = Gives tt s
+binds c (x ∷ xs) [] s = Gives tt s
+
+abbrev pub fields_laid : List Name → List ℤ → ℕ → StorageAct Unit
+fields_laid names widths c s =
+    is_tested (laid_out (length (buffer_of c s.files.buffers)) widths) s then λ parts. binds c names parts
+
+abbrev pub field_act : List Name → ℤ → List ℤ → StorageAct Unit
+field_act names channel widths s =
+    is_tested (channel_opened channel s.files.channels) s then λ c. fields_laid names widths c
+
 -- KILL AND NAME: the code that stands with the file to be killed or renamed is not looked at
 
 abbrev pub kill_act : List ℕ → StorageAct Unit
@@ -122,6 +146,7 @@ act_by file.ShutAll vs = shut_act
 act_by file.Get vs = get_act (number_at 0 vs) (number_at 1 vs)
 act_by file.Put vs = put_act (number_at 0 vs) (number_at 1 vs)
 act_by file.Unlock vs = unlock_act (number_at 0 vs)
+act_by (file.Field names) vs = field_act names (number_at 0 vs) (map number (drop 1 vs))
 act_by file.Kill vs = kill_act (text_at 0 vs)
 act_by file.Rename vs = rename_act (text_at 0 vs) (text_at 1 vs)
 act_by file.Sleep vs = sleep_act (number_at 0 vs)

@@ -30,6 +30,8 @@ pub record Job (R : Type 0) : Type 0 where
   pub channels : List ChannelState
   pub recount : ℕ
   pub buffers : List (List ℕ)
+  -- core common
+  pub common : List ℕ
   -- all bytes that were written, and the key lines that are left
   pub screen : List ℕ
   pub keys : List (List ℕ)

@@ -1,10 +1,14 @@
 pub mod Program
 pub mod Job
+pub mod Storage
+pub mod OnChannels
+pub mod SysActs
 pub mod Operators
 pub mod Functions
 pub mod Variables
+pub mod FileArrays
+pub mod Elements
 pub mod Expressions
-pub mod Storage
 pub mod FileActs
 pub mod FileStatements
 pub mod Targets
@@ -12,7 +16,9 @@ pub mod Items
 pub mod Control
 pub mod Loops
 pub mod DataItems
+pub mod Justified
 pub mod Printing
+pub mod PrintingOnChannels
 pub mod Input
 pub mod Calls
 pub mod Traps

@@ -1,7 +1,9 @@
 -- What each statement does at its position, and to what it leads.
-use Rattle.std.specs.Prelude.{ℕ, Bool, true, false, if◌then◌else◌, List, [], ◌∷◌, Option, Some, None}
+use Rattle.std.specs.Prelude.{ℕ, Bool, true, false, if◌then◌else◌, List, [], ◌∷◌, map, Option, Some, None}
 use Rattle.basic_tree.specs.Trees.{Tree, ModifierTree, If, Unless, While, Until, ForModifier, StatementTree, IfThen, IfGoto, Modified, For, Next, FnEnd, Data, Dim, DimFile, Def, Let, Result as ResultOf, Print, PrintUsing, Input, InputLine, Read, Restore, Goto, Gosub, Return, OnGoto, OnGosub, OnErrorGoto, Resume, Stop, End, Chain, Sleep, Open, Close, Get, Put, Unlock, Field, Lset, Rset, Kill, Rename, MatRead, MatPrint, MatLet}
-use Rattle.job_model.specs.Act.{Gives, Breaks, Left, ◌then◌}
+use Rattle.job_model.specs.Act.{Gives, Breaks, ◌then◌}
+use Rattle.job_model.specs.Act as act
+use Rattle.record_fields.specs.declared.writing.Side.TheVariants.{Left, Right}
 use Rattle.program_model.specs.Program.{Program, Position, whole, inside, items_of, behind_body, next_of, for_of, behind_statement, loop_place}
 use Rattle.program_model.specs.Job.{Value, number, Job, Ended, Stopped}
 use Rattle.program_model.specs.Operators.{is_true}
@@ -11,7 +13,9 @@ use Rattle.program_model.specs.Control.{Onward, At, Behind, Leave, Doing, goes_o
 use Rattle.program_model.specs.Loops.{begins_loop, next_turn}
 use Rattle.program_model.specs.DataItems.{read_all}
 use Rattle.program_model.specs.Printing.{print_all}
-use Rattle.program_model.specs.Input.{input, input_line}
+use Rattle.program_model.specs.PrintingOnChannels.{print_all_on, print_using_on}
+use Rattle.program_model.specs.Input.{input, input_line, input_on, input_line_on}
+use Rattle.program_model.specs.Justified.{justifies_by}
 use Rattle.program_model.specs.Calls.{answered}
 use Rattle.program_model.specs.Traps.{sets_handler, resumes}
 use Rattle.program_model.specs.declared.file_acts.FileAct.{FileAct}
@@ -96,13 +100,15 @@ does around program q (OnGosub e lines) j =
     value_of around e j then λ v j. on_chosen (chosen (number v) lines) (λ n j. kept q (goes_to (at_line program n)) j) j
 does around program q (OnErrorGoto n) j = sets_handler n (goes_on q) j
 does around program q (Resume n) j = resumes (λ m. At (whole m)) (at_line program) n j
-does around program q Stop j = Breaks (Left (Stopped q)) j
-does around program q End j = stores_by shut_act j then λ _ j. Breaks (Left Ended) j
-does around program q (Print (Some channel) items last) j = of_later_stage q j
-does around program q (PrintUsing channel format values last) j = of_later_stage q j
-does around program q (Input (Some channel) prompt targets) j = of_later_stage q j
-does around program q (InputLine (Some channel) variable) j = of_later_stage q j
-does around program q (DimFile channel shapes) j = of_later_stage q j
+does around program q Stop j = Breaks (act.Left (Stopped q)) j
+does around program q End j = stores_by shut_act j then λ _ j. Breaks (act.Left Ended) j
+does around program q (Print (Some channel) items last) j =
+    print_all_on around channel.number items last j then λ _ j. goes_on q j
+does around program q (PrintUsing channel format values last) j =
+    print_using_on around channel format values last j then λ _ j. goes_on q j
+does around program q (Input (Some channel) prompt targets) j = input_on around channel targets j then λ _ j. goes_on q j
+does around program q (InputLine (Some channel) variable) j = input_line_on around channel variable j then λ _ j. goes_on q j
+does around program q (DimFile channel arrays) j = goes_on q j
 does around program q (Chain e line) j = of_later_stage q j
 does around program q (Sleep e) j = file_act around q file.Sleep (e ∷ []) j
 does around program q (Open name purpose hash channel size cluster mode) j =
@@ -111,9 +117,10 @@ does around program q (Close channels) j = close_each around channels j then λ 
 does around program q (Get channel block) j = file_act around q file.Get (channel ∷ or_zero block ∷ []) j
 does around program q (Put channel block) j = file_act around q file.Put (channel ∷ or_zero block ∷ []) j
 does around program q (Unlock channel) j = file_act around q file.Unlock (channel ∷ []) j
-does around program q (Field channel parts) j = of_later_stage q j
-does around program q (Lset variable e) j = of_later_stage q j
-does around program q (Rset variable e) j = of_later_stage q j
+does around program q (Field channel parts) j =
+    file_act around q (file.Field (map (λ part. part.name) parts)) (channel ∷ map (λ part. part.width) parts) j
+does around program q (Lset variable e) j = justifies_by around Left variable e j then λ _ j. goes_on q j
+does around program q (Rset variable e) j = justifies_by around Right variable e j then λ _ j. goes_on q j
 does around program q (Kill e) j = file_act around q file.Kill (e ∷ []) j
 does around program q (Rename old new) j = file_act around q file.Rename (old ∷ new ∷ []) j
 does around program q (MatRead matrices) j = of_later_stage q j

@@ -1,4 +1,5 @@
--- What a job keeps of its variables and files, on which the statements on files act.
+-- What a job keeps of its variables and files, and core common, on which the statements on files and SYS act.
+use Rattle.std.specs.Prelude.{ℕ, List}
 use Rattle.monitor_calls.specs.declared.names.Account.{Account}
 use Rattle.channels.specs.Files.{Files}
 use Rattle.job_memory.specs.Memory.{Memory}
@@ -11,14 +12,19 @@ pub record Storage : Type 0 where
   pub memory : Memory
   -- the channels with RECOUNT, and the buffers
   pub files : Files
+  -- core common, which one program leaves to the next
+  pub common : List ℕ
 
 -- it is left in no way of its own
 abbrev pub StorageAct : Type 0 → Type 0
 StorageAct A = Storage → Act ⊥ Storage A
 
--- where the files stand in it, and where it stands in a job
+-- where the files and core common stand in it, and where it stands in a job
 abbrev pub in_files : Place Storage Files
 in_files = record { part = λ s. s.files; with_part = λ s files. record s { files = files } }
+
+abbrev pub in_common : Place Storage (List ℕ)
+in_common = record { part = λ s. s.common; with_part = λ s common. record s { common = common } }
 
 abbrev pub in_storage : {R : Type 0} → Place (Job R) Storage
 in_storage = record {
@@ -26,6 +32,7 @@ in_storage = record {
     account = j.account;
     memory = j.memory;
     files = record { channels = j.channels; recount = j.recount; buffers = j.buffers };
+    common = j.common;
   };
   with_part = λ j s. record j {
     account = s.account;
@@ -33,6 +40,7 @@ in_storage = record {
     channels = s.files.channels;
     recount = s.files.recount;
     buffers = s.files.buffers;
+    common = s.common;
   };
 }
 

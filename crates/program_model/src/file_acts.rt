@@ -1,5 +1,6 @@
 //! What the statements on files do.
 
+use basic_tree::{Name, Series};
 use monitor_calls::OpenKind;
 
 /// What a statement on files does with the values of its operands, which are told here in the order
@@ -16,6 +17,8 @@ pub enum FileAct {
     Get,
     Put,
     Unlock,
+    /// The channel and the width of each of these fields.
+    Field(Series<Name>),
     /// The file.
     Kill,
     /// The file and its new name. The manual's NAME.

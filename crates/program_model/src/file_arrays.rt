@@ -1,0 +1,7 @@
+//! How large the elements of arrays in files are. The manual's DIM #.
+
+/// The bytes of a number.
+pub const NUMBER_BYTES: u16 = 2;
+
+/// The bytes of a text, where DIM # tells none.
+pub const TEXT_BYTES: u16 = 16;
