@@ -54,6 +54,13 @@ place_in (Some (Number n)) = None
 place_in (Some (Own text)) = None
 place_in None = None
 
+-- how long an own text is
+abbrev pub own_length_in : Option Content → Option ℕ
+own_length_in (Some (Own text)) = Some (length text)
+own_length_in (Some (Number n)) = None
+own_length_in (Some (Fielded channel part)) = None
+own_length_in None = None
+
 -- a part that stands for a text lies in the buffer of a channel
 abbrev pub LiesInBuffer : Option Content → Type 0
 LiesInBuffer (Some (Fielded channel part)) = IsChannel channel × LiesIn BUFFER_BYTES part

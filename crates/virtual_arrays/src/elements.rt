@@ -3,11 +3,12 @@
 ghost use Rattle.std.specs.Prelude.{◌≡◌, ◌≤◌, length, take, Some, IfOk};
 ghost use Rattle.job_model.specs.Follow.{Follows, answered_by};
 ghost use Rattle.job_model.specs.Play as play;
-ghost use Rattle.record_fields.specs.Buffers.{IsChannel, buffer_of, with_buffer, fill_part};
+ghost use Rattle.record_fields.specs.Buffers.{IsChannel, buffer_of};
 ghost use Rattle.record_fields.specs.Parts.{part_of};
 ghost use Rattle.channels.specs.Files.{Files, tested};
 ghost use Rattle.channels.specs.Seen.{files, states_of};
-ghost use Rattle.virtual_arrays.specs.Elements.{low_first_number, element_bytes, without_zeros, element_of, located, reads_at, reads_element, writes_at, writes_element};
+ghost use Rattle.virtual_arrays.specs.declared.elements.Element.TheVariants as element;
+ghost use Rattle.virtual_arrays.specs.Elements.{low_first, low_first_number, without_zeros, element_of, located, reads_at, reads_element, writes_at, writes_element};
 
 use crate::places::{Place, VirtualShape, element_place};
 use basic_values::errors::ILLEGAL_BYTE_COUNT;
@@ -79,8 +80,63 @@ pub fn write<P: Port>(
         (writes_element shape.now first second value.now (files channels.old buffers.old))
         (answered_by result (files channels.new buffers.new)) }
 {
+    match value {
+        Element::Number(number) => {
+            write_number(
+                alloc, channels, buffers, port, shape, first, second, *number,
+            )
+        }
+        Element::Text(text) => {
+            write_text(
+                alloc,
+                channels,
+                buffers,
+                port,
+                shape,
+                first,
+                second,
+                text.as_bytes(),
+            )
+        }
+    }
+}
+
+/// Writes a number to an element, as `write`.
+pub fn write_number<P: Port>(
+    alloc: Global,
+    channels: &mut Channels,
+    buffers: &mut Buffers,
+    port: &mut P,
+    shape: &VirtualShape,
+    first: Int,
+    second: Option<Int>,
+    number: Int,
+) -> Result<(), Stop>
+    ensures { (clock : play.Clock) → Follows P.who P.log port.old port.new clock clock
+        (writes_element shape.now first second (element.Number number) (files channels.old buffers.old))
+        (answered_by result (files channels.new buffers.new)) }
+{
+    let bytes = low_first(number);
+    write_text(alloc, channels, buffers, port, shape, first, second, &bytes)
+}
+
+/// Writes the bytes of a text to an element, as `write`.
+pub fn write_text<P: Port>(
+    alloc: Global,
+    channels: &mut Channels,
+    buffers: &mut Buffers,
+    port: &mut P,
+    shape: &VirtualShape,
+    first: Int,
+    second: Option<Int>,
+    bytes: &[u8],
+) -> Result<(), Stop>
+    ensures { (clock : play.Clock) → Follows P.who P.log port.old port.new clock clock
+        (writes_element shape.now first second (element.Text bytes.now) (files channels.old buffers.old))
+        (answered_by result (files channels.new buffers.new)) }
+{
     let (channel, place) = locate(channels, shape, first, second)?;
-    write_at(alloc, channels, buffers, port, channel, place, value)
+    write_at(alloc, channels, buffers, port, channel, place, bytes)
 }
 
 fn write_at<P: Port>(
@@ -90,15 +146,15 @@ fn write_at<P: Port>(
     port: &mut P,
     channel: u8,
     place: Place,
-    value: &Element,
+    bytes: &[u8],
 ) -> Result<(), Stop>
     requires { IsChannel channel }
     ensures { (clock : play.Clock) → Follows P.who P.log port.old port.new clock clock
-        (writes_at channel place value.now (files channels.old buffers.old))
+        (writes_at channel place (element.Text bytes.now) (files channels.old buffers.old))
         (answered_by result (files channels.new buffers.new)) }
 {
     channels.window(alloc, buffers, port, channel, place.block, true)?;
-    put_element(buffers, channel, place, value);
+    buffers.fill_part(channel, place.part, bytes);
     Ok(())
 }
 
@@ -136,18 +192,11 @@ fn located(
     Ok((channel, place))
 }
 
-/// A part of the window takes a value.
-fn put_element(buffers: &mut Buffers, channel: u8, place: Place, value: &Element)
-    ensures { buffers.new ≡ with_buffer channel
-        (fill_part place.part (element_bytes value.now) (buffer_of channel buffers.old))
-        buffers.old }
+/// The two bytes of a number, the low one first.
+fn low_first(number: Int) -> [u8; 2]
+    ensures { result ≡ low_first number }
 {
-    match value {
-        Element::Number(number) => {
-            buffers.fill_part(channel, place.part, &number.value().to_le_bytes());
-        }
-        Element::Text(text) => buffers.fill_part(channel, place.part, text.as_bytes()),
-    }
+    number.value().to_le_bytes()
 }
 
 /// The value of an element's bytes.

@@ -10,5 +10,5 @@ mod elements;
 pub mod laws;
 mod places;
 
-pub use elements::{Element, read, write};
+pub use elements::{Element, read, write, write_number, write_text};
 pub use places::{Place, VirtualShape, element_place};
