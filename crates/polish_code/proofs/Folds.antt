@@ -5,7 +5,7 @@ use Rattle.basic_tree.specs.Trees.{Tree, Literal, Quoted, Variable, Element, Fun
 use Rattle.program_model.specs.Program.{Program, loops_outside}
 use Rattle.polish_code.specs.declared.items.Item.{Item}
 use Rattle.polish_code.specs.declared.items.Item.TheVariants as item
-use Rattle.polish_code.specs.Code.{Piece, Ex, Exs, It, expr_size, trees_size, pieces_size, Places, expr_put, trees_put, pieces_put, simple_pieces, head_pieces, tail_pieces, nowhere, body_size, clause_size, else_size, else_only_size, over_clause, skip_put, body_put, clause_put, else_put}
+use Rattle.polish_code.specs.Code.{Piece, Ex, Exs, It, Into, expr_size, trees_size, pieces_size, Places, expr_put, trees_put, pieces_put, simple_pieces, head_pieces, tail_pieces, nowhere, body_size, clause_size, else_size, else_only_size, over_clause, skip_put, body_put, clause_put, else_put}
 
 abbrev pub folded : {S : Type 0} → (Item → S → S) → List Item → S → S
 folded put [] s = s
@@ -63,6 +63,7 @@ module _ {S : Type 0} (put : Item → S → S) (program : Program) (places : Pla
   pieces_folds (Ex e ∷ ps) = both (expr_put put program places e) (pieces_put put program places ps) (expr_size e) (pieces_size ps) (expr_folds e) (pieces_folds ps)
   pieces_folds (Exs es ∷ ps) = both (trees_put put program places es) (pieces_put put program places ps) (trees_size es) (pieces_size ps) (trees_folds es) (pieces_folds ps)
   pieces_folds (It i ∷ ps) = next i (pieces_put put program places ps) (pieces_size ps) (pieces_folds ps)
+  pieces_folds (Into x count ∷ ps) = next _ (pieces_put put program places ps) (pieces_size ps) (pieces_folds ps)
 
   -- sizes do not depend on places
   simple_size : (m i : ℕ) (s : StatementTree) → pieces_size (simple_pieces program places m i s) ≡ pieces_size (simple_pieces [] nowhere 0 0 s)

@@ -12,7 +12,7 @@ use Rattle.basic_tree.specs.declared.expressions.Function.{Function}
 use Rattle.basic_tree.specs.declared.expressions.Function.TheVariants as function
 use Rattle.error_trap.specs.declared.trap.Trap.{Trap}
 use Rattle.error_trap.specs.Trapping.{raised, led as led_to, way_out}
-use Rattle.job_memory.specs.Memory.{Memory, store, store_at}
+use Rattle.job_memory.specs.Memory.{Memory, variable, store, store_at}
 use Rattle.job_memory.specs.Calls.{enter}
 use Rattle.job_model.specs.Act.{Act, Gives, Breaks, Asks, Takes, ◌then◌, Break, Faulted, Halted, Gone, Left, break_over, over, no_way}
 use Rattle.program_model.specs.declared.homes.Home.{Home}
@@ -20,15 +20,26 @@ use Rattle.program_model.specs.Program.{Program, Position}
 use Rattle.program_model.specs.declared.values.Value.{Value}
 use Rattle.program_model.specs.declared.values.Value.TheVariants.{Number, Text}
 use Rattle.program_model.specs.declared.values.Frame.{Frame}
-use Rattle.program_model.specs.Job.{number, Job, Leaving, Ended, Stopped, StoppedInside, Deed, text_made, or_fault}
+use Rattle.program_model.specs.Job.{number, text, Job, Leaving, Ended, Stopped, StoppedInside, Deed, text_made, or_fault}
+use Rattle.program_model.specs.Expressions.{Around}
+use Rattle.virtual_arrays.specs.declared.places.VirtualShape.{VirtualShape}
 use Rattle.program_model.specs.Operators.{gives_number, sum_of, operated}
-use Rattle.program_model.specs.Functions.{applied, number_at}
+use Rattle.program_model.specs.Functions.{applied, number_at, text_at, text_of_sys}
+use Rattle.program_model.specs.OnChannels.{is_terminal, column_on}
+use Rattle.program_model.specs.SysActs.{sys_act}
+use Rattle.program_model.specs.Elements.{read_act, write_act, element_read, element_stored}
+use Rattle.program_model.specs.Justified.{justified_in, justifies}
+use Rattle.program_model.specs.PrintingOnChannels.{output_tested, tab_on, zone_on, text_act, writes_on, used_bytes, writes_used}
+use Rattle.record_fields.specs.declared.writing.Side.{Side}
+use Rattle.record_fields.specs.Writing.{justified}
+use Rattle.job_memory.specs.declared.contents.Content.{Content}
+use Rattle.job_memory.specs.declared.contents.Content.TheVariants as content
 use Rattle.program_model.specs.Variables.{held, second, element, remembered, content_of, stored, stored_at}
 use Rattle.program_model.specs.Storage.{Storage, StorageAct, in_storage, stores_by}
 use Rattle.program_model.specs.Control.{base_of, home_after, runs_at}
 use Rattle.program_model.specs.Loops.{is_past, opened, turned, next_turn, limit_and_step}
 use Rattle.program_model.specs.DataItems.{item_taken}
-use Rattle.program_model.specs.Input.{line_taken, line_asked, enough}
+use Rattle.program_model.specs.Input.{line_taken, line_asked, enough, line_act, line_on}
 use Rattle.program_model.specs.Calls.{most_calls, blank, entered, arguments_stored, result_of, departed, outside, leaving, called}
 use Rattle.program_model.specs.Traps.{handled, caught, trapped}
 use Rattle.polish_code.specs.Code.{low_home, statement_place}
@@ -40,6 +51,13 @@ then_assoc (Gives a s) f g = refl
 then_assoc (Breaks b s) f g = refl
 then_assoc (Asks r k) f g = ap (Asks r) (λ i x. then_assoc (k x) f g i)
 then_assoc (Takes s m) f g = ap (Takes s) (then_assoc m f g)
+
+-- what calls do, and the names of arrays in files
+abbrev pub Calling : Type 0
+Calling = Name → List Value → Job Position → Deed Position Value
+
+abbrev pub calling : (Name → Option VirtualShape) → Calling → Around Position
+calling arrays call = record { calls = call; array = arrays }
 
 module _ (program : Program) where
   abbrev pub low : Job Position → Job Spot
@@ -83,7 +101,7 @@ module _ (program : Program) where
   fault_same (Ok a) j = refl
   fault_same (Err n) j = refl
 
-  text_same : (bytes : List ℕ) (j : Job Position) → Same (text_made bytes (low j)) (text_made bytes j)
+  pub text_same : (bytes : List ℕ) (j : Job Position) → Same (text_made bytes (low j)) (text_made bytes j)
   text_same bytes j = if_same (nat_le (length bytes) 32767) _ _ _ _ refl refl
 
   number_or_fault : (r : Result ℤ ℕ) (j : Job Position) → Same (or_fault r (low j) then gives_number) (or_fault r j then gives_number)
@@ -101,6 +119,22 @@ module _ (program : Program) where
   operated_same operator.Plus a b j = sum_same a b j
   operated_same _ a b j = refl
 
+  -- what is done to variables and files
+  over_same : {A : Type 0} (j : Job Position) (m : Act ⊥ Storage A) → Same (over no_way (in_storage.with_part (low j)) m) (over no_way (in_storage.with_part j) m)
+  over_same j (Gives a s) = refl
+  over_same j (Breaks (Faulted n) s) = refl
+  over_same j (Breaks (Halted h) s) = refl
+  over_same j (Breaks Gone s) = refl
+  over_same j (Breaks (Left way) s) = absurd way
+  over_same j (Asks r k) = ap (Asks r) (λ i x. over_same j (k x) i)
+  over_same j (Takes s m) = ap (Takes (low (in_storage.with_part j s))) (over_same j m)
+
+  pub storage_same : {A : Type 0} (act : StorageAct A) (j : Job Position) → Same (stores_by act (low j)) (stores_by act j)
+  storage_same act j = over_same j (act (in_storage.part j))
+
+  sys_same : (bytes : List ℕ) (j : Job Position) → Same (text_of_sys bytes (low j)) (text_of_sys bytes j)
+  sys_same bytes j = follow _ (stores_by (sys_act bytes) j) _ _ _ (storage_same (sys_act bytes) j) (λ given j. refl)
+
   pub applied_same : (f : Function) (vs : List Value) (j : Job Position) → Same (applied f vs (low j)) (applied f vs j)
   applied_same function.Left vs j = text_same _ j
   applied_same function.Right vs j = text_same _ j
@@ -113,6 +147,8 @@ module _ (program : Program) where
   applied_same function.CvtToText vs j = text_same (pair_of (number_at 0 vs)) j
   applied_same function.Xlate vs j = text_same _ j
   applied_same function.Val vs j = number_or_fault _ j
+  applied_same function.Pos vs j = number_or_fault (column_on (number_at 0 vs) j) j
+  applied_same function.Sys vs j = sys_same (text_at 0 vs) j
   applied_same _ vs j = refl
 
   pub element_same : (x : Name) (vs : List Value) (j : Job Position) → Same (element x vs (low j)) (element x vs j)
@@ -139,18 +175,52 @@ module _ (program : Program) where
       go (Ok m) = remembered_same m j
       go (Err n) = refl
 
-  -- what is done to variables and files
-  over_same : {A : Type 0} (j : Job Position) (m : Act ⊥ Storage A) → Same (over no_way (in_storage.with_part (low j)) m) (over no_way (in_storage.with_part j) m)
-  over_same j (Gives a s) = refl
-  over_same j (Breaks (Faulted n) s) = refl
-  over_same j (Breaks (Halted h) s) = refl
-  over_same j (Breaks Gone s) = refl
-  over_same j (Breaks (Left way) s) = absurd way
-  over_same j (Asks r k) = ap (Asks r) (λ i x. over_same j (k x) i)
-  over_same j (Takes s m) = ap (Takes (low (in_storage.with_part j s))) (over_same j m)
+  -- ELEMENTS, in memory or in a file
 
-  pub storage_same : {A : Type 0} (act : StorageAct A) (j : Job Position) → Same (stores_by act (low j)) (stores_by act j)
-  storage_same act j = over_same j (act (in_storage.part j))
+  pub read_same : (array : Option VirtualShape) (x : Name) (vs : List Value) (j : Job Position) → Same (element_read array x vs (low j)) (element_read array x vs j)
+  read_same None x vs j = element_same x vs j
+  read_same (Some array) x vs j = storage_same (read_act array vs) j
+
+  pub element_stored_same : (array : Option VirtualShape) (x : Name) (vs : List Value) (v : Value) (j : Job Position) → Same (element_stored array x vs v (low j)) (element_stored array x vs v j)
+  element_stored_same None x vs v j = stored_at_same x vs v j
+  element_stored_same (Some array) x vs v j = storage_same (write_act array vs v) j
+
+  -- LSET AND RSET
+
+  pub justifies_same : (side : Side) (x : Name) (v : Value) (j : Job Position) → Same (justifies side x v (low j)) (justifies side x v j)
+  justifies_same side x v j = go (variable x j.memory)
+    where
+      go : (o : Option Content) → Same (justified_in side x (text v) o (low j)) (justified_in side x (text v) o j)
+      go (Some (content.Fielded c part)) = refl
+      go (Some (content.Own old)) = stored_same x (Text (justified side (length old) (text v))) j
+      go (Some (content.Number n)) = refl
+      go None = refl
+
+  -- CHANNELS
+
+  -- what goes on by a column gives, and asks nothing
+  by_column : {A : Type 0} (r : Result ℤ ℕ) (f : ℤ → A) (j : Job Position) → Same (or_fault r (low j) then λ column j. Gives (f column) j) (or_fault r j then λ column j. Gives (f column) j)
+  by_column (Ok n) f j = refl
+  by_column (Err n) f j = refl
+
+  pub tested_same : (channel : ℤ) (j : Job Position) → Same (output_tested channel (low j)) (output_tested channel j)
+  tested_same channel j = by_column (column_on channel j) (λ _. tt) j
+
+  pub tab_same : (channel wanted : ℤ) (j : Job Position) → Same (tab_on channel wanted (low j)) (tab_on channel wanted j)
+  tab_same channel wanted j = by_column (column_on channel j) _ j
+
+  pub zone_same : (channel : ℤ) (j : Job Position) → Same (zone_on channel (low j)) (zone_on channel j)
+  zone_same channel j = by_column (column_on channel j) _ j
+
+  pub writes_same : (channel : ℤ) (bytes : List ℕ) (j : Job Position) → Same (writes_on channel bytes (low j)) (writes_on channel bytes j)
+  writes_same channel bytes j = if_same (is_terminal channel) _ _ _ _ refl (storage_same (text_act channel bytes) j)
+
+  pub used_same : (ends_line : Bool) (channel : ℤ) (format : List ℕ) (vs : List Value) (j : Job Position) → Same (writes_used ends_line channel format vs (low j)) (writes_used ends_line channel format vs j)
+  used_same ends_line channel format vs j = go (used_bytes ends_line format vs)
+    where
+      go : (r : Result (List ℕ) ℕ) → Same (or_fault r (low j) then λ bytes j. writes_on channel bytes j) (or_fault r j then λ bytes j. writes_on channel bytes j)
+      go (Ok bytes) = writes_same channel bytes j
+      go (Err n) = refl
 
   pub opened_same : (x : Name) (place : ℕ) (start limit step : ℤ) (j : Job Position) → Same (opened x place start limit step (low j)) (opened x place start limit step j)
   opened_same x place start limit step j = follow _ (stored x (Number start) j) _ _ _ (stored_same x (Number start) j) (λ a j. refl)
@@ -171,6 +241,9 @@ module _ (program : Program) where
 
   pub asked_same : (prompt : List ℕ) (j : Job Position) → Same (line_asked prompt (low j)) (line_asked prompt j)
   asked_same prompt j = line_same j.keys _
+
+  pub line_on_same : (channel : ℤ) (j : Job Position) → Same (line_on channel (low j)) (line_on channel j)
+  line_on_same channel j = if_same (is_terminal channel) _ _ _ _ (asked_same [] j) (storage_same (line_act channel) j)
 
   pub enough_same : (n : ℕ) (items : List (List ℕ)) (j : Job Position) → Same (enough n items (low j)) (enough n items j)
   enough_same n items j = if_same (nat_lt (length items) n) _ _ _ _ refl refl
