@@ -1,15 +1,14 @@
--- What is judged part by part is what is said of a statement's statements and of its expressions.
+-- What is judged part by part is what is said of the statements in a statement.
 use Rattle.std.proofs.Common.{◌≡◌, List, [], ◌∷◌, map, refl, sym, ap, ◌∙◌}
 use Rattle.std.specs.Prelude.{Bool, true, false, ◌&&◌}
 use Rattle.std.specs.List.{flat_map, list_all}
 use Rattle.basic_tree.specs.declared.statements.Statement.{Statement}
 use Rattle.basic_tree.specs.StatementViews.{statement_of}
 use Rattle.basic_tree.specs.Trees.{StatementTree}
-use Rattle.statement_walk.specs.Walk.{StatementPart, Simple, Expression, Loop, simple_by, expression_by, parts_in, visited}
-use Rattle.statement_walk.proofs.PartLaws.{simple_parts, expression_parts}
-use Rattle.program_model.specs.Parts.{simple_in}
+use Rattle.statement_walk.specs.Walk.{StatementPart, Simple, Expression, Loop, simple_by, parts_in, visited}
+use Rattle.statement_walk.proofs.PartLaws.{simple_parts}
 use Rattle.stage_forms.specs.declared.stage.Judge.{Judge}
-use Rattle.stage_forms.specs.Stage.{is_tree_in_stage, is_form_in_stage, is_in_stage}
+use Rattle.stage_forms.specs.Stage.{is_form_in_stage, is_in_stage}
 use Rattle.stage_forms.specs.Judging.{is_part_in_stage}
 
 -- BOOLS
@@ -18,33 +17,20 @@ and_assoc : (a b c : Bool) → (a && (b && c)) ≡ ((a && b) && c)
 and_assoc true b c = refl
 and_assoc false b c = refl
 
-and_front : (e a b : Bool) → (e && (a && b)) ≡ (a && (e && b))
-and_front true a b = refl
-and_front false true b = refl
-and_front false false b = refl
-
 and_true : (a : Bool) → (a && true) ≡ a
 and_true true = refl
 and_true false = refl
 
 -- PARTS
 
-parts_judged : (parts : List StatementPart) → list_all is_part_in_stage parts
-    ≡ (list_all is_form_in_stage (flat_map simple_by parts) && list_all is_tree_in_stage (flat_map expression_by parts))
+parts_judged : (parts : List StatementPart) → list_all is_part_in_stage parts ≡ list_all is_form_in_stage (flat_map simple_by parts)
 parts_judged [] = refl
-parts_judged (Simple s ∷ parts) =
-    ap (λ b. is_form_in_stage s && b) (parts_judged parts)
-    ∙ and_assoc (is_form_in_stage s) (list_all is_form_in_stage (flat_map simple_by parts)) (list_all is_tree_in_stage (flat_map expression_by parts))
-parts_judged (Expression e ∷ parts) =
-    ap (λ b. is_tree_in_stage e && b) (parts_judged parts)
-    ∙ and_front (is_tree_in_stage e) (list_all is_form_in_stage (flat_map simple_by parts)) (list_all is_tree_in_stage (flat_map expression_by parts))
+parts_judged (Simple s ∷ parts) = ap (λ b. is_form_in_stage s && b) (parts_judged parts)
+parts_judged (Expression e ∷ parts) = parts_judged parts
 parts_judged (Loop ∷ parts) = parts_judged parts
 
 statement_judged : (s : StatementTree) → list_all is_part_in_stage (parts_in s) ≡ is_in_stage s
-statement_judged s =
-    parts_judged (parts_in s)
-    ∙ ap (λ l. list_all is_form_in_stage l && list_all is_tree_in_stage (flat_map expression_by (parts_in s))) (simple_parts s)
-    ∙ ap (λ l. list_all is_form_in_stage (simple_in s) && list_all is_tree_in_stage l) (expression_parts s)
+statement_judged s = parts_judged (parts_in s) ∙ ap (list_all is_form_in_stage) (simple_parts s)
 
 abbrev judging : Judge → StatementPart → Judge
 judging judge part = record { taken = judge.taken && is_part_in_stage part }

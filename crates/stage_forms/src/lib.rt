@@ -4,7 +4,6 @@
 //! them. `is_in_stage` carries the promise.
 #![tactic(auto)]
 
-mod expressions;
 mod stage;
 
 pub use stage::is_in_stage;

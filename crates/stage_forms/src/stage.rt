@@ -7,9 +7,8 @@ ghost use Rattle.statement_walk.specs.Views.{part_seen};
 ghost use Rattle.stage_forms.specs.Stage.{are_in_stage, is_form_in_stage, is_in_stage};
 ghost use Rattle.stage_forms.specs.Judging.{is_part_in_stage};
 
-use crate::expressions::{is_expr_in_stage, is_target_in_stage};
 use basic_tree::{Line, Statement};
-use statement_walk::{Expression, Part, Simple, Visitor, visit_parts};
+use statement_walk::{Part, Simple, Visitor, visit_parts};
 use std::convert::Infallible;
 
 /// Whether all statements of a line are of this stage.
@@ -58,9 +57,7 @@ fn is_part_in_stage(part: &Part<'_>) -> bool
     match part {
         Part::Simple(Simple::Statement(statement)) => is_form_in_stage(statement),
         Part::Simple(Simple::Line(_)) => true,
-        Part::Expression(Expression::Tree(e)) => is_expr_in_stage(e),
-        Part::Expression(Expression::Target(target)) => is_target_in_stage(target),
-        Part::Loop => true,
+        Part::Expression(_) | Part::Loop => true,
     }
 }
 
@@ -69,17 +66,14 @@ fn is_form_in_stage(statement: &Statement) -> bool
     ensures { result ≡ is_form_in_stage (statement_of statement.now) }
 {
     match statement {
-        Statement::Print { channel, .. } => channel.is_none(),
-        Statement::Input { channel, .. } => channel.is_none(),
-        Statement::InputLine { channel, .. } => channel.is_none(),
-        Statement::DimFile { .. } | Statement::Field { .. } => false,
-        Statement::Lset { .. } | Statement::Rset { .. } => false,
-        Statement::Chain { .. } | Statement::PrintUsing { .. } => false,
+        Statement::Chain { .. } => false,
         Statement::MatRead(_) | Statement::MatPrint { .. } | Statement::MatLet { .. } => false,
         Statement::For { .. } | Statement::Next(_) => true,
         Statement::Def { .. } | Statement::FnEnd | Statement::Result { .. } => true,
         Statement::Data(_) | Statement::Read(_) | Statement::Restore => true,
-        Statement::Dim(_) | Statement::Let { .. } => true,
+        Statement::Dim(_) | Statement::DimFile { .. } | Statement::Let { .. } => true,
+        Statement::Print { .. } | Statement::PrintUsing { .. } => true,
+        Statement::Input { .. } | Statement::InputLine { .. } => true,
         Statement::Goto { .. } | Statement::Gosub { .. } | Statement::Return => true,
         Statement::OnGoto { .. } | Statement::OnGosub { .. } => true,
         Statement::OnErrorGoto(_) | Statement::Resume(_) => true,
@@ -87,6 +81,7 @@ fn is_form_in_stage(statement: &Statement) -> bool
         Statement::Open { .. } | Statement::Close(_) | Statement::Unlock(_) => true,
         Statement::Get { .. } | Statement::Put { .. } | Statement::Sleep(_) => true,
         Statement::Kill(_) | Statement::Rename { .. } => true,
+        Statement::Field { .. } | Statement::Lset { .. } | Statement::Rset { .. } => true,
         Statement::IfThen { .. } | Statement::IfGoto { .. } | Statement::Modified { .. } => true,
     }
 }
