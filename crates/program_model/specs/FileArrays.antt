@@ -2,6 +2,7 @@
 use Rattle.std.specs.Prelude.{ℕ, ◌+◌, ◌-◌, ◌*◌, ◌/◌, min, if◌then◌else◌, List, [], ◌∷◌, find, Option, Some, None, pos}
 use Rattle.std.specs.List.{flat_map}
 use Rattle.std.specs.Option.{unwrap_or}
+use Rattle.basic_values.specs.Numbers.{wrap}
 use Rattle.basic_values.specs.declared.limits.TheConstants.{BLOCK_BYTES, MOST_BLOCKS}
 use Rattle.basic_tree.specs.declared.names.Name.{Name}
 use Rattle.basic_tree.specs.declared.parts.FileShape.{FileShape}
@@ -26,10 +27,11 @@ most_file_bytes = MOST_BLOCKS * BLOCK_BYTES
 abbrev pub begins_at : ℕ → ℕ → ℕ
 begins_at size behind = min most_file_bytes ((behind + (size - 1)) / size * size)
 
+-- the channel is a literal, which counts as one in an expression
 abbrev pub array_from : ℕ → ℕ → FileShape → VirtualShape
 array_from channel behind array = record {
   name = array.shape.name;
-  channel = pos channel;
+  channel = wrap (pos channel);
   first = array.shape.first;
   second = array.shape.second;
   start = begins_at (element_size array) behind;
