@@ -17,7 +17,7 @@ use Rattle.error_trap.specs.declared.trap.Trap.{Trap}
 use Rattle.error_trap.specs.declared.trap.Raised.{Raised}
 use Rattle.error_trap.specs.declared.trap.Raised.TheVariants.{Handle, Report}
 use Rattle.error_trap.specs.Trapping.{raised, resumed, handled_by}
-use Rattle.job_memory.specs.Memory.{Memory, store, store_at, room_of, made}
+use Rattle.job_memory.specs.Memory.{Memory, variable, store, store_at, room_of, made}
 use Rattle.job_memory.specs.Calls.{enter}
 use Rattle.job_model.specs.Act.{Act, Gives, Breaks, Asks, Takes, ◌then◌, Break, Faulted, Halted, Gone, Left, over, no_way}
 use Rattle.program_model.specs.Program.{Program, Position, whole, shapes_in}
@@ -26,7 +26,17 @@ use Rattle.program_model.specs.declared.values.Value.TheVariants.{Number, Text}
 use Rattle.program_model.specs.declared.values.Frame.{Frame}
 use Rattle.program_model.specs.Job.{Job, Leaving, Ended, Stopped, StoppedInside, Deed, text_made, or_fault, number, text}
 use Rattle.program_model.specs.Operators.{gives_number, sum_of, operated}
-use Rattle.program_model.specs.Functions.{applied, number_at}
+use Rattle.program_model.specs.Functions.{applied, number_at, text_at}
+use Rattle.program_model.specs.OnChannels.{is_terminal, column_on}
+use Rattle.program_model.specs.SysActs.{sys_act}
+use Rattle.program_model.specs.Elements.{read_act, write_act}
+use Rattle.program_model.specs.Justified.{justified_in, justifies}
+use Rattle.program_model.specs.Printing.{value_bytes}
+use Rattle.program_model.specs.PrintingOnChannels.{output_tested, tab_on, zone_on, text_act, writes_on, used_bytes, writes_used}
+use Rattle.record_fields.specs.declared.writing.Side.{Side}
+use Rattle.record_fields.specs.Writing.{justified}
+use Rattle.job_memory.specs.declared.contents.Content.{Content}
+use Rattle.job_memory.specs.declared.contents.Content.TheVariants as content
 use Rattle.program_model.specs.Items.{items_in_line, item_value}
 use Rattle.program_model.specs.Variables.{held, element, second, content_of, remembered, stored, stored_at, dimensioned}
 use Rattle.program_model.specs.Storage.{Storage, StorageAct, in_storage, stores_by}
@@ -34,7 +44,7 @@ use Rattle.program_model.specs.FileActs.{act_by, shut_act}
 use Rattle.program_model.specs.Control.{Onward, At, Behind, chosen, on_chosen, kept, returned, base_of, runs_at, home_of}
 use Rattle.program_model.specs.Loops.{is_past, opened, turned, next_turn, limit_and_step}
 use Rattle.program_model.specs.DataItems.{item_taken}
-use Rattle.program_model.specs.Input.{line_taken, line_asked, enough}
+use Rattle.program_model.specs.Input.{line_taken, line_asked, enough, line_act, line_on}
 use Rattle.program_model.specs.Calls.{entered, arguments_stored, leaving, called, most_calls}
 use Rattle.program_model.specs.Traps.{handled, caught, trapped, left_to, leads_back}
 use Rattle.program_model.specs.Running.{runs_from, dimension_all, dimension_in, dimension_program, ends_closed, runs_open, runs_cleared, continues_open, continues, runs_line, line_alone, apart, together}
@@ -82,6 +92,15 @@ module _ {R : Type 0} (n : ℕ) where
   operated_few operator.Plus a b j h = sum_few a b j h
   operated_few _ a b j h = h
 
+  over_few : {A : Type 0} (j : Job R) (m : Act ⊥ Storage A) → Fewer n j → Few (over no_way (in_storage.with_part j) m)
+  over_few j (Gives a s) h = h
+  over_few j (Breaks why s) h = h
+  over_few j (Asks r by) h = λ x. over_few j (by x) h
+  over_few j (Takes s rest) h = (h, over_few j rest h)
+
+  pub storage_few : {A : Type 0} (act : StorageAct A) (j : Job R) → Fewer n j → Few (stores_by act j)
+  storage_few act j h = over_few j (act (in_storage.part j)) h
+
   applied_few : (f : Function) (vs : List Value) (j : Job R) → Fewer n j → Few (applied f vs j)
   applied_few function.Left vs j h = text_few _ j h
   applied_few function.Right vs j h = text_few _ j h
@@ -94,6 +113,8 @@ module _ {R : Type 0} (n : ℕ) where
   applied_few function.CvtToText vs j h = text_few (pair_of (number_at 0 vs)) j h
   applied_few function.Xlate vs j h = text_few _ j h
   applied_few function.Val vs j h = number_few _ j h
+  applied_few function.Pos vs j h = number_few _ j h
+  applied_few function.Sys vs j h = few_then (stores_by (sys_act (text_at 0 vs)) j) _ (storage_few (sys_act (text_at 0 vs)) j h) (λ given k g. g)
   applied_few _ vs j h = h
 
   texts_few : (r : Result (List ℕ) ℕ) (j : Job R) → Fewer n j → Few (or_fault r j then λ t j. Gives (Text t) j)
@@ -106,15 +127,6 @@ module _ {R : Type 0} (n : ℕ) where
 
   element_few : (x : Name) (vs : List Value) (j : Job R) → Fewer n j → Few (element x vs j)
   element_few x vs j h = if_few x.text _ _ (texts_few _ j h) (numbers_few _ j h)
-
-  over_few : {A : Type 0} (j : Job R) (m : Act ⊥ Storage A) → Fewer n j → Few (over no_way (in_storage.with_part j) m)
-  over_few j (Gives a s) h = h
-  over_few j (Breaks why s) h = h
-  over_few j (Asks r by) h = λ x. over_few j (by x) h
-  over_few j (Takes s rest) h = (h, over_few j rest h)
-
-  pub storage_few : {A : Type 0} (act : StorageAct A) (j : Job R) → Fewer n j → Few (stores_by act j)
-  storage_few act j h = over_few j (act (in_storage.part j)) h
 
   pub ends_closed_few : {A : Type 0} (m : Deed R A) → Few m → Few (ends_closed m)
   ends_closed_few (Gives a j) h = h
@@ -140,6 +152,25 @@ module _ {R : Type 0} (n : ℕ) where
       go (Ok m) = remembered_few m j h
       go (Err e) = h
 
+  justifies_few : (side : Side) (x : Name) (v : Value) (j : Job R) → Fewer n j → Few (justifies side x v j)
+  justifies_few side x v j h = go (variable x j.memory)
+    where
+      go : (o : Option Content) → Few (justified_in side x (text v) o j)
+      go (Some (content.Fielded c part)) = h
+      go (Some (content.Own old)) = stored_few x (Text (justified side (length old) (text v))) j h
+      go (Some (content.Number k)) = h
+      go None = h
+
+  by_column : {A : Type 0} (r : Result ℤ ℕ) (f : ℤ → A) (j : Job R) → Fewer n j → Few (or_fault r j then λ column j. Gives (f column) j)
+  by_column (Ok k) f j h = h
+  by_column (Err e) f j h = h
+
+  writes_few : (channel : ℤ) (bytes : List ℕ) (j : Job R) → Fewer n j → Few (writes_on channel bytes j)
+  writes_few channel bytes j h = if_few (is_terminal channel) _ _ h (storage_few (text_act channel bytes) j h)
+
+  used_few : (ends_line : Bool) (channel : ℤ) (format : List ℕ) (vs : List Value) (j : Job R) → Fewer n j → Few (writes_used ends_line channel format vs j)
+  used_few ends_line channel format vs j h = few_then (or_fault (used_bytes ends_line format vs) j) _ (or_fault_few (used_bytes ends_line format vs) j h) (λ bytes k g. writes_few channel bytes k g)
+
   turned_few : (x : Name) (next limit step : ℤ) (j : Job R) → Fewer n j → Few (turned x next limit step j)
   turned_few x next limit step j h = if_few (is_past next limit step) _ _ h (few_then (stored x (Number next) j) _ (stored_few x (Number next) j h) (λ a j h. h))
 
@@ -156,6 +187,9 @@ module _ {R : Type 0} (n : ℕ) where
 
   asked_few : (prompt : List ℕ) (j : Job R) → Fewer n j → Few (line_asked prompt j)
   asked_few prompt j h = line_few j.keys _ h h
+
+  line_on_few : (channel : ℤ) (j : Job R) → Fewer n j → Few (line_on channel j)
+  line_on_few channel j h = if_few (is_terminal channel) _ _ (asked_few [] j h) (storage_few (line_act channel) j h)
 
   enough_few : (count : ℕ) (items : List (List ℕ)) (j : Job R) → Fewer n j → Few (enough count items j)
   enough_few count items j h = if_few (nat_lt (length items) count) _ _ h h
@@ -259,6 +293,19 @@ module _ (n : ℕ) (setting : Setting) (calls : (f : Name) (xs : List Name) (bod
   item_few behind (item.OnGosub home places) stack j h = on_chosen_few n (chosen (number (top stack)) places) (λ to j. kept (record { behind = behind; home = home }) (goes (To to)) j) j h (λ to. kept_few n (record { behind = behind; home = home }) (goes (To to)) j h (λ k g. g))
   item_few behind (item.Ask act) stack j h =
       few_then n (stores_by (act_by act (taken (operand_count act) stack)) j) _ (storage_few n (act_by act (taken (operand_count act) stack)) j h) (λ a k g. g)
+  item_few behind (item.LoadFileElement array count) stack j h = few_then n (stores_by (read_act array (taken count stack)) j) _ (storage_few n (read_act array (taken count stack)) j h) (λ a k g. g)
+  item_few behind (item.StoreFileElement array count) stack j h =
+      let act = write_act array (taken count stack) (top (drop count stack)) in
+      few_then n (stores_by act j) _ (storage_few n act j h) (λ a k g. g)
+  item_few behind item.TestOutput stack j h = few_then n (output_tested (number (top stack)) j) _ (by_column n (column_on (number (top stack)) j) (λ _. tt) j h) (λ a k g. g)
+  item_few behind item.TabText stack j h = few_then n (tab_on (number (top (drop 1 stack))) (number (top stack)) j) _ (by_column n (column_on (number (top (drop 1 stack))) j) _ j h) (λ a k g. g)
+  item_few behind item.ZoneText stack j h = few_then n (zone_on (number (top stack)) j) _ (by_column n (column_on (number (top stack)) j) _ j h) (λ a k g. g)
+  item_few behind item.WriteOn stack j h = few_then n (writes_on (number (top (drop 1 stack))) (value_bytes (top stack)) j) _ (writes_few n (number (top (drop 1 stack))) (value_bytes (top stack)) j h) (λ a k g. g)
+  item_few behind (item.WriteUsing count ends_line) stack j h = few_then n (writes_used ends_line (number (top (drop 1 (drop count stack)))) (text (top (drop count stack))) (taken count stack) j) _ (used_few n ends_line (number (top (drop 1 (drop count stack)))) (text (top (drop count stack))) (taken count stack) j h) (λ a k g. g)
+  item_few behind item.LineOn stack j h = few_then n (line_on (number (top stack)) j) _ (line_on_few n (number (top stack)) j h) (λ a k g. g)
+  item_few behind (item.Split count) stack j h = few_then n (enough count (items_in_line (text (top stack))) j) _ (enough_few n count (items_in_line (text (top stack))) j h) (λ a k g. g)
+  item_few behind (item.Justify side x) stack j h = few_then n (justifies side x (top stack) j) _ (justifies_few n side x (top stack) j h) (λ a k g. g)
+  item_few behind (item.JustifyBy side x y) stack j h = few_then n (justifies side x (held y j) j) _ (justifies_few n side x (held y j) j h) (λ a k g. g)
   item_few behind (item.OnError line) stack j h = left_to_few n (goes (Pass 0 stack)) (handled_by line j.trap) j h (λ k g. g)
   item_few behind (item.Resume to) stack j h = back_few n To To to (resumed j.trap) j h
   item_few behind i stack j h = h

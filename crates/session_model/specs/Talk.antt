@@ -383,6 +383,7 @@ new_job keys = record {
   memory = empty;
   channels = replicate LAST_CHANNEL closed_channel;
   recount = 0;
+  common = [];
   buffers = replicate 12 (replicate 512 0);
   screen = [];
   keys = keys;
