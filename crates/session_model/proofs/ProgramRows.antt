@@ -63,11 +63,11 @@ shown_at Waits = codes "waits"
 shown_at Spent = codes "is spent"
 
 -- what a program shows
-abbrev shows : List (ℕ × List ℕ) → List (List ℕ) → List ℕ
+abbrev pub shows : List (ℕ × List ℕ) → List (List ℕ) → List ℕ
 shows lines keys = shown_at (play (runs_whole (program_read lines) 500 (new_job keys)) at_start 900 []).1
 
 -- what an immediate line shows
-abbrev shows_now : List ℕ → List ℕ
+abbrev pub shows_now : List ℕ → List ℕ
 shows_now line = shown_at (play (runs_line (statements_read line) 500 (new_job [])) at_start 900 []).1
 
 -- where it ended, or the job as it was

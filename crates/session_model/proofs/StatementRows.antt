@@ -27,7 +27,7 @@ use Rattle.program_model.specs.Reports.{ended_screen}
 use Rattle.session_model.proofs.ProgramRows.{program_read, new_job}
 
 -- what a program asks with these replies
-abbrev asked : List (ℕ × List ℕ) → List Reply → List Request
+abbrev pub asked : List (ℕ × List ℕ) → List Reply → List Request
 asked lines replies = (play (runs_whole (program_read lines) 500 (new_job [])) at_start 900 replies).0
 
 -- how many channels it leaves open, and what it shows
@@ -41,16 +41,16 @@ open_at (Finished (Gave coming j)) = (100, [])
 open_at Waits = (101, [])
 open_at Spent = (102, [])
 
-abbrev left_open : List (ℕ × List ℕ) → List Reply → ℕ × List ℕ
+abbrev pub left_open : List (ℕ × List ℕ) → List Reply → ℕ × List ℕ
 left_open lines replies = open_at (play (runs_whole (program_read lines) 500 (new_job [])) at_start 900 replies).1
 
-abbrev zeros : List ℕ
+abbrev pub zeros : List ℕ
 zeros = replicate 512 0
 
 abbrev account : ℕ → ℕ → Account
 account project programmer = record { project = project; programmer = programmer }
 
-abbrev own : List ℕ → FileName
+abbrev pub own : List ℕ → FileName
 own stem = record { owner = account 100 5; stem = stem; extension = [] }
 
 -- OPEN makes the file or takes the one that is there; GET without a block takes the next one, and the end of the text closes
