@@ -46,12 +46,6 @@ use Rattle.polish_code.specs.Code.{low_home, statement_place}
 use Rattle.polish_code.specs.Walk.{Spot, Walked}
 use Rattle.polish_code.specs.Lowered.{spot_of, lowered, low_leaving, lowers}
 
-pub then_assoc : {L S A B C : Type 0} (m : Act L S A) (f : A → S → Act L S B) (g : B → S → Act L S C) → (m then f) then g ≡ m then λ a s. f a s then g
-then_assoc (Gives a s) f g = refl
-then_assoc (Breaks b s) f g = refl
-then_assoc (Asks r k) f g = ap (Asks r) (λ i x. then_assoc (k x) f g i)
-then_assoc (Takes s m) f g = ap (Takes s) (then_assoc m f g)
-
 -- what calls do, and the names of arrays in files
 abbrev pub Calling : Type 0
 Calling = Name → List Value → Job Position → Deed Position Value
