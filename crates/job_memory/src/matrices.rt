@@ -1,0 +1,109 @@
+//! Arrays as matrices: their bounds, where their rows and columns stand, their numbers in order, and
+//! numbers that are stored to all elements without a subscript 0.
+
+ghost use Rattle.std.specs.Prelude.{◌≡◌, ◌+◌, ◌≤◌, take, drop, vec_len, IfOk};
+ghost use Rattle.std.specs.BTreeMap.{IsOrdered};
+ghost use Rattle.job_memory.specs.Matrices.{bounds, count_in, subscripts_at, is_inner, numbers, number_in_list, renumbered, renumbered_in};
+ghost use Rattle.job_memory.specs.Memory.{array, arrays_size};
+ghost use Rattle.job_memory.specs.Names.{name_cmp};
+
+use crate::contents::MOST_ROOM;
+use crate::memory::Memory;
+use crate::tables::Table;
+use basic_tree::Name;
+use basic_values::{Int, NoMemory};
+use std::collections::BTreeMap;
+
+/// The row and the column of the element at a place, where this is the greatest second subscript. An
+/// array of one subscript has one column, number 1.
+pub fn subscripts_at(second: Option<u16>, place: usize) -> (usize, usize)
+    ensures { result ≡ subscripts_at second place }
+{
+    match second {
+        Some(second) => {
+            let width = usize::from(second) + 1;
+            (place / width, place % width)
+        }
+        None => (place, 1),
+    }
+}
+
+/// Whether neither subscript is 0.
+pub fn is_inner(subscripts: (usize, usize)) -> bool
+    ensures { result ≡ is_inner subscripts }
+{
+    subscripts.0 >= 1 && subscripts.1 >= 1
+}
+
+impl Memory {
+    /// The greatest subscripts of an array; none where no array of that name was made.
+    pub fn bounds(&self, name: Name) -> Option<(u16, Option<u16>)>
+        ensures { result ≡ bounds name self.now }
+    {
+        match self.arrays.get(&name) {
+            Some(table) => Some(table.bounds()),
+            None => None,
+        }
+    }
+
+    /// The numbers of an array, in the order in which its elements stand: the last subscript runs
+    /// fastest. There are none where it was not made.
+    pub fn numbers(&self, name: Name) -> Result<Vec<Int>, NoMemory>
+        ensures numbers { IfOk result (λ list. list.items ≡ numbers name self.now) }
+        ensures count { IfOk result (λ list. vec_len list ≡ count_in (bounds name self.now)) }
+    {
+        match self.arrays.get(&name) {
+            Some(table) => table.numbers(self.alloc),
+            None => Ok(Vec::new(self.alloc)),
+        }
+    }
+
+    /// So many of them, from a place on.
+    pub fn numbers_from(
+        &self,
+        name: Name,
+        place: usize,
+        length: usize,
+    ) -> Result<Vec<Int>, NoMemory>
+        requires { place + length ≤ count_in (bounds name self.now) }
+        ensures { IfOk result
+            (λ list. list.items ≡ take length (drop place (numbers name self.now))) }
+    {
+        match self.arrays.get(&name) {
+            Some(table) => table.numbers_from(self.alloc, place, length),
+            None => Ok(Vec::new(self.alloc)),
+        }
+    }
+
+    /// Stores to each element of an array that has no subscript 0 the number at its place, in the
+    /// order of `numbers`; a place past the end of the list has 0. Elements with a subscript 0
+    /// stay. It takes no memory, and does nothing where the array was not made.
+    pub fn set_numbers(&mut self, name: Name, numbers: &[Int])
+        ensures { self.new ≡ renumbered name (number_in_list numbers.now) self.old }
+    {
+        self.room = renumber_in(&mut self.arrays, name, numbers, self.room);
+    }
+}
+
+/// Renumbers one of the arrays, and gives the room of all that there is then.
+fn renumber_in(
+    arrays: &mut BTreeMap<Name, Table>,
+    name: Name,
+    numbers: &[Int],
+    room: usize,
+) -> usize
+    requires ordered { IsOrdered name_cmp arrays.old }
+    requires counted { arrays_size arrays.old.entries ≤ room }
+    requires few { room ≤ MOST_ROOM }
+    ensures entries { arrays.new.entries
+        ≡ renumbered_in name (number_in_list numbers.now) arrays.old.entries
+        (array name arrays.old.entries) }
+    ensures room { result + arrays_size arrays.old.entries ≡ room + arrays_size arrays.new.entries }
+    ensures no_more { result ≤ room }
+    ensures still_ordered { IsOrdered name_cmp arrays.new }
+{
+    match arrays.get_mut(&name) {
+        Some(table) => table.renumber(numbers, room),
+        None => room,
+    }
+}

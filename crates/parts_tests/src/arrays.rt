@@ -1,0 +1,94 @@
+//! Arrays of numbers, read and stored whole.
+
+use crate::memory::number_name;
+use basic_tree::{Name, Shape};
+use basic_values::{Int, NoMemory};
+use job_memory::Memory;
+use std::alloc::Global;
+use std::test::Fail;
+
+/// These numbers.
+pub(crate) fn numbers_of(alloc: Global, values: &[i16]) -> Result<Vec<Int>, NoMemory> {
+    let mut numbers = Vec::new(alloc);
+    for value in values {
+        numbers.push(Int::new(*value))?;
+    }
+    Ok(numbers)
+}
+
+/// Whether the numbers are these.
+pub(crate) fn are(numbers: &[Int], values: &[i16]) -> bool {
+    numbers.len() == values.len() && numbers.iter().zip(values).all(|(n, v)| n.value() == *v)
+}
+
+/// A memory with an array of numbers.
+fn memory_with(alloc: Global, name: Name, first: u16, second: Option<u16>) -> Result<Memory, Fail> {
+    let mut memory = Memory::new(alloc);
+    let shape = Shape {
+        name,
+        first,
+        second,
+    };
+    memory.dim(shape).ok().ok_or("no array")?;
+    Ok(memory)
+}
+
+/// The bounds of an array, the numbers that are stored, and those that are there then.
+static STORED: [(u16, Option<u16>, &[i16], &[i16]); 3] = [
+    (2, Some(1), &[1, 2, 3, 4, 5, 6], &[0, 0, 0, 4, 0, 6]),
+    (3, None, &[1, 2, 3, 4], &[0, 2, 3, 4]),
+    (1, Some(2), &[1, 2, 3, 4], &[0, 0, 0, 0, 0, 0]),
+];
+
+/// Whether the array has its bounds, and the numbers are stored to the elements without a subscript 0
+/// alone.
+fn stores_whole(
+    alloc: Global,
+    first: u16,
+    second: Option<u16>,
+    values: &[i16],
+    wanted: &[i16],
+) -> Result<bool, Fail> {
+    let name = number_name(b'A');
+    let mut memory = memory_with(alloc, name, first, second)?;
+    let numbers = numbers_of(alloc, values)?;
+    memory.set_numbers(name, &numbers);
+    let is_whole = are(&memory.numbers(name)?, wanted);
+    Ok(is_whole && memory.bounds(name) == Some((first, second)))
+}
+
+#[test]
+fn elements_without_a_subscript_0_are_stored(rt: HostRuntime) -> Result<(), Fail> {
+    for (first, second, values, wanted) in &STORED {
+        let is_right = stores_whole(rt.alloc(), *first, *second, values, wanted)?;
+        assert!(rt; is_right);
+    }
+    Ok(())
+}
+
+/// The last two numbers of an array of two rows and three columns.
+fn last_two(memory: &Memory, name: Name) -> Result<Vec<Int>, Fail> {
+    match memory.bounds(name) {
+        Some((1, Some(2))) => Ok(memory.numbers_from(name, 4, 2)?),
+        _ => Err("other bounds".into()),
+    }
+}
+
+#[test]
+fn a_part_of_an_array_is_read(rt: HostRuntime) -> Result<(), Fail> {
+    let name = number_name(b'A');
+    let mut memory = memory_with(rt.alloc(), name, 1, Some(2))?;
+    let numbers = numbers_of(rt.alloc(), &[1, 2, 3, 4, 5, 6])?;
+    memory.set_numbers(name, &numbers);
+    let is_right = are(&last_two(&memory, name)?, &[5, 6]);
+    assert!(rt; is_right);
+    Ok(())
+}
+
+#[test]
+fn an_array_that_was_not_made_has_no_bounds(rt: HostRuntime) -> Result<(), Fail> {
+    let memory = Memory::new(rt.alloc());
+    let bounds = memory.bounds(number_name(b'A'));
+    assert_eq!(rt; bounds, None);
+    Ok(())
+}
