@@ -20,7 +20,7 @@ use Rattle.program_model.specs.Program.{Program, Position}
 use Rattle.program_model.specs.declared.values.Value.{Value}
 use Rattle.program_model.specs.declared.values.Value.TheVariants.{Number, Text}
 use Rattle.program_model.specs.declared.values.Frame.{Frame}
-use Rattle.program_model.specs.Job.{number, text, Job, Leaving, Ended, Stopped, StoppedInside, Deed, text_made, or_fault}
+use Rattle.program_model.specs.Job.{number, text, Job, Leaving, Ended, Stopped, StoppedInside, Chained, Deed, text_made, or_fault}
 use Rattle.program_model.specs.Expressions.{Around}
 use Rattle.virtual_arrays.specs.declared.places.VirtualShape.{VirtualShape}
 use Rattle.program_model.specs.Operators.{gives_number, sum_of, operated}
@@ -276,6 +276,7 @@ module _ (program : Program) where
   outside_same home (Left Ended) = refl
   outside_same home (Left (Stopped q)) = refl
   outside_same home (Left (StoppedInside h)) = refl
+  outside_same home (Left Chained) = refl
 
   leaving_same : {A B : Type 0} (line : ℕ) (f : A → B) (m : Deed Position A) → leaving line (lowers program m (λ a j. Gives (f a) (low j))) ≡ lowers program (leaving line m) keeps
   leaving_same line f (Gives a j) = ap (λ (k : Job Spot). Gives (result_of j.frames) (record k { line = line })) (departed_same j)

@@ -2,7 +2,7 @@
 use Rattle.std.specs.Prelude.{◌≡◌, ℕ, map, Option, Some, None}
 use Rattle.job_model.specs.Act.{Gives, Breaks, Asks, Takes, break_over}
 use Rattle.program_model.specs.Program.{Program, Position, items_of, line_start}
-use Rattle.program_model.specs.Job.{Job, Leaving, Ended, Stopped, StoppedInside, Deed}
+use Rattle.program_model.specs.Job.{Job, Leaving, Ended, Stopped, StoppedInside, Chained, Deed}
 use Rattle.program_model.specs.Control.{Onward, At, Behind, Leave, home_of}
 use Rattle.program_model.specs.Running.{Coming, runs, runs_from}
 use Rattle.polish_code.specs.Code.{code_of, place_of, statement_place, place_behind, place_for, low_home}
@@ -28,12 +28,14 @@ lowered program j = record {
   line = j.line;
   home = low_home program j.home;
   frames = j.frames;
+  destination = j.destination;
 }
 
 abbrev pub low_leaving : Program → Leaving Position → Leaving Spot
 low_leaving program Ended = Ended
 low_leaving program (Stopped q) = Stopped (spot_of program q)
 low_leaving program (StoppedInside home) = StoppedInside (low_home program home)
+low_leaving program Chained = Chained
 
 -- a tree of the meaning as one of the code, which goes on in another way where it gives
 abbrev pub lowers : {A B : Type 0} → Program → Deed Position A → (A → Job Position → Walked B) → Walked B

@@ -130,6 +130,8 @@ pub enum Item {
     Resume(Option<u32>),
     Stop(Home),
     End,
+    /// To another program: its name lies below the number of a line, which is 0 for none.
+    Chain,
     /// LSET or RSET by the last value; and by what another variable holds.
     Justify {
         side: Side,

@@ -3,8 +3,8 @@ use Rattle.std.proofs.Common.{ℕ, zero, suc, ◌<◌, ◌≤◌, List, [], ◌�
 use Rattle.std.specs.Prelude.{nat_lt, Bool, true, false, map, ◌++◌, ℤ, is_some}
 use Rattle.basic_values.specs.declared.failures.Halt.TheVariants.{TooDeep}
 use Rattle.basic_tree.specs.declared.names.Name.{Name}
-use Rattle.basic_tree.specs.Trees.{Tree, Literal, Quoted, Variable, Element, FunctionOf, Call, Parenthesized, Negative, Positive, Not, Operation, Comparison, Trees, NoTrees, AndTrees, PrintedTree, Value as ValueOf, Tab, PrintItemTree, ModifierTree, If, Unless, While, Until, ForModifier, StatementTree, IfThen, IfGoto, Modified, For, Def, Let, Result as ResultOf, Print, PrintUsing, Input, InputLine, Read, OnGoto, OnGosub, Field, Lset, Rset, UsingItemTree, Sleep, Open, Close, Get, Put, Unlock, Kill, Rename, CloseChannelTree}
-use Rattle.job_model.specs.Act.{Act, Gives, Breaks, Asks, Takes, ◌then◌, Halted}
+use Rattle.basic_tree.specs.Trees.{Tree, Literal, Quoted, Variable, Element, FunctionOf, Call, Parenthesized, Negative, Positive, Not, Operation, Comparison, Trees, NoTrees, AndTrees, PrintedTree, Value as ValueOf, Tab, PrintItemTree, ModifierTree, If, Unless, While, Until, ForModifier, StatementTree, IfThen, IfGoto, Modified, For, Def, Let, Result as ResultOf, Print, PrintUsing, Input, InputLine, Read, OnGoto, OnGosub, Chain, Field, Lset, Rset, UsingItemTree, Sleep, Open, Close, Get, Put, Unlock, Kill, Rename, CloseChannelTree}
+use Rattle.job_model.specs.Act.{Act, Gives, Breaks, Asks, Takes, ◌then◌, Faulted, Halted}
 use Rattle.program_model.specs.Program.{Program, Position, Way, whole, statement_at, inner_at, line_start, parameters_of, def_of, items_of}
 use Rattle.record_fields.specs.declared.writing.Side.{Side}
 use Rattle.record_fields.specs.declared.writing.Side.TheVariants.{Left, Right}
@@ -16,7 +16,7 @@ use Rattle.program_model.specs.Variables.{stored}
 use Rattle.program_model.specs.Expressions.{Around, value_of, values_of}
 use Rattle.program_model.specs.Targets.{stored_to, stored_to_all, wants_text}
 use Rattle.program_model.specs.Items.{items_in_line, item_value}
-use Rattle.program_model.specs.Control.{Onward, At, Behind, Leave, home_of, runs_at}
+use Rattle.program_model.specs.Control.{Onward, At, Behind, Leave, at_line, home_of, runs_at}
 use Rattle.program_model.specs.Loops.{step_of, begins_loop, again, behind}
 use Rattle.program_model.specs.DataItems.{item_taken, read_all}
 use Rattle.program_model.specs.Printing.{value_bytes, print_one, print_items, print_end, separated}
@@ -29,8 +29,9 @@ use Rattle.program_model.specs.declared.file_acts.FileAct.TheVariants as file
 use Rattle.program_model.specs.Storage.{stores_by}
 use Rattle.program_model.specs.FileActs.{act_by}
 use Rattle.program_model.specs.FileStatements.{or_zero, in_order, acts_by, kind_for, close_each}
+use Rattle.program_model.specs.Chaining.{line_operand}
 use Rattle.program_model.specs.Statements.{modified, file_act, does}
-use Rattle.program_model.specs.Running.{Coming, Begin, Value_of, Out, reached_behind, reached, begun, one_line, out_or_at, body_at_def, calls_of, handler, ends_closed, runs}
+use Rattle.program_model.specs.Running.{Coming, Begin, Value_of, Out, reached_behind, reached, begun, one_line, out_or_at, body_at_def, calls_of, handler, ends_closed, runs, dimension_program, begins_at, runs_open, runs_cleared, raises}
 use Rattle.program_model.specs.Bounds.{Alike, gives, breaks, asks, spent, takes, BoundsAreEnough, BoundsAreEnoughFrom}
 
 module _ {L S A : Type 0} where
@@ -235,6 +236,7 @@ module _ (program : Program) (n : ℕ) (call call' : Name → List Value → Job
   does_alike k le q (Read ts) j = and_then k _ _ _ _ (read_alike k le (items_of program) ts j) (λ l _ j less. gives)
   does_alike k le q (OnGoto e ns) j = and_then k _ _ _ _ (value_alike k le e j) (λ l v j less. same l _)
   does_alike k le q (OnGosub e ns) j = and_then k _ _ _ _ (value_alike k le e j) (λ l v j less. same l _)
+  does_alike k le q (Chain e line) j = and_then k _ _ _ _ (value_alike k le e j) (λ l name j less. and_then l _ _ _ _ (value_alike l (omega (arith, le, less)) (line_operand line) j) (λ i n j _. breaks))
   does_alike k le q (Close cs) j = and_then k _ _ _ _ (closes_alike k le cs j) (λ l _ j less. gives)
   does_alike k le q (Sleep e) j = file_alike k le q file.Sleep (e ∷ []) j
   does_alike k le q (Open e purpose hash channel size cluster mode) j = file_alike k le q (file.Open (kind_for purpose)) (e ∷ channel ∷ or_zero size ∷ or_zero cluster ∷ or_zero mode ∷ []) j
@@ -305,3 +307,14 @@ bounds_enough program (suc i) (suc i') n (Value_of m) j lt lt' = value_turn prog
 pub bounds_enough_from : BoundsAreEnoughFrom
 bounds_enough_from program i i' n o j lt lt' =
     and_then n _ _ _ _ (trapped_alike n (handler program) _ _ (reached_alike program n _ _ (calls_alike program i i' n (λ l coming j less. bounds_enough program i i' l coming j (omega (arith, lt, less)) (omega (arith, lt', less)))) n (omega arith) o j)) (λ k coming j le. bounds_enough program i i' k coming j (omega (arith, lt, le)) (omega (arith, lt', le)))
+
+-- a program that begins, and one that goes on with an error
+pub cleared_enough : (program : Program) (i i' n : ℕ) (line : Option ℕ) (j : Job Position) → n < i → n < i' → Alike n (runs_cleared program i line j) (runs_cleared program i' line j)
+cleared_enough program i i' n line j lt lt' =
+    ends_closed_alike n (runs_open program i line j) (runs_open program i' line j)
+    (and_then n (dimension_program program j) (dimension_program program j) _ _ (same n _) (λ k a j le. bounds_enough_from program i i' k (begins_at program line) j (omega (arith, le, lt)) (omega (arith, le, lt'))))
+
+pub raises_enough : (program : Program) (i i' n fault : ℕ) (j : Job Position) → n < i → n < i' → Alike n (raises program i fault j) (raises program i' fault j)
+raises_enough program i i' n fault j lt lt' =
+    ends_closed_alike n _ _
+    (and_then n _ _ _ _ (same n (trapped (at_line program) (Breaks (Faulted fault) j))) (λ k o j le. bounds_enough_from program i i' k o j (omega (arith, le, lt)) (omega (arith, le, lt'))))

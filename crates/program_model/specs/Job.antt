@@ -1,9 +1,10 @@
 -- What a job keeps while its program runs, and what a statement leads to.
-use Rattle.std.specs.Prelude.{ℕ, List, [], ℤ, pos, if◌then◌else◌, nat_le, Result, Ok, Err, length}
+use Rattle.std.specs.Prelude.{ℕ, List, [], ℤ, pos, if◌then◌else◌, nat_le, None, Result, Ok, Err, length}
 use Rattle.basic_values.specs.declared.texts.TheConstants.{MOST_BYTES}
 use Rattle.basic_values.specs.declared.failures.Halt.TheVariants.{TooLong}
 use Rattle.monitor_calls.specs.declared.names.Account.{Account}
 use Rattle.channels.specs.declared.states.ChannelState.{ChannelState}
+use Rattle.program_model.specs.declared.destinations.Destination.{Destination}
 use Rattle.program_model.specs.declared.homes.Home.{Home}
 pub use Rattle.program_model.specs.declared.values.Value.{Value}
 pub use Rattle.program_model.specs.declared.values.Value.TheVariants.{Number, Text}
@@ -20,6 +21,10 @@ number (Text t) = pos 0
 abbrev pub text : Value → List ℕ
 text (Number n) = []
 text (Text t) = t
+
+-- before any CHAIN
+abbrev pub no_destination : Destination
+no_destination = record { name = []; line = None }
 
 -- R is how the place of a statement is kept.
 pub record Job (R : Type 0) : Type 0 where
@@ -49,12 +54,15 @@ pub record Job (R : Type 0) : Type 0 where
   pub home : Home
   -- the running calls, the innermost first
   pub frames : List Frame
+  -- where the last CHAIN leads
+  pub destination : Destination
 
--- The ways to leave a program that are no error: its end, and a STOP. CONT goes on behind the STOP, or where that stands in a body behind the statement that runs at main level.
+-- The ways to leave a program that are no error: its end, a STOP, and a CHAIN, which leads where the job's destination tells. CONT goes on behind the STOP, or where that stands in a body behind the statement that runs at main level.
 pub data Leaving (R : Type 0) : Type 0 where
   Ended : Leaving R
   Stopped : R → Leaving R
   StoppedInside : Home → Leaving R
+  Chained : Leaving R
 
 -- what a part of a program does
 abbrev pub Deed : Type 0 → Type 0 → Type 0

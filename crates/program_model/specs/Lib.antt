@@ -11,6 +11,7 @@ pub mod Elements
 pub mod Expressions
 pub mod FileActs
 pub mod FileStatements
+pub mod Chaining
 pub mod Targets
 pub mod Items
 pub mod Control

@@ -23,6 +23,7 @@ use Rattle.program_model.specs.declared.file_acts.FileAct.TheVariants as file
 use Rattle.program_model.specs.Storage.{stores_by}
 use Rattle.program_model.specs.FileActs.{shut_act}
 use Rattle.program_model.specs.FileStatements.{or_zero, acts_by, kind_for, close_each}
+use Rattle.program_model.specs.Chaining.{line_operand, chained}
 
 abbrev pub goes_to : Onward → Job Position → Doing Onward
 goes_to o j = Gives o j
@@ -109,7 +110,8 @@ does around program q (PrintUsing channel format values last) j =
 does around program q (Input (Some channel) prompt targets) j = input_on around channel targets j then λ _ j. goes_on q j
 does around program q (InputLine (Some channel) variable) j = input_line_on around channel variable j then λ _ j. goes_on q j
 does around program q (DimFile channel arrays) j = goes_on q j
-does around program q (Chain e line) j = of_later_stage q j
+does around program q (Chain e line) j =
+    value_of around e j then λ name j. value_of around (line_operand line) j then λ n. chained name n
 does around program q (Sleep e) j = file_act around q file.Sleep (e ∷ []) j
 does around program q (Open name purpose hash channel size cluster mode) j =
     file_act around q (file.Open (kind_for purpose)) (name ∷ channel ∷ or_zero size ∷ or_zero cluster ∷ or_zero mode ∷ []) j
