@@ -10,6 +10,7 @@
 
 mod asking;
 mod calls;
+mod chains;
 pub mod exits;
 mod functions;
 mod gosub;

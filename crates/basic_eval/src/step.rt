@@ -131,6 +131,7 @@ impl Running {
                 self.go_out(Trouble::Refused(Exit::Stopped(Spot::new(behind, *home))))
             }
             Item::End => self.go_out(Trouble::Refused(Exit::Ended)),
+            Item::Chain => self.chain(stack),
             Item::Leave => Move::Away,
         }
     }

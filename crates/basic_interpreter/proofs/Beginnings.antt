@@ -18,7 +18,7 @@ start_first : (ss : List StatementTree) → start_of ss 0 ≡ 0
 start_first [] = refl
 start_first (s ∷ ss) = refl
 
-first_place : (program : Program) → statement_place program 0 ≡ 0
+pub first_place : (program : Program) → statement_place program 0 ≡ 0
 first_place program = start_first (statements_of program)
 
 offset_whole : (s : Option StatementTree) → offset_in s [] ≡ 0

@@ -13,7 +13,7 @@ use Rattle.job_model.specs.Follow.{Path, here, asked, quiet, tick, gone, Reaches
 use Rattle.job_model.proofs.Follows.{follows_from, follows_then, follows_in}
 use Rattle.job_model.proofs.Paths.{path_on}
 use Rattle.program_model.specs.Program.{Program, Position}
-use Rattle.program_model.specs.Job.{Job, Leaving, Ended, Stopped, StoppedInside, Deed}
+use Rattle.program_model.specs.Job.{Job, Leaving, Ended, Stopped, StoppedInside, Chained, Deed}
 use Rattle.program_model.specs.Control.{Doing}
 use Rattle.program_model.specs.Storage.{Storage, in_storage, stores_by}
 use Rattle.program_model.specs.FileActs.{shut_act}
@@ -68,6 +68,7 @@ of_ended (exit.Halt halt) h = absurd h
 of_ended exit.Gone h = absurd h
 of_ended (exit.Stopped spot) h = absurd h
 of_ended (exit.StoppedInside home) h = absurd h
+of_ended exit.Chained h = absurd h
 
 no_both : true ≡ false → ⊥
 no_both e = cc
@@ -81,6 +82,7 @@ ended_so (Err (trouble.Refused (exit.Halt halt))) e = cc
 ended_so (Err (trouble.Refused exit.Gone)) e = cc
 ended_so (Err (trouble.Refused (exit.Stopped spot))) e = cc
 ended_so (Err (trouble.Refused (exit.StoppedInside home))) e = cc
+ended_so (Err (trouble.Refused exit.Chained)) e = cc
 
 module _ (program : Program) where
   -- the meaning has come to its end where the code has
@@ -91,6 +93,7 @@ module _ (program : Program) where
   ended_by (Left Ended) h = refl
   ended_by (Left (Stopped q)) h = absurd h
   ended_by (Left (StoppedInside home)) h = absurd h
+  ended_by (Left Chained) h = absurd h
 
   stays : (why : Break (Leaving Position)) (j : Job Position) → (why ≡ Left Ended → ⊥) → ends_closed {A = Coming} (Breaks why j) ≡ Breaks why j
   stays (Faulted fault) j h = refl
@@ -99,6 +102,7 @@ module _ (program : Program) where
   stays (Left Ended) j h = absurd (h refl)
   stays (Left (Stopped q)) j h = refl
   stays (Left (StoppedInside home)) j h = refl
+  stays (Left Chained) j h = refl
 
   module _ {P W : Type 0} {who : P → W} {log : P → List Pair} {old mid : P} {c d : Clock} (meaning : ℕ → Doing Coming) where
     -- any other end stays

@@ -11,7 +11,7 @@ use Rattle.job_model.specs.Follow.{here, Reaches}
 use Rattle.job_model.proofs.Paths.{path_over}
 use Rattle.program_model.specs.Program.{Program, Position}
 use Rattle.program_model.specs.declared.homes.Home.{Home}
-use Rattle.program_model.specs.Job.{Job, Leaving, Ended, Stopped, StoppedInside}
+use Rattle.program_model.specs.Job.{Job, Leaving, Ended, Stopped, StoppedInside, Chained}
 use Rattle.program_model.specs.Control.{Doing, Behind, At, home_of, runs_at}
 use Rattle.program_model.specs.Program.{whole}
 use Rattle.program_model.specs.Running.{Coming, runs_from, continues_open, together}
@@ -59,17 +59,17 @@ module _ {P W : Type 0} {who : P → W} {log : P → List Pair} {old new : P} {c
   }
 
   -- what was done in front asked nothing
-  pub means_behind : (low_way : Leaving Position → Leaving Spot) (low : Job Position → Job Spot) (front : Doing (Unit {0})) (next : ℕ → Unit {0} → Job Position → Doing Coming) (j : Job Position) (after : Job Spot) (result : Result (Unit {0}) (Trouble Exit))
-      → front ≡ Gives tt j
-      → Means who log old new c d low_way low (λ most. next most tt j) after result
+  pub means_behind : {A : Type 0} (low_way : Leaving Position → Leaving Spot) (low : Job Position → Job Spot) (front : Doing A) (next : ℕ → A → Job Position → Doing Coming) (value : A) (j : Job Position) (after : Job Spot) (result : Result (Unit {0}) (Trouble Exit))
+      → front ≡ Gives value j
+      → Means who log old new c d low_way low (λ most. next most value j) after result
       → Means who log old new c d low_way low (λ most. front then next most) after result
-  means_behind low_way low front next j after result is m = record {
+  means_behind {A} low_way low front next value j after result is m = record {
     pairs = m.pairs;
     grew = m.grew;
     bound = m.bound;
     left = m.left;
     came = m.came;
-    reaches = λ most enough. subst (λ (f : Doing (Unit {0})). Reaches c (f then next most) m.pairs d m.left) (sym is) (m.reaches most enough);
+    reaches = λ most enough. subst (λ (f : Doing A). Reaches c (f then next most) m.pairs d m.left) (sym is) (m.reaches most enough);
   }
 
   -- CONT: the kept place is one of the program
@@ -78,6 +78,7 @@ module _ {P W : Type 0} {who : P → W} {log : P → List Pair} {old new : P} {c
       → ((q : Position) → spot_of program q ≡ spot → Means who log old new c d (low_leaving program) (lowered program) (λ most. runs_from program most (Behind q) (runs_at (home_of program q.statement) j)) after result)
       → Means who log old new c d (low_leaving program) (lowered program) (λ most. continues_open program most way j) after result
   goes_on_at program j spot after result Ended is run = absurd (cc)
+  goes_on_at program j spot after result Chained is run = absurd (cc)
   goes_on_at program j spot after result (Stopped q) is run = run q (cc)
   goes_on_at program j spot after result (StoppedInside home) is run = absurd (cc)
 
@@ -86,6 +87,7 @@ module _ {P W : Type 0} {who : P → W} {log : P → List Pair} {old new : P} {c
       → ((h : Home) → low_home program h ≡ home → Means who log old new c d (low_leaving program) (lowered program) (λ most. runs_from program most (At (whole h.behind)) j) after result)
       → Means who log old new c d (low_leaving program) (lowered program) (λ most. continues_open program most way j) after result
   goes_on_inside program j home after result Ended is run = absurd (cc)
+  goes_on_inside program j home after result Chained is run = absurd (cc)
   goes_on_inside program j home after result (Stopped q) is run = absurd (cc)
   goes_on_inside program j home after result (StoppedInside h) is run = run h (cc)
 
@@ -93,16 +95,16 @@ module _ {P W : Type 0} {who : P → W} {log : P → List Pair} {old new : P} {c
 
 module _ {P W : Type 0} {who : P → W} {log : P → List Pair} {p : P} {c : Clock} where
   -- what was done in front broke
-  pub means_broken : (low_way : Leaving Position → Leaving Spot) (low : Job Position → Job Spot) (front : Doing (Unit {0})) (next : ℕ → Unit {0} → Job Position → Doing Coming) (why : Break (Leaving Position)) (j : Job Position) (exit : Exit) (after : Job Spot)
+  pub means_broken : {A : Type 0} (low_way : Leaving Position → Leaving Spot) (low : Job Position → Job Spot) (front : Doing A) (next : ℕ → A → Job Position → Doing Coming) (why : Break (Leaving Position)) (j : Job Position) (exit : Exit) (after : Job Spot)
       → front ≡ Breaks why j → break_over low_way why ≡ break_of exit → low j ≡ after
       → Means who log p p c c low_way low (λ most. front then next most) after (Err (trouble.Refused exit))
-  means_broken low_way low front next why j exit after is same ends = record {
+  means_broken {A} low_way low front next why j exit after is same ends = record {
     pairs = [];
     grew = (refl, sym (append-nil (log p)));
     bound = 0;
     left = Some (Breaks why j);
     came = went same ends;
-    reaches = λ most enough. subst (λ (f : Doing (Unit {0})). Reaches c (f then next most) [] c (Some (Breaks why j))) (sym is) here;
+    reaches = λ most enough. subst (λ (f : Doing A). Reaches c (f then next most) [] c (Some (Breaks why j))) (sym is) here;
   }
 
   pub means_nothing : (low_way : Leaving Position → Leaving Spot) (low : Job Position → Job Spot) (meaning : ℕ → Doing Coming) (after : Job Spot)

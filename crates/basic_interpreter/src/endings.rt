@@ -1,9 +1,9 @@
 //! What is written where a program ends.
 
-ghost use Rattle.std.specs.Prelude.{◌≡◌, ◌++◌, codes, OnOk};
+ghost use Rattle.std.specs.Prelude.{◌≡◌, ◌++◌, OnOk};
 ghost use Rattle.basic_eval.specs.Acting.{break_of, seen};
 ghost use Rattle.job_model.specs.Texts.{job_expired, line_end};
-ghost use Rattle.program_model.specs.Reports.{at_line_text, ended_screen, report_text};
+ghost use Rattle.program_model.specs.Reports.{at_line_text, ended_screen, report_text, stop_text};
 ghost use Rattle.terminal_line.specs.Columns.{column_of, fresh_text};
 
 use basic_eval::{Exit, Running};
@@ -11,7 +11,8 @@ use basic_values::NoMemory;
 use itoa::Buffer;
 use terminal_line::Screen;
 
-/// Writes the report of an error, a halt or a STOP at the start of a line, and nothing at END.
+/// Writes the report of an error, a halt or a STOP at the start of a line, and nothing at END or
+/// where a program is left for another.
 pub fn write_ending(state: &mut Running, why: Exit) -> Result<(), NoMemory>
     ensures { OnOk result (seen state.new
         ≡ record (seen state.old) { screen = ended_screen (break_of why) (seen state.old) }) }
@@ -24,6 +25,7 @@ pub fn write_ending(state: &mut Running, why: Exit) -> Result<(), NoMemory>
         Exit::Ended => Ok(()),
         Exit::Stopped(_) => write_stop(&mut state.screen, line),
         Exit::StoppedInside(_) => write_stop(&mut state.screen, line),
+        Exit::Chained => Ok(()),
     }
 }
 
@@ -39,8 +41,8 @@ fn write_report(screen: &mut Screen, words: &[u8], line: u16) -> Result<(), NoMe
 
 /// Writes that a STOP at a line was met.
 fn write_stop(screen: &mut Screen, line: u16) -> Result<(), NoMemory>
-    ensures { OnOk result (screen.new ≡ screen.old ++ fresh_text (column_of screen.old)
-        ++ (codes "Stop" ++ at_line_text line ++ line_end)) }
+    ensures { OnOk result (screen.new
+        ≡ screen.old ++ fresh_text (column_of screen.old) ++ stop_text line) }
 {
     begin_line(screen, b"Stop")?;
     end_line(screen, line)

@@ -1,8 +1,10 @@
-//! RUN, CONT and immediate mode: each call is one run of code, behind what is set for it.
+//! RUN, CHAIN, CONT and immediate mode: each call is one run of code, behind what is set for it.
 
 ghost use Rattle.std.specs.Prelude.{◌≡◌, ℕ, List, OnErr, OnOk};
 ghost use Rattle.basic_eval.specs.Acting.{seen};
 ghost use Rattle.basic_interpreter.specs.Meaning.{Means};
+ghost use Rattle.basic_interpreter.specs.Units.{SpendsAtChain};
+ghost use Rattle.polish_code.specs.Code.{statement_place};
 ghost use Rattle.basic_tree.specs.Trees.{StatementTree};
 ghost use Rattle.basic_interpreter.specs.Stopping.{is_ended, leaving_of};
 ghost use Rattle.program_model.specs.InMemory.{program_of};
@@ -11,8 +13,9 @@ ghost use Rattle.polish_code.specs.Lowered.{coded, lowered, low_leaving};
 ghost use Rattle.program_model.specs.Job.{Job, Leaving};
 ghost use Rattle.program_model.specs.Program as model;
 ghost use Rattle.program_model.specs.Program.{Position, loops_of};
-ghost use Rattle.program_model.specs.Running.{Coming, cleared, continues, continues_open};
-ghost use Rattle.program_model.specs.Running.{ends_closed, line_alone, runs_cleared, runs_line, runs_open};
+ghost use Rattle.program_model.specs.Running.{Coming, begins_with, cleared, continues, continues_open};
+ghost use Rattle.program_model.specs.Running.{ends_closed, line_alone, raises, raises_open};
+ghost use Rattle.program_model.specs.Running.{runs_cleared, runs_line, runs_open};
 ghost use Rattle.program_model.specs.Control.{Doing};
 ghost use Rattle.job_model.specs.Play as play;
 
@@ -24,7 +27,7 @@ use crate::settings::{NO_HOME, fresh_limits};
 use crate::stops::Stop;
 use basic_eval::{Exit, Running, exit_at};
 use basic_tree::Program;
-use basic_values::{NoMemory, Trouble};
+use basic_values::{Fault, NoMemory, Trouble};
 use error_trap::Trap;
 use monitor_calls::Port;
 use polish_code::Code;
@@ -47,23 +50,26 @@ pub fn clear(state: &mut Running, loops: usize) -> Result<(), NoMemory>
     Ok(())
 }
 
-/// Makes the arrays of the program's DIMs, and runs it from its first statement. Behind its end no
-/// channel is open.
+/// Makes the arrays of the program's DIMs, and runs it from the line that is wanted, or from its
+/// first statement. Behind its end no channel is open.
 pub fn run_program<P: Port>(
     lines: &Program,
     code: &Code,
+    line: Option<u16>,
     state: &mut Running,
     clock: &mut Clock,
     port: &mut P,
 ) -> Result<(), Trouble<Exit>>
-    ensures { (program : model.Program) (j : Job Position)
+    ensures meaning { (program : model.Program) (j : Job Position)
         → program ≡ program_of lines.now.lines.entries → code_kept code.now ≡ coded program
         → lowered program j ≡ seen state.old
         → Means P.who P.log port.old port.new clock.old clock.new
-        (low_leaving program) (lowered program) (λ most. runs_cleared program most j)
+        (low_leaving program) (lowered program) (λ most. runs_cleared program most line j)
         (seen state.new) result }
+    ensures units { (program : model.Program) → code_kept code.now ≡ coded program
+        → SpendsAtChain clock.old clock.new result }
 {
-    let end = run_open(lines, code, state, clock, port);
+    let end = run_open(lines, code, line, state, clock, port);
     close_at_end(end, state, port)
 }
 
@@ -71,20 +77,78 @@ pub fn run_program<P: Port>(
 fn run_open<P: Port>(
     lines: &Program,
     code: &Code,
+    line: Option<u16>,
     state: &mut Running,
     clock: &mut Clock,
     port: &mut P,
 ) -> Result<(), Trouble<Exit>>
-    ensures { (program : model.Program) (j : Job Position)
+    ensures meaning { (program : model.Program) (j : Job Position)
         → program ≡ program_of lines.now.lines.entries → code_kept code.now ≡ coded program
         → lowered program j ≡ seen state.old
         → Means P.who P.log port.old port.new clock.old clock.new
-        (low_leaving program) (lowered program) (λ most. runs_open program most j)
+        (low_leaving program) (lowered program) (λ most. runs_open program most line j)
         (seen state.new) result }
+    ensures units { (program : model.Program) → code_kept code.now ≡ coded program
+        → SpendsAtChain clock.old clock.new result }
 {
     match dimension_program(lines, state) {
-        Ok(()) => run(code, 0, state, clock, port),
+        Ok(()) => run(code, begin_place(code, line), state, clock, port),
         Err(trouble) => Err(trouble),
+    }
+}
+
+/// Where a program begins in its code.
+fn begin_place(code: &Code, line: Option<u16>) -> usize
+    ensures { (program : model.Program) → code_kept code.now ≡ coded program
+        → result ≡ statement_place program (begins_with program line) }
+{
+    match line {
+        None => 0,
+        Some(line) => code.place_of(line),
+    }
+}
+
+/// The program that ran last goes on with an error of the statement that ran last: at the line of
+/// its handler, where it has one, and else it has gone no further for it. Behind its end no channel
+/// is open.
+pub fn raise<P: Port>(
+    code: &Code,
+    fault: Fault,
+    state: &mut Running,
+    clock: &mut Clock,
+    port: &mut P,
+) -> Result<(), Trouble<Exit>>
+    ensures meaning { (program : model.Program) (j : Job Position)
+        → code_kept code.now ≡ coded program → lowered program j ≡ seen state.old
+        → Means P.who P.log port.old port.new clock.old clock.new
+        (low_leaving program) (lowered program) (λ most. raises program most fault j)
+        (seen state.new) result }
+    ensures units { (program : model.Program) → code_kept code.now ≡ coded program
+        → SpendsAtChain clock.old clock.new result }
+{
+    let end = raise_open(code, fault, state, clock, port);
+    close_at_end(end, state, port)
+}
+
+/// The same, without what is done behind its end.
+fn raise_open<P: Port>(
+    code: &Code,
+    fault: Fault,
+    state: &mut Running,
+    clock: &mut Clock,
+    port: &mut P,
+) -> Result<(), Trouble<Exit>>
+    ensures meaning { (program : model.Program) (j : Job Position)
+        → code_kept code.now ≡ coded program → lowered program j ≡ seen state.old
+        → Means P.who P.log port.old port.new clock.old clock.new
+        (low_leaving program) (lowered program) (λ most. raises_open program most fault j)
+        (seen state.new) result }
+    ensures units { (program : model.Program) → code_kept code.now ≡ coded program
+        → SpendsAtChain clock.old clock.new result }
+{
+    match state.catch(Exit::Fault(fault)) {
+        Ok(line) => run(code, code.place_of(line), state, clock, port),
+        Err(why) => Err(Trouble::Refused(why)),
     }
 }
 
@@ -138,13 +202,15 @@ fn close_at_end<P: Port>(
     port: &mut P,
 ) -> Result<(), Trouble<Exit>>
     // Whatever had this end, it is now what is closed at its end.
-    ensures { (start : P) (before behind : play.Clock) (program : model.Program)
+    ensures meaning { (start : P) (before behind : play.Clock) (program : model.Program)
         (meaning : ℕ → Doing Coming)
         → Means P.who P.log start port.old before behind
         (low_leaving program) (lowered program) meaning (seen state.old) end
         → Means P.who P.log start port.new before behind
         (low_leaving program) (lowered program) (λ most. ends_closed (meaning most))
         (seen state.new) result }
+    ensures units { (before behind : play.Clock)
+        → SpendsAtChain before behind end → SpendsAtChain before behind result }
 {
     if !is_ended(&end) {
         return end;

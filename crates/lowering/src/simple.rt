@@ -2,20 +2,21 @@
 
 ghost use Rattle.std.specs.Prelude.{◌≡◌, [], ◌∷◌, map, length, option_map, IfOk, OnOk};
 ghost use Rattle.basic_tree.specs.StatementViews.{statement_of};
-ghost use Rattle.basic_tree.specs.TreeViews.{tree_of, target_of, printed_of, item_of, prompt_of};
+ghost use Rattle.basic_tree.specs.TreeViews.{tree_of, target_of, printed_of, item_of, prompt_of, chain_line_of};
+ghost use Rattle.program_model.specs.Chaining.{line_operand};
 ghost use Rattle.program_model.specs.Input.{prompt_text};
 ghost use Rattle.program_model.specs.Targets.{wants_text};
 ghost use Rattle.program_model.specs.Traps.{line_named};
 ghost use Rattle.polish_code.specs.declared.items.Item.TheVariants as item;
-ghost use Rattle.polish_code.specs.Code.{It, places_of, def_pieces, target_pieces, targets_pieces, judged_pieces, input_pieces, read_pieces, printed_pieces, separator_pieces, print_pieces, end_pieces, step_piece};
-ghost use Rattle.lowering.specs.Emission.{with_pieces, with_simple};
+ghost use Rattle.polish_code.specs.Code.{Ex, It, places_of, def_pieces, target_pieces, targets_pieces, judged_pieces, input_pieces, read_pieces, printed_pieces, separator_pieces, print_pieces, end_pieces, step_piece};
+ghost use Rattle.lowering.specs.Emission.{with_expression, with_pieces, with_simple};
 
 use crate::expressions::emit_expr;
 use crate::file_items::{emit_close, emit_open, emit_with_block, emit_with_one, emit_with_two};
 use crate::lookups::Lookups;
 use crate::numbers::counted;
 use crate::sink::{Jump, Over, Sink};
-use basic_tree::{Expr, PrintItem, Printed, Prompt, Separator, Series, Statement, Target};
+use basic_tree::{ChainLine, Expr, PrintItem, Printed, Prompt, Separator, Series, Statement, Target};
 use basic_values::{NoMemory, Text};
 use monitor_calls::copy_of;
 use polish_code::{FileAct, Item};
@@ -115,6 +116,7 @@ pub fn emit_simple<K: Sink, L: Lookups>(
             code.put(Item::End)?;
             code.put(Item::Ask(FileAct::ShutAll))
         }
+        Statement::Chain { program, line } => emit_chain(alloc, code, tables, program, line),
         Statement::Sleep(seconds) => emit_with_one(alloc, code, tables, FileAct::Sleep, seconds),
         Statement::Open {
             file,
@@ -155,7 +157,6 @@ pub fn emit_simple<K: Sink, L: Lookups>(
         Statement::Data(_) => Ok(()),
         Statement::Dim(_) => Ok(()),
         Statement::DimFile { .. } => Ok(()),
-        Statement::Chain { .. } => Ok(()),
         Statement::Field { .. } => Ok(()),
         Statement::Lset { .. } => Ok(()),
         Statement::Rset { .. } => Ok(()),
@@ -446,5 +447,41 @@ fn emit_resume<K: Sink, L: Lookups>(
     match named_line(line) {
         None => code.put(Item::Resume(None)),
         Some(line) => code.put(Item::Resume(Some(tables.line_place(line)))),
+    }
+}
+
+// CHAIN
+
+fn emit_chain<K: Sink, L: Lookups>(
+    alloc: Global,
+    code: &mut K,
+    tables: &L,
+    program: &Expr,
+    line: &Option<ChainLine>,
+) -> Result<(), NoMemory>
+    ensures { OnOk result (code.new
+        ≡ with_pieces K.with (L.program tables.now)
+        (Ex (tree_of program.now) ∷ Ex (line_operand (option_map chain_line_of line.now))
+        ∷ It item.Chain ∷ []) code.old) }
+{
+    code.put(Item::Chain)?;
+    emit_line_operand(alloc, code, tables, line)?;
+    emit_expr(alloc, code, tables, program)
+}
+
+/// The number of the line, which is 0 where it is left out.
+fn emit_line_operand<K: Sink, L: Lookups>(
+    alloc: Global,
+    code: &mut K,
+    tables: &L,
+    line: &Option<ChainLine>,
+) -> Result<(), NoMemory>
+    ensures { OnOk result (code.new
+        ≡ with_expression K.with (L.program tables.now)
+        (line_operand (option_map chain_line_of line.now)) code.old) }
+{
+    match line {
+        None => code.put(Item::Number(0)),
+        Some(line) => emit_expr(alloc, code, tables, &line.number),
     }
 }

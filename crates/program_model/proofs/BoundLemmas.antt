@@ -31,7 +31,7 @@ use Rattle.program_model.specs.FileActs.{act_by}
 use Rattle.program_model.specs.FileStatements.{or_zero, in_order, acts_by, kind_for, close_each}
 use Rattle.program_model.specs.Chaining.{line_operand}
 use Rattle.program_model.specs.Statements.{modified, file_act, does}
-use Rattle.program_model.specs.Running.{Coming, Begin, Value_of, Out, reached_behind, reached, begun, one_line, out_or_at, body_at_def, calls_of, handler, ends_closed, runs, dimension_program, begins_at, runs_open, runs_cleared, raises}
+use Rattle.program_model.specs.Running.{Coming, Begin, Value_of, Out, reached_behind, reached, begun, one_line, out_or_at, body_at_def, calls_of, handler, ends_closed, runs, dimension_program, begins_with, runs_open, runs_cleared, raises_open, raises}
 use Rattle.program_model.specs.Bounds.{Alike, gives, breaks, asks, spent, takes, BoundsAreEnough, BoundsAreEnoughFrom}
 
 module _ {L S A : Type 0} where
@@ -312,9 +312,9 @@ bounds_enough_from program i i' n o j lt lt' =
 pub cleared_enough : (program : Program) (i i' n : ℕ) (line : Option ℕ) (j : Job Position) → n < i → n < i' → Alike n (runs_cleared program i line j) (runs_cleared program i' line j)
 cleared_enough program i i' n line j lt lt' =
     ends_closed_alike n (runs_open program i line j) (runs_open program i' line j)
-    (and_then n (dimension_program program j) (dimension_program program j) _ _ (same n _) (λ k a j le. bounds_enough_from program i i' k (begins_at program line) j (omega (arith, le, lt)) (omega (arith, le, lt'))))
+    (and_then n (dimension_program program j) (dimension_program program j) _ _ (same n _) (λ k a j le. bounds_enough_from program i i' k (At (whole (begins_with program line))) j (omega (arith, le, lt)) (omega (arith, le, lt'))))
 
 pub raises_enough : (program : Program) (i i' n fault : ℕ) (j : Job Position) → n < i → n < i' → Alike n (raises program i fault j) (raises program i' fault j)
 raises_enough program i i' n fault j lt lt' =
-    ends_closed_alike n _ _
+    ends_closed_alike n (raises_open program i fault j) (raises_open program i' fault j)
     (and_then n _ _ _ _ (same n (trapped (at_line program) (Breaks (Faulted fault) j))) (λ k o j le. bounds_enough_from program i i' k o j (omega (arith, le, lt)) (omega (arith, le, lt'))))

@@ -20,7 +20,7 @@ use Rattle.program_model.specs.FileActs.{shut_act}
 use Rattle.program_model.specs.Variables.{dimensioned}
 use Rattle.program_model.specs.Traps.{handled, caught, trapped}
 use Rattle.program_model.specs.Control.{At, at_line}
-use Rattle.program_model.specs.Running.{Begin, begun, calls_of, handler, runs, runs_from, ends_closed, dimension_all, dimension_in, dimension_program, runs_open, runs_cleared, raises}
+use Rattle.program_model.specs.Running.{Begin, begun, calls_of, handler, runs, runs_from, ends_closed, dimension_all, dimension_in, dimension_program, begins_with, runs_open, runs_cleared, raises_open, raises}
 
 -- no chain stands before a unit
 abbrev pub SpendsFirst : {R A : Type 0} → Deed R A → Type 0
@@ -97,20 +97,19 @@ at_spends : (program : Program) (most : ℕ) (q : Position) (j : Job Position) �
 at_spends program most q j = begin_spends program most q j
 
 open_spends : (program : Program) (most : ℕ) (line : Option ℕ) (j : Job Position) → SpendsFirst (runs_open program most line j)
-open_spends program most None j = spends_then (dimension_program program j) _ (dimension_spends program j) (λ a k. at_spends program most (whole 0) k)
-open_spends program most (Some n) j = spends_then (dimension_program program j) _ (dimension_spends program j) (λ a k. at_spends program most (whole (line_start n program)) k)
+open_spends program most line j = spends_then (dimension_program program j) _ (dimension_spends program j) (λ a k. at_spends program most (whole (begins_with program line)) k)
 
 pub cleared_spends : (program : Program) (most : ℕ) (line : Option ℕ) (j : Job Position) → SpendsFirst (runs_cleared program most line j)
 cleared_spends program most line j = closed_spends (runs_open program most line j) (open_spends program most line j)
 
 -- with an error: at the handler's line, or out of the program
 pub raises_spend : (program : Program) (most fault : ℕ) (j : Job Position) → SpendsFirst (raises program most fault j)
-raises_spend program most fault j = closed_spends (trapped (at_line program) (Breaks (Faulted fault) j) then runs_from program most) (by_frames j.frames)
+raises_spend program most fault j = closed_spends (raises_open program most fault j) (by_frames j.frames)
   where
-    by_handler : (t : Trap) (r : Raised) → SpendsFirst (handled (at_line program) fault (t, r) j then runs_from program most)
+    by_handler : (t : Trap) (r : Raised) → SpendsFirst (handled (at_line program) fault (t, r) j then λ o j. runs_from program most o j)
     by_handler t (Handle line) = at_spends program most (whole (line_start line program)) _
     by_handler t Report = tt
 
-    by_frames : (frames : List Frame) → SpendsFirst (caught (at_line program) (Faulted fault) frames j then runs_from program most)
+    by_frames : (frames : List Frame) → SpendsFirst (caught (at_line program) (Faulted fault) frames j then λ o j. runs_from program most o j)
     by_frames [] = let p = raised fault j.line j.home.start j.trap in by_handler p.0 p.1
     by_frames (frame ∷ frames) = tt

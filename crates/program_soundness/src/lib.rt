@@ -24,6 +24,6 @@ mod texts;
 
 pub use listing::Listing;
 pub use parts::named_line;
-pub use refusals::{any_refused_now, refusal_of};
+pub use refusals::{any_refused_now, can_begin, refusal_of};
 pub use tables::Tables;
 pub use texts::{LineText, further, line_in, lines_in, statements_in};

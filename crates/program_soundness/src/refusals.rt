@@ -4,7 +4,7 @@ ghost use Rattle.std.specs.Prelude.{◌≡◌, ◌&&◌, not, is_some, map, take
 ghost use Rattle.std.specs.List.{flat_map, list_any};
 ghost use Rattle.basic_tree.specs.StatementViews.{statement_of};
 ghost use Rattle.program_model.specs.Program.{body_at, statements_of};
-ghost use Rattle.program_model.specs.Soundness.{has_line, handles_errors, is_in_body, goes_across, is_open_for, is_stray_next, is_open_def, is_stray_fnend, is_second_def, is_body_of, results_by, has_stray_result, is_undefined, is_unfit, arrays_in, any_again, stands, stands_in, first_cause, refusal_of, is_refused_now};
+ghost use Rattle.program_model.specs.Soundness.{can_begin, has_line, handles_errors, is_in_body, goes_across, is_open_for, is_stray_next, is_open_def, is_stray_fnend, is_second_def, is_body_of, results_by, has_stray_result, is_undefined, is_unfit, arrays_in, any_again, stands, stands_in, first_cause, refusal_of, is_refused_now};
 ghost use Rattle.program_model.specs.Parts.{simple_in, lines_named_in, calls_made_in};
 ghost use Rattle.program_soundness.specs.Listings.{text_of};
 ghost use Rattle.program_soundness.specs.Parts.{call_seen, calls_seen};
@@ -17,7 +17,7 @@ use crate::kinds::fits;
 use crate::listing::Listing;
 use crate::parts::{lines_named, results_in, sorts_of};
 use crate::tables::Tables;
-use crate::texts::further;
+use crate::texts::{further, lines_in};
 use basic_tree::{Name, Program, Statement};
 use basic_values::NoMemory;
 use program_model::{LowerCause, LowerRefusal};
@@ -160,6 +160,25 @@ fn has_line(program: &Program, number: u16) -> bool
     ensures { result ≡ has_line (program_of program.now.lines.entries) number }
 {
     program.lines.contains_key(&number)
+}
+
+/// Whether a program can begin at a line, where one is wanted: it is there, and stands for a
+/// statement at main level.
+pub fn can_begin(
+    alloc: Global,
+    program: &Program,
+    line: Option<u16>,
+) -> Result<bool, NoMemory>
+    ensures { IfOk result (λ can. can
+        ≡ can_begin (program_of program.now.lines.entries) line) }
+{
+    match line {
+        None => Ok(true),
+        Some(number) => {
+            let listing = Listing::new(alloc, lines_in(alloc, program)?)?;
+            Ok(has_line(program, number) && is_in_body(&listing, None, number))
+        }
+    }
 }
 
 // Bodies

@@ -4,12 +4,12 @@ use Rattle.std.specs.List.{list_all}
 use Rattle.basic_tree.specs.Trees.{StatementTree, IfThen, IfGoto, Modified, For, Next, FnEnd, Data, Dim, DimFile, Def, Let, Result as ResultOf, Print, PrintUsing, Input, InputLine, Read, Restore, Goto, Gosub, Return, OnGoto, OnGosub, OnErrorGoto, Resume, Stop, End, Chain, Sleep, Open, Close, Get, Put, Unlock, Field, Lset, Rset, Kill, Rename, MatRead, MatPrint, MatLet}
 use Rattle.program_model.specs.Parts.{simple_in}
 
--- of a statement without IFs and modifiers around it: CHAIN and MAT come later. Each form has its row.
+-- of a statement without IFs and modifiers around it: MAT comes later. Each form has its row.
 abbrev pub is_form_in_stage : StatementTree → Bool
 is_form_in_stage (MatRead matrices) = false
 is_form_in_stage (MatPrint matrix separator) = false
 is_form_in_stage (MatLet target value) = false
-is_form_in_stage (Chain e line) = false
+is_form_in_stage (Chain e line) = true
 is_form_in_stage (Print channel items last) = true
 is_form_in_stage (PrintUsing channel format values last) = true
 is_form_in_stage (Input channel prompt targets) = true

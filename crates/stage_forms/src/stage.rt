@@ -66,7 +66,6 @@ fn is_form_in_stage(statement: &Statement) -> bool
     ensures { result ≡ is_form_in_stage (statement_of statement.now) }
 {
     match statement {
-        Statement::Chain { .. } => false,
         Statement::MatRead(_) | Statement::MatPrint { .. } | Statement::MatLet { .. } => false,
         Statement::For { .. } | Statement::Next(_) => true,
         Statement::Def { .. } | Statement::FnEnd | Statement::Result { .. } => true,
@@ -80,7 +79,7 @@ fn is_form_in_stage(statement: &Statement) -> bool
         Statement::Stop | Statement::End => true,
         Statement::Open { .. } | Statement::Close(_) | Statement::Unlock(_) => true,
         Statement::Get { .. } | Statement::Put { .. } | Statement::Sleep(_) => true,
-        Statement::Kill(_) | Statement::Rename { .. } => true,
+        Statement::Kill(_) | Statement::Rename { .. } | Statement::Chain { .. } => true,
         Statement::Field { .. } | Statement::Lset { .. } | Statement::Rset { .. } => true,
         Statement::IfThen { .. } | Statement::IfGoto { .. } | Statement::Modified { .. } => true,
     }

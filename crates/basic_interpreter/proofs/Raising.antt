@@ -1,0 +1,55 @@
+-- An error of the statement that ran last: where the code leads it, and where the meaning does.
+use Rattle.std.proofs.Common.{◌≡◌, ℕ, List, Result, Ok, Err, refl, sym, ap, ◌∙◌}
+use Rattle.basic_values.specs.declared.failures.Trouble.{Trouble}
+use Rattle.basic_values.specs.declared.failures.Trouble.TheVariants as trouble
+use Rattle.monitor_calls.specs.Pairs.{Pair}
+use Rattle.job_model.specs.Act.{Gives, Breaks, Faulted, ◌then◌}
+use Rattle.job_model.specs.Play.{Clock}
+use Rattle.program_model.specs.Program.{Program, Position}
+use Rattle.program_model.specs.Job.{Job}
+use Rattle.program_model.specs.Control.{Doing, Onward, at_line}
+use Rattle.program_model.specs.Traps.{caught, trapped}
+use Rattle.program_model.specs.Running.{runs_from, raises_open}
+use Rattle.polish_code.specs.Walk.{Spot, Walked}
+use Rattle.polish_code.specs.Lowered.{lowered, low_leaving, lowers}
+use Rattle.polish_code.proofs.Lowering.{trapped_same}
+use Rattle.basic_eval.specs.declared.exits.Exit.{Exit}
+use Rattle.basic_eval.specs.Acting.{break_of, caught_as}
+use Rattle.basic_interpreter.specs.Meaning.{Means}
+use Rattle.basic_interpreter.proofs.TurnLemmas.{caught_then}
+use Rattle.basic_interpreter.proofs.Dims.{low_end, gave, broke}
+use Rattle.basic_interpreter.proofs.Meanings.{means_behind, means_broken}
+
+module _ (program : Program) (fault : ℕ) (j : Job Position) (before : Job Spot) (same : lowered program j ≡ before) where
+  -- to which line it leads
+  abbrev error : Doing ℕ
+  error = trapped (λ line. line) (Breaks (Faulted fault) j)
+
+  abbrev led : ℕ → Job Position → Doing Onward
+  led line j = Gives (at_line program line) j
+
+  error_low : (r : Result ℕ Exit) (k : Job Spot) → caught (λ line. line) (Faulted fault) before.frames before ≡ caught_as r k → lowers program error (low_end program) ≡ caught_as r k
+  error_low r k is =
+      sym (trapped_same program (λ line. line) (λ line. line) (λ line. line) (λ line. refl) (Breaks (Faulted fault) j))
+      ∙ ap (λ (k : Job Spot). caught (λ line. line) (Faulted fault) k.frames k) same ∙ is
+
+  error_leads : trapped (at_line program) (Breaks (Faulted fault) j) ≡ (error then led)
+  error_leads = caught_then (at_line program) (Faulted fault) j.frames j
+
+  module _ {P W : Type 0} {who : P → W} {log : P → List Pair} where
+    -- to the handler's line
+    pub raised_on : {p q : P} {c d : Clock} (line : ℕ) (k after : Job Spot) (result : Result (Unit {0}) (Trouble Exit)) → caught (λ line. line) (Faulted fault) before.frames before ≡ Gives line k
+        → ((l : Job Position) → lowered program l ≡ k → Means who log p q c d (low_leaving program) (lowered program) (λ most. runs_from program most (at_line program line) l) after result)
+        → Means who log p q c d (low_leaving program) (lowered program) (λ most. raises_open program most fault j) after result
+    raised_on line k after result is run =
+        let found = gave program error line k (error_low (Ok line) k is) in
+        means_behind (low_leaving program) (lowered program) (trapped (at_line program) (Breaks (Faulted fault) j)) (λ most o j. runs_from program most o j) (at_line program line) found.0 after result
+        (error_leads ∙ ap (λ (m : Doing ℕ). m then led) found.1) (run found.0 found.2)
+
+    -- out of the program
+    pub raised_out : {p : P} {c : Clock} (why : Exit) (k : Job Spot) → caught (λ line. line) (Faulted fault) before.frames before ≡ Breaks (break_of why) k
+        → Means who log p p c c (low_leaving program) (lowered program) (λ most. raises_open program most fault j) k (Err (trouble.Refused why))
+    raised_out why k is =
+        let found = broke program error (break_of why) k (error_low (Err why) k is) in
+        means_broken (low_leaving program) (lowered program) (trapped (at_line program) (Breaks (Faulted fault) j)) (λ most o j. runs_from program most o j) found.0 found.1 why k
+        (error_leads ∙ ap (λ (m : Doing ℕ). m then led) found.2) found.3 found.4
