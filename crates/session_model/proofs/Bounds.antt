@@ -1,5 +1,5 @@
 -- A bound on statements changes nothing of a session, as long as units do not reach it.
-use Rattle.std.proofs.Common.{◌≡◌, ℕ, zero, suc, ◌<◌, ◌≤◌, List, [], ◌∷◌, ◌++◌, Option, Some, None, refl, ap, arith}
+use Rattle.std.proofs.Common.{◌≡◌, ℕ, zero, suc, ◌<◌, ◌≤◌, List, [], ◌∷◌, ◌++◌, Option, Some, None, refl, sym, ap, subst, arith}
 use Rattle.std.specs.Prelude.{Bool, true, false, if◌then◌else◌, Result, Ok, Err}
 use Rattle.monitor_calls.specs.declared.calls.Request.TheVariants.{Tick}
 use Rattle.monitor_calls.specs.declared.calls.Reply.{Reply}
@@ -7,8 +7,9 @@ use Rattle.monitor_calls.specs.declared.names.Account.{Account}
 use Rattle.basic_tree.specs.LineVerdicts.{Verdict, HasTree, RefusedFor, Judge}
 use Rattle.basic_tree.specs.SpellingStatements.{line_statements}
 use Rattle.basic_tree.specs.Trees.{StatementTree}
-use Rattle.job_model.specs.Act.{Act, Gives, Breaks, Asks, Takes, Break, Gone, ◌then◌, over}
+use Rattle.job_model.specs.Act.{Act, Gives, Breaks, Asks, Takes, Break, Faulted, Halted, Gone, Left, ◌then◌, over}
 use Rattle.job_model.specs.Play.{Clock, counted, ticked, is_quiet, lets_on, play, play_tick, Broke, Finished, behind_ask}
+use Rattle.job_model.specs.Ends.{at_ends}
 use Rattle.job_model.specs.Texts.{line_end}
 use Rattle.program_model.specs.declared.refusals.LowerRefusal.{LowerRefusal}
 use Rattle.program_model.specs.Program.{Program, Position, whole}
@@ -18,9 +19,10 @@ use Rattle.program_model.specs.Storage.{in_storage}
 use Rattle.program_model.specs.FileActs.{shut_act}
 use Rattle.program_model.specs.Control.{At, Behind, home_of, runs_at}
 use Rattle.program_model.specs.Bounds.{Alike, gives, breaks, asks, spent, takes}
-use Rattle.program_model.specs.Running.{dimension_program, runs_open, runs_cleared, continues_open, continues, line_alone, apart, together}
-use Rattle.program_model.specs.Soundness.{refusal_of, refusal_now}
-use Rattle.program_model.proofs.BoundLemmas.{same, and_then, ends_closed_alike, bounds_enough_from}
+use Rattle.program_model.specs.Running.{Coming, runs_cleared, raises, continues_open, continues, line_alone, apart, together}
+use Rattle.program_model.specs.Soundness.{can_begin, refusal_of, refusal_now}
+use Rattle.program_model.proofs.BoundLemmas.{same, and_then, ends_closed_alike, bounds_enough_from, cleared_enough, raises_enough}
+use Rattle.program_model.proofs.ChainLemmas.{SpendsFirst, cleared_spends, raises_spend}
 use Rattle.stage_forms.specs.Stage.{are_in_stage}
 use Rattle.file_names.specs.declared.spec.Spec.{Spec}
 use Rattle.basic_tree.specs.ProgramLines.{Lines}
@@ -28,14 +30,33 @@ use Rattle.program_files.specs.Programs.{reads_pages}
 use Rattle.session_model.specs.ProgramFiles.{spec_read, is_blank_text, program_on}
 use Rattle.session_model.specs.Commands.{Command, Run, RunFile, Continue, Immediate, command_of}
 use Rattle.session_model.specs.Texts.{not_in_stage, illegal_command}
-use Rattle.session_model.specs.Talk.{Session, Step, answered, says, keys_are, outlived, outlives, reported, run_is_over, runs_unless, begun, runs, with_storage, goes_on, line_unless, immediate, program_by, headed, tried, by_name, loaded, runs_loaded, reads_and_runs, user_acts, acts, line_acts, with_next, session}
+use Rattle.session_model.specs.Talk.{Session, Step, answered, says, keys_are, outlived, with_job, reported, run_is_over, Runs, in_session, runs_there, runs_unless, begun, runs, with_storage, chains_to, unread, reads_program, follows_chain, behind_end, run_to, ended, chains, runs_all, goes_on, line_ended, line_unless, immediate, program_by, headed, tried, by_name, loaded, runs_loaded, reads_and_runs, user_acts, acts, line_acts, with_next, session}
 
-outlives_alike : {R A : Type 0} (n : ℕ) (over : Break (program.Leaving R) → Job R → Session R) (s : Session R) (m m' : program.Deed R A) → Alike n m m' → Alike n (outlives over s m) (outlives over s m')
-outlives_alike n over s m m' gives = gives
-outlives_alike n over s m m' (breaks {n = i} {b = b} {s = j}) = same n (outlived over s b j)
-outlives_alike n over s m m' (asks {n = i} {r = r} {k = k} {k' = k'} e) = asks (λ x. outlives_alike n over s (k x) (k' x) (e x))
-outlives_alike n over s m m' spent = spent
-outlives_alike n over s m m' (takes {n = i} {s = j} {m = k} {m' = k'} e) = takes (outlives_alike i over s k k' e)
+in_session_alike : {R A : Type 0} (n : ℕ) (ended other : Break (program.Leaving R) → Job R → Step R) (s : Session R) (m m' : program.Deed R A) → ((k : ℕ) (why : Break (program.Leaving R)) (j : Job R) → k ≤ n → Alike k (ended why j) (other why j)) → Alike n m m' → Alike n (in_session ended s m) (in_session other s m')
+in_session_alike n ended other s m m' f (gives {n = i} {s = j}) = f n (Left program.Ended) j (omega arith)
+in_session_alike n ended other s m m' f (breaks {n = i} {b = b} {s = j}) = f n b j (omega arith)
+in_session_alike n ended other s m m' f (asks {n = i} {r = r} {k = k} {k' = k'} e) = asks (λ x. in_session_alike n ended other s (k x) (k' x) f (e x))
+in_session_alike n ended other s m m' f spent = spent
+in_session_alike n ended other s m m' f (takes {n = i} {s = j} {m = k} {m' = k'} e) = takes (in_session_alike i ended other s k k' (λ l why j le. f l why j (omega (arith, le))) e)
+
+-- where no chain stands before a unit, what is done at a chain has one less
+abbrev IsChain : {R : Type 0} → Break (program.Leaving R) → Type 0
+IsChain (Left program.Chained) = Unit {0}
+IsChain why = ⊥
+
+spends_alike : {R A : Type 0} (n : ℕ) (ended other : Break (program.Leaving R) → Job R → Step R) (s : Session R) (m m' : program.Deed R A) → ((k : ℕ) (why : Break (program.Leaving R)) (j : Job R) → ¬ (IsChain why) → Alike k (ended why j) (other why j))
+    → ((k : ℕ) (why : Break (program.Leaving R)) (j : Job R) → k < n → Alike k (ended why j) (other why j)) → SpendsFirst m → Alike n m m' → Alike n (in_session ended s m) (in_session other s m')
+spends_alike n ended other s m m' f g spends (gives {n = i} {s = j}) = f n (Left program.Ended) j (λ no. no)
+spends_alike n ended other s m m' f g spends (breaks {n = i} {b = Left program.Chained} {s = j}) = absurd spends
+spends_alike n ended other s m m' f g spends (breaks {n = i} {b = Left program.Ended} {s = j}) = f n _ j (λ no. no)
+spends_alike n ended other s m m' f g spends (breaks {n = i} {b = Left (program.Stopped q)} {s = j}) = f n _ j (λ no. no)
+spends_alike n ended other s m m' f g spends (breaks {n = i} {b = Left (program.StoppedInside home)} {s = j}) = f n _ j (λ no. no)
+spends_alike n ended other s m m' f g spends (breaks {n = i} {b = Faulted fault} {s = j}) = f n _ j (λ no. no)
+spends_alike n ended other s m m' f g spends (breaks {n = i} {b = Halted halt} {s = j}) = f n _ j (λ no. no)
+spends_alike n ended other s m m' f g spends (breaks {n = i} {b = Gone} {s = j}) = f n _ j (λ no. no)
+spends_alike n ended other s m m' f g spends (asks {n = i} {r = r} {k = k} {k' = k'} e) = asks (λ x. spends_alike n ended other s (k x) (k' x) f g (spends x) (e x))
+spends_alike n ended other s m m' f g spends spent = spent
+spends_alike n ended other s m m' f g spends (takes {n = i} {s = j} {m = k} {m' = k'} e) = takes (in_session_alike i ended other s k k' (λ l why j le. g l why j (omega (arith, le))) e)
 
 over_alike : {K L P S A : Type 0} (n : ℕ) (ways : K → L) (put : P → S) (m m' : Act K P A) → Alike n m m' → Alike n (over ways put m) (over ways put m')
 over_alike n ways put m m' gives = gives
@@ -52,51 +73,142 @@ tried_alike n whole next next' (Asks r by) f = asks (λ x. tried_alike n whole n
 tried_alike zero whole next next' (Takes p rest) f = spent
 tried_alike (suc n) whole next next' (Takes p rest) f = takes (tried_alike n whole next next' rest (λ k a s le. f k a s (omega (arith, le))))
 
-module _ (n most more : ℕ) (less : n < most) (less' : n < more) where
-  cleared_alike : (p : Program) (j : Job Position) → Alike n (runs_cleared p most j) (runs_cleared p more j)
-  cleared_alike p j = ends_closed_alike n (runs_open p most j) (runs_open p more j) (and_then n (dimension_program p j) (dimension_program p j) _ _ (same n _) (λ k a j le. bounds_enough_from p most more k (At (whole 0)) j (omega (arith, le, less)) (omega (arith, le, less'))))
+-- what is done at the ends of a tree
+at_ends_alike : {K P R A : Type 0} (n : ℕ) (put : P → Session R) (given given' : A → P → Step R) (broken broken' : Break K → P → Step R) (act : Act K P A) → ((k : ℕ) (a : A) (p : P) → k ≤ n → Alike k (given a p) (given' a p)) → ((k : ℕ) (why : Break K) (p : P) → k ≤ n → Alike k (broken why p) (broken' why p))
+    → Alike n (at_ends put given broken act) (at_ends put given' broken' act)
+at_ends_alike n put given given' broken broken' (Gives a p) f g = f n a p (omega arith)
+at_ends_alike n put given given' broken broken' (Breaks why p) f g = g n why p (omega arith)
+at_ends_alike n put given given' broken broken' (Asks r by) f g = asks (λ x. at_ends_alike n put given given' broken broken' (by x) f g)
+at_ends_alike zero put given given' broken broken' (Takes p rest) f g = spent
+at_ends_alike (suc n) put given given' broken broken' (Takes p rest) f g = takes (at_ends_alike n put given given' broken broken' rest (λ k a s le. f k a s (omega (arith, le))) (λ k a s le. g k a s (omega (arith, le))))
 
-  unless_alike : (o : Option LowerRefusal) (p : Program) (s : Session Position) → Alike n (runs_unless o p most s) (runs_unless o p more s)
-  unless_alike (Some refusal) p s = same n _
-  unless_alike None p s = outlives_alike n (run_is_over s) s _ _ (cleared_alike p s.job)
+-- CHAINS
 
-module _ (n most more : ℕ) (less : n < most) (less' : n < more) where
-  runs_alike : (p : Program) (s : Session Position) → Alike n (runs p most s) (runs p more s)
-  runs_alike p s =
-      tried_alike n (with_storage s) _ _ (shut_act (in_storage.part s.job)) (λ k a s le. unless_alike k most more (omega (arith, le, less)) (omega (arith, le, less')) (refusal_of p) p (begun p s))
+-- how a program begins, and what a chain leads to, where runs are alike
+module _ (n most more : ℕ) (run other : Runs)
+    (run_alike : (k : ℕ) (p : Program) (line : Option ℕ) (s : Session Position) → k ≤ n → Alike k (run p s (runs_cleared p most line s.job)) (other p s (runs_cleared p more line s.job))) where
+  there_alike : (k : ℕ) (p : Program) (line : Option ℕ) (b : Bool) (s : Session Position) → k ≤ n → Alike k (runs_there run p most line b s) (runs_there other p more line b s)
+  there_alike k p line true s le = run_alike k p line s le
+  there_alike k p line false s le = same k _
+
+  unless_alike : (k : ℕ) (o : Option LowerRefusal) (p : Program) (line : Option ℕ) (s : Session Position) → k ≤ n → Alike k (runs_unless run o p most line s) (runs_unless other o p more line s)
+  unless_alike k (Some refusal) p line s le = same k _
+  unless_alike k None p line s le = there_alike k p line (can_begin p line) s le
+
+  runs_alike : (k : ℕ) (p : Program) (line : Option ℕ) (s : Session Position) → k ≤ n → Alike k (runs run p most line s) (runs other p more line s)
+  runs_alike k p line s le =
+      tried_alike k (with_storage s) _ _ (shut_act (in_storage.part s.job)) (λ l a s below. unless_alike l (refusal_of p) p line (begun p s) (omega (arith, le, below)))
+
+  module _ (judge : Judge) (faulted faulted' : ℕ → Job Position → Step Position) (over : Break (program.Leaving Position) → Job Position → Session Position)
+      (faulted_alike : (k number : ℕ) (j : Job Position) → k ≤ n → Alike k (faulted number j) (faulted' number j)) where
+    chain_alike : (k : ℕ) (read : List ℕ × Lines) (s : Session Position) → k ≤ n → Alike k (chains_to judge run most read s) (chains_to judge other more read s)
+    chain_alike k (name, lines) s le = runs_alike k (program_by judge lines) s.job.destination.line (loaded name lines s) le
+
+    unread_alike : (k : ℕ) (why : Break ⊥) (s : Session Position) (j : Job Position) → k ≤ n → Alike k (unread faulted over why s j) (unread faulted' over why s j)
+    unread_alike k (Faulted number) s j le = faulted_alike k number j le
+    unread_alike k (Halted halt) s j le = same k _
+    unread_alike k Gone s j le = same k _
+    unread_alike k (Left none) s j le = absurd none
+
+    follows_alike : (s : Session Position) (j : Job Position) (k : ℕ) → k ≤ n → Alike k (follows_chain judge run faulted most over s j) (follows_chain judge other faulted' more over s j)
+    follows_alike s j k le =
+        at_ends_alike k (λ _. with_job j s) _ _ _ _ (reads_program judge j.account j.destination.name) (λ l read p below. chain_alike l read (with_job j s) (omega (arith, le, below))) (λ l why p below. unread_alike l why s j (omega (arith, le, below)))
+
+    behind_alike : (k : ℕ) (s : Session Position) (why : Break (program.Leaving Position)) (j : Job Position) → k ≤ n → Alike k (behind_end judge run faulted most over s why j) (behind_end judge other faulted' more over s why j)
+    behind_alike k s (Left program.Chained) j le = follows_alike s j k le
+    behind_alike k s (Left program.Ended) j le = same k _
+    behind_alike k s (Left (program.Stopped q)) j le = same k _
+    behind_alike k s (Left (program.StoppedInside home)) j le = same k _
+    behind_alike k s (Faulted fault) j le = same k _
+    behind_alike k s (Halted halt) j le = same k _
+    behind_alike k s Gone j le = same k _
+
+module _ (judge : Judge) (most more : ℕ) where
+  -- an end that is no chain
+  last_alike : (count count' k : ℕ) (p : Program) (s : Session Position) (why : Break (program.Leaving Position)) (j : Job Position) → ¬ (IsChain why) → Alike k (ended judge most count p s why j) (ended judge more count' p s why j)
+  last_alike count count' k p s why j nay =
+      subst (λ (m : Step Position). Alike k m (ended judge more count' p s why j)) (sym (is_last most count why nay))
+      (subst (λ (m : Step Position). Alike k (outlived (run_is_over s) s why j) m) (sym (is_last more count' why nay)) (same k _))
+    where
+      is_last : (most count : ℕ) (why : Break (program.Leaving Position)) → ¬ (IsChain why) → ended judge most count p s why j ≡ outlived (run_is_over s) s why j
+      is_last most zero why nay = refl
+      is_last most (suc count) (Left program.Chained) nay = absurd (nay tt)
+      is_last most (suc count) (Left program.Ended) nay = refl
+      is_last most (suc count) (Left (program.Stopped q)) nay = refl
+      is_last most (suc count) (Left (program.StoppedInside home)) nay = refl
+      is_last most (suc count) (Faulted fault) nay = refl
+      is_last most (suc count) (Halted halt) nay = refl
+      is_last most (suc count) Gone nay = refl
+
+  -- a run that takes a unit before it chains
+  after_alike : (count count' n : ℕ) (p : Program) (s : Session Position) (m m' : program.Deed Position Coming) → ((k : ℕ) (why : Break (program.Leaving Position)) (j : Job Position) → k < n → Alike k (ended judge most count p s why j) (ended judge more count' p s why j)) → SpendsFirst m → Alike n m m'
+      → Alike n (run_to (ended judge most count) p s m) (run_to (ended judge more count') p s m')
+  after_alike count count' n p s m m' f spends e =
+      spends_alike n (ended judge most count p s) (ended judge more count' p s) s m m' (λ k why j nay. last_alike count count' k p s why j nay) f spends e
+
+  -- as long as chains and statements are more than units
+  ended_alike : (count count' k : ℕ) (p : Program) (s : Session Position) (why : Break (program.Leaving Position)) (j : Job Position) → k < most → k < more → k < count → k < count' → Alike k (ended judge most count p s why j) (ended judge more count' p s why j)
+  ended_alike zero count' k p s why j lt lt' few few' = absurd (omega (arith, few))
+  ended_alike (suc count) zero k p s why j lt lt' few few' = absurd (omega (arith, few'))
+  ended_alike (suc count) (suc count') k p s why j lt lt' few few' =
+      behind_alike k most more (run_to (ended judge most count)) (run_to (ended judge more count'))
+      (λ l p line s le. after_alike count count' l p s _ _ (λ i why j less. ended_alike count count' i p s why j (omega (arith, lt, le, less)) (omega (arith, lt', le, less)) (omega (arith, few, le, less)) (omega (arith, few', le, less)))
+      (cleared_spends p most line s.job) (cleared_enough p most more l line s.job (omega (arith, lt, le)) (omega (arith, lt', le))))
+      judge (λ number j. run_to (ended judge most count) p s (raises p most number j)) (λ number j. run_to (ended judge more count') p s (raises p more number j)) (run_is_over s)
+      (λ l number j le. after_alike count count' l p s _ _ (λ i why j less. ended_alike count count' i p s why j (omega (arith, lt, le, less)) (omega (arith, lt', le, less)) (omega (arith, few, le, less)) (omega (arith, few', le, less)))
+      (raises_spend p most number j) (raises_enough p most more l number j (omega (arith, lt, le)) (omega (arith, lt', le))))
+      k s why j (omega arith)
+
+  chains_alike : (n : ℕ) (p : Program) (s : Session Position) (m m' : program.Deed Position Coming) → n < most → n < more → Alike n m m' → Alike n (chains judge most most p s m) (chains judge more more p s m')
+  chains_alike n p s m m' lt lt' e = in_session_alike n (ended judge most most p s) (ended judge more more p s) s m m' (λ k why j le. ended_alike most more k p s why j (omega (arith, lt, le)) (omega (arith, lt', le)) (omega (arith, lt, le)) (omega (arith, lt', le))) e
+
+  first_alike : (n : ℕ) (p : Program) (line : Option ℕ) (s : Session Position) → n < most → n < more → Alike n (chains judge most most p s (runs_cleared p most line s.job)) (chains judge more more p s (runs_cleared p more line s.job))
+  first_alike n p line s lt lt' = chains_alike n p s _ _ lt lt' (cleared_enough p most more n line s.job lt lt')
+
+  line_ended_alike : (n : ℕ) (s : Session Position) (why : Break (program.Leaving Position)) (j : Job Position) → n < most → n < more → Alike n (line_ended judge most s why j) (line_ended judge more s why j)
+  line_ended_alike n s why j lt lt' =
+      behind_alike n most more (chains judge most most) (chains judge more more) (λ k p line s le. first_alike k p line s (omega (arith, lt, le)) (omega (arith, lt', le)))
+      judge (λ number j. Gives tt (reported s (Faulted number) j)) (λ number j. Gives tt (reported s (Faulted number) j)) (reported s) (λ k number j le. same k _)
+      n s why j (omega arith)
+
+-- COMMANDS
 
 module _ (judge : Judge) (n most more : ℕ) (less : n < most) (less' : n < more) where
+  all_alike : (p : Program) (s : Session Position) → Alike n (runs_all judge p most s) (runs_all judge p more s)
+  all_alike p s = runs_alike n most more (chains judge most most) (chains judge more more) (λ k p line s le. first_alike judge most more k p line s (omega (arith, le, less)) (omega (arith, le, less'))) n p None s (omega arith)
+
   open_alike : (p : Program) (way : program.Leaving Position) (j : Job Position) → Alike n (continues_open p most way j) (continues_open p more way j)
   open_alike p program.Ended j = same n _
+  open_alike p program.Chained j = same n _
   open_alike p (program.Stopped q) j = bounds_enough_from p most more n (Behind q) (runs_at (home_of p q.statement) j) less less'
   open_alike p (program.StoppedInside home) j = bounds_enough_from p most more n (At (whole home.behind)) j less less'
 
   continues_alike : (p : Program) (way : program.Leaving Position) (j : Job Position) → Alike n (continues p most way j) (continues p more way j)
   continues_alike p way j = ends_closed_alike n (continues_open p most way j) (continues_open p more way j) (open_alike p way j)
 
-  on_alike : (p : Program) (stop : Option (program.Leaving Position)) (s : Session Position) → Alike n (goes_on p most stop s) (goes_on p more stop s)
+  on_alike : (p : Program) (stop : Option (program.Leaving Position)) (s : Session Position) → Alike n (goes_on judge p most stop s) (goes_on judge p more stop s)
   on_alike p None s = same n _
-  on_alike p (Some stop) s = outlives_alike n (run_is_over s) s _ _ (continues_alike p stop s.job)
+  on_alike p (Some stop) s = chains_alike judge most more n p s _ _ less less' (continues_alike p stop s.job)
 
-  now_alike : (o : Option LowerRefusal) (statements : List StatementTree) (s : Session Position) → Alike n (line_unless o statements most s) (line_unless o statements more s)
+  now_alike : (o : Option LowerRefusal) (statements : List StatementTree) (s : Session Position) → Alike n (line_unless judge o statements most s) (line_unless judge o statements more s)
   now_alike (Some refusal) statements s = same n _
   now_alike None statements s =
       let alone = line_alone statements in
-      outlives_alike n (reported s) s _ _
+      in_session_alike n (line_ended judge most s) (line_ended judge more s) s _ _ (λ k why j le. line_ended_alike judge most more k s why j (omega (arith, le, less)) (omega (arith, le, less')))
       (over_alike n (λ way. way) (together s.job) _ _ (bounds_enough_from alone most more n (At (whole 0)) (apart alone s.job) less less'))
 
   line_alike : (b : Bool) (statements : List StatementTree) (m : Step Position) (s : Session Position)
-      → Alike n (if b then line_unless (refusal_now statements) statements most s else m) (if b then line_unless (refusal_now statements) statements more s else m)
+      → Alike n (if b then line_unless judge (refusal_now statements) statements most s else m) (if b then line_unless judge (refusal_now statements) statements more s else m)
   line_alike true statements m s = now_alike (refusal_now statements) statements s
   line_alike false statements m s = same n m
 
-  immediate_alike : (verdict : Verdict) (s : Session Position) → Alike n (immediate verdict most s) (immediate verdict more s)
+  immediate_alike : (verdict : Verdict) (s : Session Position) → Alike n (immediate judge verdict most s) (immediate judge verdict more s)
   immediate_alike (RefusedFor cause) s = same n _
   immediate_alike (HasTree tree) s = line_alike (are_in_stage (line_statements tree)) (line_statements tree) (answered not_in_stage s) s
 
   runs_loaded_alike : (name : List ℕ) (o : Option Lines) (s : Session Position) → Alike n (runs_loaded judge most name o s) (runs_loaded judge more name o s)
   runs_loaded_alike name None s = same n _
-  runs_loaded_alike name (Some lines) s = runs_alike n most more less less' (program_by judge lines) (loaded name lines s)
+  runs_loaded_alike name (Some lines) s = all_alike (program_by judge lines) (loaded name lines s)
 
 module _ (judge : Judge) (n most more : ℕ) (less : n < most) (less' : n < more) where
   by_name_alike : (named : Result Spec ℕ) (s : Session Position) → Alike n (by_name named (reads_and_runs judge most) s) (by_name named (reads_and_runs judge more) s)
@@ -112,7 +224,7 @@ module _ (judge : Judge) (n most more : ℕ) (less : n < most) (less' : n < more
 
   user_alike : (own : Account) (command : Command) (s : Session Position) → Alike n (user_acts judge most own command s) (user_acts judge more own command s)
   user_alike own (RunFile tail) s = file_alike (is_blank_text tail) (answered illegal_command s) (spec_read own tail) s
-  user_alike own (Run with_name) s = runs_alike n most more less less' (program_by judge s.lines) (headed with_name s)
+  user_alike own (Run with_name) s = all_alike judge n most more less less' (program_by judge s.lines) (headed with_name s)
   user_alike own Continue s = on_alike judge n most more less less' (program_by judge s.lines) s.stop s
   user_alike own (Immediate statement) s = immediate_alike judge n most more less less' (judge statement) s
   user_alike own command s = same n _

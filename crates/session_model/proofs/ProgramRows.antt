@@ -21,7 +21,7 @@ use Rattle.monitor_calls.specs.declared.calls.Request.TheVariants.{Tick}
 use Rattle.monitor_calls.specs.declared.calls.Reply.TheVariants.{Expired}
 use Rattle.job_model.specs.Play.{at_start, End, Gave, Broke, Finished, Waits, Spent, Outcome, play}
 use Rattle.program_model.specs.Program.{Program, Position}
-use Rattle.program_model.specs.Job.{Job, Leaving}
+use Rattle.program_model.specs.Job.{no_destination, Job, Leaving}
 use Rattle.program_model.specs.Running.{Coming, no_home, runs_whole, runs_line, continues}
 use Rattle.program_model.specs.Reports.{ended_screen}
 
@@ -54,6 +54,7 @@ new_job keys = record {
   line = 0;
   home = no_home;
   frames = [];
+  destination = no_destination;
 }
 
 abbrev shown_at : Outcome (End (Leaving Position) (Job Position) Coming) → List ℕ

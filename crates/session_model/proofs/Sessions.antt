@@ -11,6 +11,7 @@ use Rattle.basic_tree.specs.SpellingStatements.{line_statements}
 use Rattle.basic_tree.specs.Trees.{StatementTree}
 use Rattle.job_model.specs.Act.{Act, Gives, Breaks, Asks, Takes, ◌then◌, Break, Faulted, Halted, Gone, Left}
 use Rattle.job_model.specs.Asking.{counts_as}
+use Rattle.job_model.specs.Ends.{at_ends}
 use Rattle.file_names.specs.declared.spec.Spec.{Spec}
 use Rattle.basic_tree.specs.ProgramLines.{Lines}
 use Rattle.basic_values.specs.declared.limits.TheConstants.{MOST_FILES}
@@ -23,19 +24,20 @@ use Rattle.program_model.specs.Job as program
 use Rattle.program_model.specs.Job.{Job}
 use Rattle.program_model.specs.Storage.{in_storage}
 use Rattle.program_model.specs.FileActs.{shut_act}
-use Rattle.program_model.specs.Soundness.{refusal_of, refusal_now}
+use Rattle.program_model.specs.Running.{Coming, raises}
+use Rattle.program_model.specs.Soundness.{can_begin, refusal_of, refusal_now}
 use Rattle.stage_forms.specs.Stage.{are_in_stage}
 use Rattle.session_model.specs.Commands.{Login, Naming, Nameless, Named, Misnamed, Range, Command, Hello, Bye, New, Rename, ListLines, Delete, Run, RunFile, Continue, Old, Save, Unsave, Catalog, Cataloging, OfOwn, OfAccount, OfNone, Numbered, Immediate, command_of}
 use Rattle.session_model.specs.Editing.{Edited, Accepted, Refused, edited}
 use Rattle.session_model.specs.ProgramFiles.{spec_read, spec_or_own, is_blank_text, saved_pages, program_on}
 use Rattle.session_model.specs.Texts.{not_in_stage}
-use Rattle.session_model.specs.Talk.{Session, Step, answered, says, keys_are, entered, hello, leave, no_name, named, emptied, begins_new, renames, headed, lists, deletes, takes_edit, broken_off, tried, with_storage, shut_down, by_name, with_name_of, loaded, loads, reads_old, old, saves_as, saves, kills_file, unsaves, with_screen, catalogs_of, catalogs, rests, runs_loaded, reads_and_runs, runs_file, program_by, outlived, outlives, reported, run_is_over, runs_unless, begun, runs, goes_on, line_unless, immediate, visitor_acts, user_acts, acts, line_acts, with_next, session, opening}
+use Rattle.session_model.specs.Talk.{Session, Step, answered, says, keys_are, entered, hello, leave, no_name, named, emptied, begins_new, renames, headed, lists, deletes, takes_edit, broken_off, tried, with_storage, shut_down, by_name, with_name_of, loaded, loads, reads_old, old, saves_as, saves, kills_file, unsaves, with_screen, catalogs_of, catalogs, rests, runs_loaded, reads_and_runs, runs_file, program_by, outlived, with_job, reported, Runs, in_session, run_is_over, runs_there, runs_unless, runs_shut, begun, runs, chains_to, unread, reads_program, follows_chain, behind_end, run_to, ended, chains, runs_all, goes_on, line_ended, line_unless, immediate, visitor_acts, user_acts, acts, line_acts, with_next, session, opening}
 use Rattle.job_model.specs.Texts.{line_end}
 use Rattle.job_model.specs.Follow.{Path, here, asked, quiet, tick, gone}
 use Rattle.job_model.specs.Play.{Clock}
 use Rattle.monitor_calls.specs.Pairs.{Pair}
 use Rattle.session_model.specs.TalkLaws.{KeysAreEnough}
-use Rattle.session_model.proofs.Shrinking.{Fewer, Few, cleared_few, continues_few, line_runs_few}
+use Rattle.session_model.proofs.Shrinking.{Fewer, Few, cleared_few, raises_few, continues_few, line_runs_few}
 
 -- where it gives something no more keys are left
 abbrev pub Keeps : {R : Type 0} → ℕ → Step R → Type 0
@@ -158,56 +160,111 @@ module _ {R : Type 0} (n : ℕ) where
   outlived_keeps over s f (Halted halt) j h = f (Halted halt) j h
   outlived_keeps over s f (Left way) j h = f (Left way) j h
 
-  outlives_keeps : {A : Type 0} (over : Break (program.Leaving R) → Job R → Session R) (s : Session R) → ((why : Break (program.Leaving R)) (j : Job R) → Fewer n j → Fewer n (over why j).job)
-      → (m : program.Deed R A) → Few n m → Keeps n (outlives over s m)
-  outlives_keeps over s f (Gives a j) h = f (Left program.Ended) j h
-  outlives_keeps over s f (Breaks why j) h = outlived_keeps over s f why j h
-  outlives_keeps over s f (Asks r by) h = λ x. outlives_keeps over s f (by x) (h x)
-  outlives_keeps over s f (Takes j rest) h = outlives_keeps over s f rest h.1
+  in_session_keeps : {A : Type 0} (ended : Break (program.Leaving R) → Job R → Step R) (s : Session R) → ((why : Break (program.Leaving R)) (j : Job R) → Fewer n j → Keeps n (ended why j))
+      → (m : program.Deed R A) → Few n m → Keeps n (in_session ended s m)
+  in_session_keeps ended s f (Gives a j) h = f (Left program.Ended) j h
+  in_session_keeps ended s f (Breaks why j) h = f why j h
+  in_session_keeps ended s f (Asks r by) h = λ x. in_session_keeps ended s f (by x) (h x)
+  in_session_keeps ended s f (Takes j rest) h = in_session_keeps ended s f rest h.1
 
-module _ (n : ℕ) where
-  unless_keeps : (o : Option LowerRefusal) (p : Program) (most : ℕ) (s : Session Position) → Fewer n s.job → Keeps n (runs_unless o p most s)
-  unless_keeps (Some refusal) p most s h = h
-  unless_keeps None p most s h = outlives_keeps n (run_is_over s) s (λ why j g. g) _ (cleared_few n p most s.job h)
+  ends_keep : {P A : Type 0} (put : P → Session R) (given : A → P → Step R) (broken : Break ⊥ → P → Step R) → ((a : A) (p : P) → Keeps n (given a p)) → ((why : Break ⊥) (p : P) → Keeps n (broken why p)) → (act : Act ⊥ P A) → Keeps n (at_ends put given broken act)
+  ends_keep put given broken f g (Gives a p) = f a p
+  ends_keep put given broken f g (Breaks why p) = g why p
+  ends_keep put given broken f g (Asks r by) = λ x. ends_keep put given broken f g (by x)
+  ends_keep put given broken f g (Takes p rest) = ends_keep put given broken f g rest
 
-  runs_keeps : (p : Program) (most : ℕ) (s : Session Position) → Fewer n s.job → Keeps n (runs p most s)
-  runs_keeps p most s h = shut_keeps n (λ s. runs_unless (refusal_of p) p most (begun p s)) s h (λ s g. unless_keeps (refusal_of p) p most (begun p s) g)
+-- how a program begins, and what a chain leads to
+module _ (n : ℕ) (run : Runs) (run_keeps : (p : Program) (s : Session Position) (m : program.Deed Position Coming) → Few n m → Keeps n (run p s m)) where
+  there_keeps : (p : Program) (most : ℕ) (line : Option ℕ) (b : Bool) (s : Session Position) → Fewer n s.job → Keeps n (runs_there run p most line b s)
+  there_keeps p most line true s h = run_keeps p s _ (cleared_few n p most line s.job h)
+  there_keeps p most line false s h = h
 
-  on_keeps : (p : Program) (most : ℕ) (stop : Option (program.Leaving Position)) (s : Session Position) → Fewer n s.job → Keeps n (goes_on p most stop s)
+  unless_keeps : (o : Option LowerRefusal) (p : Program) (most : ℕ) (line : Option ℕ) (s : Session Position) → Fewer n s.job → Keeps n (runs_unless run o p most line s)
+  unless_keeps (Some refusal) p most line s h = h
+  unless_keeps None p most line s h = there_keeps p most line (can_begin p line) s h
+
+  runs_keeps : (p : Program) (most : ℕ) (line : Option ℕ) (s : Session Position) → Fewer n s.job → Keeps n (runs run p most line s)
+  runs_keeps p most line s h = shut_keeps n (runs_shut run p most line) s h (λ s g. unless_keeps (refusal_of p) p most line (begun p s) g)
+
+  module _ (judge : Judge) (faulted : ℕ → Job Position → Step Position) (most : ℕ) (over : Break (program.Leaving Position) → Job Position → Session Position)
+      (faulted_keeps : (number : ℕ) (j : Job Position) → Fewer n j → Keeps n (faulted number j))
+      (over_keeps : (why : Break (program.Leaving Position)) (j : Job Position) → Fewer n j → Fewer n (over why j).job) where
+    chain_keeps : (read : List ℕ × Lines) (s : Session Position) → Fewer n s.job → Keeps n (chains_to judge run most read s)
+    chain_keeps (name, lines) s h = runs_keeps (program_by judge lines) most s.job.destination.line (loaded name lines s) h
+
+    unread_keeps : (why : Break ⊥) (s : Session Position) (j : Job Position) → Fewer n j → Keeps n (unread faulted over why s j)
+    unread_keeps (Faulted number) s j h = faulted_keeps number j h
+    unread_keeps (Halted halt) s j h = over_keeps (Halted halt) j h
+    unread_keeps Gone s j h = tt
+    unread_keeps (Left none) s j h = absurd none
+
+    follows_keeps : (s : Session Position) (j : Job Position) → Fewer n j → Keeps n (follows_chain judge run faulted most over s j)
+    follows_keeps s j h = ends_keep n (λ _. with_job j s) _ _ (λ read p. chain_keeps read (with_job j s) h) (λ why p. unread_keeps why s j h) (reads_program judge j.account j.destination.name)
+
+    pub behind_keeps : (s : Session Position) (why : Break (program.Leaving Position)) (j : Job Position) → Fewer n j → Keeps n (behind_end judge run faulted most over s why j)
+    behind_keeps s (Left program.Chained) j h = follows_keeps s j h
+    behind_keeps s (Left program.Ended) j h = over_keeps (Left program.Ended) j h
+    behind_keeps s (Left (program.Stopped q)) j h = over_keeps (Left (program.Stopped q)) j h
+    behind_keeps s (Left (program.StoppedInside home)) j h = over_keeps (Left (program.StoppedInside home)) j h
+    behind_keeps s (Faulted fault) j h = over_keeps (Faulted fault) j h
+    behind_keeps s (Halted halt) j h = over_keeps (Halted halt) j h
+    behind_keeps s Gone j h = tt
+
+module _ (n : ℕ) (judge : Judge) where
+  ended_keeps : (count most : ℕ) (p : Program) (s : Session Position) (why : Break (program.Leaving Position)) (j : Job Position) → Fewer n j → Keeps n (ended judge most count p s why j)
+  ended_keeps zero most p s why j h = outlived_keeps n (run_is_over s) s (λ why j g. g) why j h
+  ended_keeps (suc count) most p s why j h =
+      behind_keeps n (run_to (ended judge most count)) (λ p s m few. in_session_keeps n (ended judge most count p s) s (λ why j g. ended_keeps count most p s why j g) m few)
+      judge (λ number j. run_to (ended judge most count) p s (raises p most number j)) most (run_is_over s)
+      (λ number j g. in_session_keeps n (ended judge most count p s) s (λ why j g. ended_keeps count most p s why j g) _ (raises_few n p most number j g))
+      (λ why j g. g) s why j h
+
+  chains_keep : (most : ℕ) (p : Program) (s : Session Position) (m : program.Deed Position Coming) → Few n m → Keeps n (chains judge most most p s m)
+  chains_keep most p s m few = in_session_keeps n (ended judge most most p s) s (λ why j g. ended_keeps most most p s why j g) m few
+
+  all_keep : (p : Program) (most : ℕ) (s : Session Position) → Fewer n s.job → Keeps n (runs_all judge p most s)
+  all_keep p most s h = runs_keeps n (chains judge most most) (λ p s m few. chains_keep most p s m few) p most None s h
+
+  on_keeps : (p : Program) (most : ℕ) (stop : Option (program.Leaving Position)) (s : Session Position) → Fewer n s.job → Keeps n (goes_on judge p most stop s)
   on_keeps p most None s h = h
-  on_keeps p most (Some stop) s h = outlives_keeps n (run_is_over s) s (λ why j g. g) _ (continues_few n p most stop s.job h)
+  on_keeps p most (Some stop) s h = chains_keep most p s _ (continues_few n p most stop s.job h)
 
-  now_keeps : (o : Option LowerRefusal) (statements : List StatementTree) (most : ℕ) (s : Session Position) → Fewer n s.job → Keeps n (line_unless o statements most s)
+  line_ended_keeps : (most : ℕ) (s : Session Position) (why : Break (program.Leaving Position)) (j : Job Position) → Fewer n j → Keeps n (line_ended judge most s why j)
+  line_ended_keeps most s why j h =
+      behind_keeps n (chains judge most most) (λ p s m few. chains_keep most p s m few)
+      judge (λ number j. Gives tt (reported s (Faulted number) j)) most (reported s) (λ number j g. g) (λ why j g. g) s why j h
+
+  now_keeps : (o : Option LowerRefusal) (statements : List StatementTree) (most : ℕ) (s : Session Position) → Fewer n s.job → Keeps n (line_unless judge o statements most s)
   now_keeps (Some refusal) statements most s h = h
-  now_keeps None statements most s h = outlives_keeps n (reported s) s (λ why j g. g) _ (line_runs_few n statements most s.job h)
+  now_keeps None statements most s h = in_session_keeps n (line_ended judge most s) s (λ why j g. line_ended_keeps most s why j g) _ (line_runs_few n statements most s.job h)
 
   if_keeps : (b : Bool) (m m' : Step Position) → Keeps n m → Keeps n m' → Keeps n (if b then m else m')
   if_keeps true m m' h g = h
   if_keeps false m m' h g = g
 
-  immediate_keeps : (verdict : Verdict) (most : ℕ) (s : Session Position) → Fewer n s.job → Keeps n (immediate verdict most s)
+  immediate_keeps : (verdict : Verdict) (most : ℕ) (s : Session Position) → Fewer n s.job → Keeps n (immediate judge verdict most s)
   immediate_keeps (RefusedFor cause) most s h = h
   immediate_keeps (HasTree tree) most s h =
-      if_keeps (are_in_stage (line_statements tree)) (line_unless (refusal_now (line_statements tree)) (line_statements tree) most s) (answered not_in_stage s) (now_keeps (refusal_now (line_statements tree)) (line_statements tree) most s h) h
+      if_keeps (are_in_stage (line_statements tree)) (line_unless judge (refusal_now (line_statements tree)) (line_statements tree) most s) (answered not_in_stage s) (now_keeps (refusal_now (line_statements tree)) (line_statements tree) most s h) h
 
-  runs_loaded_keeps : (judge : Judge) (most : ℕ) (name : List ℕ) (o : Option Lines) (s : Session Position) → Fewer n s.job → Keeps n (runs_loaded judge most name o s)
-  runs_loaded_keeps judge most name None s h = h
-  runs_loaded_keeps judge most name (Some lines) s h = runs_keeps (program_by judge lines) most (loaded name lines s) h
+  runs_loaded_keeps : (most : ℕ) (name : List ℕ) (o : Option Lines) (s : Session Position) → Fewer n s.job → Keeps n (runs_loaded judge most name o s)
+  runs_loaded_keeps most name None s h = h
+  runs_loaded_keeps most name (Some lines) s h = all_keep (program_by judge lines) most (loaded name lines s) h
 
-  runs_file_keeps : (judge : Judge) (most : ℕ) (own : Account) (tail : List ℕ) (s : Session Position) → Fewer n s.job → Keeps n (runs_file judge most own tail s)
-  runs_file_keeps judge most own tail s h =
-      with_name_keeps n own tail (reads_and_runs judge most) s h (λ spec. tried_keeps n (λ _. s) (λ pages s. runs_loaded judge most spec.name.stem (program_on judge pages) s) (reads_pages spec.name spec.code) (λ _. h) (λ pages s g. runs_loaded_keeps judge most spec.name.stem (program_on judge pages) s g))
+  runs_file_keeps : (most : ℕ) (own : Account) (tail : List ℕ) (s : Session Position) → Fewer n s.job → Keeps n (runs_file judge most own tail s)
+  runs_file_keeps most own tail s h =
+      with_name_keeps n own tail (reads_and_runs judge most) s h (λ spec. tried_keeps n (λ _. s) (λ pages s. runs_loaded judge most spec.name.stem (program_on judge pages) s) (reads_pages spec.name spec.code) (λ _. h) (λ pages s g. runs_loaded_keeps most spec.name.stem (program_on judge pages) s g))
 
-  user_keeps : (judge : Judge) (most : ℕ) (own : Account) (command : Command) (s : Session Position) → Fewer n s.job → Keeps n (user_acts judge most own command s)
-  user_keeps judge most own (Run with_name) s h = runs_keeps (program_by judge s.lines) most (headed with_name s) (headed_keeps n with_name s h)
-  user_keeps judge most own (RunFile tail) s h = runs_file_keeps judge most own tail s h
-  user_keeps judge most own Continue s h = on_keeps (program_by judge s.lines) most s.stop s h
-  user_keeps judge most own (Immediate statement) s h = immediate_keeps (judge statement) most s h
-  user_keeps judge most own command s h = rests_keeps n judge own command s h
+  user_keeps : (most : ℕ) (own : Account) (command : Command) (s : Session Position) → Fewer n s.job → Keeps n (user_acts judge most own command s)
+  user_keeps most own (Run with_name) s h = all_keep (program_by judge s.lines) most (headed with_name s) (headed_keeps n with_name s h)
+  user_keeps most own (RunFile tail) s h = runs_file_keeps most own tail s h
+  user_keeps most own Continue s h = on_keeps (program_by judge s.lines) most s.stop s h
+  user_keeps most own (Immediate statement) s h = immediate_keeps (judge statement) most s h
+  user_keeps most own command s h = rests_keeps n judge own command s h
 
-  acts_keep : (judge : Judge) (most : ℕ) (account : Option Account) (command : Command) (s : Session Position) → Fewer n s.job → Keeps n (acts judge most account command s)
-  acts_keep judge most None command s h = visitor_keeps n command s h
-  acts_keep judge most (Some account) command s h = user_keeps judge most account command s h
+  acts_keep : (most : ℕ) (account : Option Account) (command : Command) (s : Session Position) → Fewer n s.job → Keeps n (acts judge most account command s)
+  acts_keep most None command s h = visitor_keeps n command s h
+  acts_keep most (Some account) command s h = user_keeps most account command s h
 
 pub line_keeps : (n : ℕ) (judge : Judge) (most : ℕ) (line : List ℕ) (s : Session Position) → Fewer n s.job → Keeps n (line_acts judge most line s)
 line_keeps n judge most line s h = acts_keep n judge most s.account (command_of line) (says (line ++ line_end) s) h

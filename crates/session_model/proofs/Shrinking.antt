@@ -24,7 +24,7 @@ use Rattle.program_model.specs.Program.{Program, Position, whole, shapes_in}
 use Rattle.program_model.specs.declared.values.Value.{Value}
 use Rattle.program_model.specs.declared.values.Value.TheVariants.{Number, Text}
 use Rattle.program_model.specs.declared.values.Frame.{Frame}
-use Rattle.program_model.specs.Job.{Job, Leaving, Ended, Stopped, StoppedInside, Deed, text_made, or_fault, number, text}
+use Rattle.program_model.specs.Job.{Job, Leaving, Ended, Stopped, StoppedInside, Chained, Deed, text_made, or_fault, number, text}
 use Rattle.program_model.specs.Operators.{gives_number, sum_of, operated}
 use Rattle.program_model.specs.Functions.{applied, number_at, text_at}
 use Rattle.program_model.specs.OnChannels.{is_terminal, column_on}
@@ -41,13 +41,13 @@ use Rattle.program_model.specs.Items.{items_in_line, item_value}
 use Rattle.program_model.specs.Variables.{held, element, second, content_of, remembered, stored, stored_at, dimensioned}
 use Rattle.program_model.specs.Storage.{Storage, StorageAct, in_storage, stores_by}
 use Rattle.program_model.specs.FileActs.{act_by, shut_act}
-use Rattle.program_model.specs.Control.{Onward, At, Behind, chosen, on_chosen, kept, returned, base_of, runs_at, home_of}
+use Rattle.program_model.specs.Control.{Onward, At, Behind, at_line, chosen, on_chosen, kept, returned, base_of, runs_at, home_of}
 use Rattle.program_model.specs.Loops.{is_past, opened, turned, next_turn, limit_and_step}
 use Rattle.program_model.specs.DataItems.{item_taken}
 use Rattle.program_model.specs.Input.{line_taken, line_asked, enough, line_act, line_on}
 use Rattle.program_model.specs.Calls.{entered, arguments_stored, leaving, called, most_calls}
 use Rattle.program_model.specs.Traps.{handled, caught, trapped, left_to, leads_back}
-use Rattle.program_model.specs.Running.{runs_from, dimension_all, dimension_in, dimension_program, ends_closed, runs_open, runs_cleared, continues_open, continues, runs_line, line_alone, apart, together}
+use Rattle.program_model.specs.Running.{runs_from, dimension_all, dimension_in, dimension_program, ends_closed, begins_with, runs_open, runs_cleared, raises_open, raises, continues_open, continues, runs_line, line_alone, apart, together}
 use Rattle.polish_code.specs.declared.items.Item.{Item}
 use Rattle.polish_code.specs.declared.items.Item.TheVariants as item
 use Rattle.polish_code.specs.Walk.{Spot, Setting, Code, Move, Pass, To, Away, taken, operand_count, setting_of, item_act, top, by_turn, pushed, goes, opens, led, walk, onward, started, starts, one_turn, turns, turns_from}
@@ -136,6 +136,7 @@ module _ {R : Type 0} (n : ℕ) where
   ends_closed_few (Breaks (Left Ended) j) h = few_then (stores_by shut_act j) _ (storage_few shut_act j h) (λ a k g. g)
   ends_closed_few (Breaks (Left (Stopped q)) j) h = h
   ends_closed_few (Breaks (Left (StoppedInside home)) j) h = h
+  ends_closed_few (Breaks (Left Chained) j) h = h
   ends_closed_few (Asks r by) h = λ x. ends_closed_few (by x) (h x)
   ends_closed_few (Takes j rest) h = (h.0, ends_closed_few rest h.1)
 
@@ -365,12 +366,18 @@ from_few n program most o j h =
     raised_few n program _ (runs_from program most o j)
     (subst (Few n) (code_goes_on program most o j) (turns_from_few n (coded program) most (place_onward program o) (lowered program j) h))
 
-pub cleared_few : (n : ℕ) (program : Program) (most : ℕ) (j : Job Position) → Fewer n j → Few n (runs_cleared program most j)
-cleared_few n program most j h =
-    ends_closed_few n (runs_open program most j) (few_then n (dimension_program program j) _ (dimension_few n program j h) (λ a k g. from_few n program most (At (whole 0)) k g))
+pub cleared_few : (n : ℕ) (program : Program) (most : ℕ) (line : Option ℕ) (j : Job Position) → Fewer n j → Few n (runs_cleared program most line j)
+cleared_few n program most line j h =
+    ends_closed_few n (runs_open program most line j) (few_then n (dimension_program program j) _ (dimension_few n program j h) (λ a k g. from_few n program most (At (whole (begins_with program line))) k g))
+
+pub raises_few : (n : ℕ) (program : Program) (most fault : ℕ) (j : Job Position) → Fewer n j → Few n (raises program most fault j)
+raises_few n program most fault j h =
+    ends_closed_few n (raises_open program most fault j)
+    (few_then n (trapped (at_line program) (Breaks (Faulted fault) j)) _ (trapped_few n (at_line program) (Breaks (Faulted fault) j) h) (λ o k g. from_few n program most o k g))
 
 open_few : (n : ℕ) (program : Program) (most : ℕ) (way : Leaving Position) (j : Job Position) → Fewer n j → Few n (continues_open program most way j)
 open_few n program most Ended j h = h
+open_few n program most Chained j h = h
 open_few n program most (Stopped q) j h = from_few n program most (Behind q) (runs_at (home_of program q.statement) j) h
 open_few n program most (StoppedInside home) j h = from_few n program most (At (whole home.behind)) j h
 

@@ -2,6 +2,7 @@
 -- keys and the replies. A judge says of each line that is a statement which tree the grammar has for
 -- it, or why it refuses it.
 use Rattle.std.specs.Prelude.{◌≡◌, ℕ, zero, suc, Bool, true, false, if◌then◌else◌, List, [], ◌∷◌, ◌++◌, length, map, replicate, Option, Some, None, Result, Ok, Err, codes}
+use Rattle.std.specs.Option.{unwrap_or}
 use Rattle.basic_values.specs.declared.errors.TheConstants.{DATA_FORMAT_ERROR}
 use Rattle.basic_values.specs.declared.limits.TheConstants.{LAST_CHANNEL}
 use Rattle.monitor_calls.specs.declared.names.Account.{Account}
@@ -28,17 +29,19 @@ use Rattle.basic_values.specs.declared.limits.TheConstants.{MOST_FILES}
 use Rattle.program_files.specs.Catalogs.{catalog_from}
 use Rattle.program_files.specs.Channels.{FileAct, kills}
 use Rattle.program_files.specs.Programs.{reads_pages, writes_pages}
+use Rattle.program_model.specs.declared.refusals.LowerCause.TheVariants.{NoLine}
 use Rattle.program_model.specs.declared.refusals.LowerRefusal.{LowerRefusal}
 use Rattle.program_model.specs.Program.{Program, Position}
 use Rattle.program_model.specs.Job.{Job}
 use Rattle.program_model.specs.Job as program
+use Rattle.program_model.specs.Control.{Doing}
 use Rattle.program_model.specs.Printing.{written}
 use Rattle.program_model.specs.Reports.{ended_screen}
 use Rattle.channels.specs.Files.{closed_channel}
 use Rattle.program_model.specs.Storage.{Storage, in_storage}
 use Rattle.program_model.specs.FileActs.{shut_act}
-use Rattle.program_model.specs.Running.{no_home, cleared, runs_cleared, continues, runs_line}
-use Rattle.program_model.specs.Soundness.{refusal_of, refusal_now}
+use Rattle.program_model.specs.Running.{Coming, no_home, cleared, runs_cleared, raises, continues, runs_line}
+use Rattle.program_model.specs.Soundness.{can_begin, refusal_of, refusal_now}
 use Rattle.stage_forms.specs.Stage.{are_in_stage}
 use Rattle.terminal_line.specs.Columns.{column_of, fresh_text}
 use Rattle.session_model.specs.Editing.{Edited, Accepted, Refused, edited}
@@ -266,11 +269,9 @@ abbrev pub outlived : {R : Type 0} → (Break (program.Leaving R) → Job R → 
 outlived over s Gone j = Breaks Gone (with_job j s)
 outlived over s why j = Gives tt (over why j)
 
-abbrev pub outlives : {R A : Type 0} → (Break (program.Leaving R) → Job R → Session R) → Session R → program.Deed R A → Step R
-outlives over s (Gives value j) = Gives tt (over (Left program.Ended) j)
-outlives over s (Breaks why j) = outlived over s why j
-outlives over s (Asks request by) = Asks request (λ reply. outlives over s (by reply))
-outlives over s (Takes j rest) = Takes (with_job j s) (outlives over s rest)
+-- what a program does in a session, with what is done at its end
+abbrev pub in_session : {R A : Type 0} → (Break (program.Leaving R) → Job R → Step R) → Session R → program.Deed R A → Step R
+in_session ended s act = at_ends (λ j. with_job j s) (λ value j. ended (Left program.Ended) j) ended act
 
 -- what is written at its end, and Ready
 abbrev pub reported : {R : Type 0} → Session R → Break (program.Leaving R) → Job R → Session R
@@ -278,32 +279,103 @@ reported s why j = is_ready (with_job (record j { screen = ended_screen why j })
 
 -- a STOP is kept for CONT, and no other end
 abbrev pub stop_by : {R : Type 0} → Break (program.Leaving R) → Option (program.Leaving R)
-stop_by (Left program.Ended) = None
-stop_by (Left stop) = Some stop
+stop_by (Left (program.Stopped place)) = Some (program.Stopped place)
+stop_by (Left (program.StoppedInside home)) = Some (program.StoppedInside home)
 stop_by why = None
 
 abbrev pub run_is_over : {R : Type 0} → Session R → Break (program.Leaving R) → Job R → Session R
 run_is_over s why j = record (reported s why j) { stop = stop_by why }
 
--- RUN: what is refused before it runs leaves the memory cleared
-abbrev pub runs_unless : Option LowerRefusal → Program → ℕ → Session Position → Step Position
-runs_unless (Some refusal) program most s = answered (lowering_text refusal) s
-runs_unless None program most s = outlives (run_is_over s) s (runs_cleared program most s.job)
+-- HOW A PROGRAM BEGINS, at a line that is wanted or at its first
+
+-- how the run of a program is done in a session
+abbrev pub Runs : Type 0
+Runs = Program → Session Position → Doing Coming → Step Position
 
 abbrev pub begun : Program → Session Position → Session Position
 begun program s = record s { job = cleared program s.job; stop = None }
 
--- behind the closing
-abbrev pub runs_shut : Program → ℕ → Session Position → Step Position
-runs_shut program most s = runs_unless (refusal_of program) program most (begun program s)
+abbrev pub no_line : Option ℕ → LowerRefusal
+no_line line = record { line = unwrap_or line 0; cause = NoLine }
 
-abbrev pub runs : Program → ℕ → Session Position → Step Position
-runs program most s = shut_down (runs_shut program most) s
+abbrev pub runs_there : Runs → Program → ℕ → Option ℕ → Bool → Session Position → Step Position
+runs_there run p most line true s = run p s (runs_cleared p most line s.job)
+runs_there run p most line false s = answered (lowering_text (no_line line)) s
+
+-- what is refused before it runs leaves the memory cleared, and so does a line at which it cannot begin
+abbrev pub runs_unless : Runs → Option LowerRefusal → Program → ℕ → Option ℕ → Session Position → Step Position
+runs_unless run (Some refusal) p most line s = answered (lowering_text refusal) s
+runs_unless run None p most line s = runs_there run p most line (can_begin p line) s
+
+-- behind the closing
+abbrev pub runs_shut : Runs → Program → ℕ → Option ℕ → Session Position → Step Position
+runs_shut run p most line s = runs_unless run (refusal_of p) p most line (begun p s)
+
+abbrev pub runs : Runs → Program → ℕ → Option ℕ → Session Position → Step Position
+runs run p most line s = shut_down (runs_shut run p most line) s
+
+-- CHAIN
+
+-- the program that is named is read as OLD reads it, and a text that is no program is an error
+abbrev pub or_bad_text : List ℕ → Option Lines → FileAct (List ℕ × Lines)
+or_bad_text name None = Breaks (Faulted DATA_FORMAT_ERROR) tt
+or_bad_text name (Some lines) = Gives (name, lines) tt
+
+abbrev pub reads_file : Judge → Spec → FileAct (List ℕ × Lines)
+reads_file judge spec = reads_pages spec.name spec.code then λ pages _. or_bad_text spec.name.stem (program_on judge pages)
+
+abbrev pub reads_by : Judge → Result Spec ℕ → FileAct (List ℕ × Lines)
+reads_by judge (Ok spec) = reads_file judge spec
+reads_by judge (Err number) = Breaks (Faulted number) tt
+
+abbrev pub reads_program : Judge → Account → List ℕ → FileAct (List ℕ × Lines)
+reads_program judge own text = reads_by judge (spec_read own text)
+
+-- the program that was read is in memory, and begins
+abbrev pub chains_to : Judge → Runs → ℕ → List ℕ × Lines → Session Position → Step Position
+chains_to judge run most (name, lines) s =
+    runs run (program_by judge lines) most s.job.destination.line (loaded name lines s)
+
+-- the reading broke off: an error is one of the CHAIN, and the program in memory stays
+abbrev pub unread : (ℕ → Job Position → Step Position) → (Break (program.Leaving Position) → Job Position → Session Position) → Break ⊥ → Session Position → Job Position → Step Position
+unread faulted over (Faulted number) s j = faulted number j
+unread faulted over (Halted halt) s j = Gives tt (over (Halted halt) j)
+unread faulted over Gone s j = Breaks Gone (with_job j s)
+unread faulted over (Left none) s j = absurd none
+
+abbrev pub follows_chain : Judge → Runs → (ℕ → Job Position → Step Position) → ℕ → (Break (program.Leaving Position) → Job Position → Session Position) → Session Position → Job Position → Step Position
+follows_chain judge run faulted most over s j =
+    at_ends (λ _. with_job j s) (λ read _. chains_to judge run most read (with_job j s)) (λ why _. unread faulted over why s j)
+    (reads_program judge j.account j.destination.name)
+
+-- at a CHAIN the next program follows; every other end is outlived
+abbrev pub behind_end : Judge → Runs → (ℕ → Job Position → Step Position) → ℕ → (Break (program.Leaving Position) → Job Position → Session Position) → Session Position → Break (program.Leaving Position) → Job Position → Step Position
+behind_end judge run faulted most over s (Left program.Chained) j = follows_chain judge run faulted most over s j
+behind_end judge run faulted most over s why j = outlived over s why j
+
+-- a run with this at its end
+abbrev pub run_to : (Program → Session Position → Break (program.Leaving Position) → Job Position → Step Position) → Runs
+run_to ended p s act = in_session (ended p s) s act
+
+-- At the end of a program, behind which so many more may chain: an error of its CHAIN goes on in it. Each chain takes a unit, so more than units are taken are enough.
+abbrev pub ended : Judge → ℕ → ℕ → Program → Session Position → Break (program.Leaving Position) → Job Position → Step Position
+ended judge most zero p s why j = outlived (run_is_over s) s why j
+ended judge most (suc count) p s why j =
+    behind_end judge (run_to (ended judge most count)) (λ number j. run_to (ended judge most count) p s (raises p most number j))
+    most (run_is_over s) s why j
+
+-- a run of a program, and of those to which it chains
+abbrev pub chains : Judge → ℕ → ℕ → Runs
+chains judge most count = run_to (ended judge most count)
+
+-- RUN
+abbrev pub runs_all : Judge → Program → ℕ → Session Position → Step Position
+runs_all judge p most s = runs (chains judge most most) p most None s
 
 -- RUN with a name: the program is read as OLD reads it, and runs
 abbrev pub runs_loaded : Judge → ℕ → List ℕ → Option Lines → Session Position → Step Position
 runs_loaded judge most name None s = answered (fault_line DATA_FORMAT_ERROR) s
-runs_loaded judge most name (Some lines) s = runs (program_by judge lines) most (loaded name lines s)
+runs_loaded judge most name (Some lines) s = runs_all judge (program_by judge lines) most (loaded name lines s)
 
 abbrev pub reads_and_runs : Judge → ℕ → Spec → Session Position → Step Position
 reads_and_runs judge most spec s =
@@ -313,23 +385,27 @@ abbrev pub runs_file : Judge → ℕ → Account → List ℕ → Session Positi
 runs_file judge most own tail s = with_name_of own tail (reads_and_runs judge most) s
 
 -- CONT
-abbrev pub goes_on : Program → ℕ → Option (program.Leaving Position) → Session Position → Step Position
-goes_on program most None s = answered cant_continue s
-goes_on program most (Some stop) s = outlives (run_is_over s) s (continues program most stop s.job)
+abbrev pub goes_on : Judge → Program → ℕ → Option (program.Leaving Position) → Session Position → Step Position
+goes_on judge p most None s = answered cant_continue s
+goes_on judge p most (Some stop) s = chains judge most most p s (continues p most stop s.job)
 
--- a line of immediate mode, which may be refused before it runs, and leaves a STOP as it is
-abbrev pub line_unless : Option LowerRefusal → List StatementTree → ℕ → Session Position → Step Position
-line_unless (Some refusal) statements most s = answered (lowering_text refusal) s
-line_unless None statements most s = outlives (reported s) s (runs_line statements most s.job)
+-- A line of immediate mode, which may be refused before it runs, and leaves a STOP as it is. An error of its CHAIN is reported.
+abbrev pub line_ended : Judge → ℕ → Session Position → Break (program.Leaving Position) → Job Position → Step Position
+line_ended judge most s why j =
+    behind_end judge (chains judge most most) (λ number j. Gives tt (reported s (Faulted number) j)) most (reported s) s why j
+
+abbrev pub line_unless : Judge → Option LowerRefusal → List StatementTree → ℕ → Session Position → Step Position
+line_unless judge (Some refusal) statements most s = answered (lowering_text refusal) s
+line_unless judge None statements most s = in_session (line_ended judge most s) s (runs_line statements most s.job)
 
 -- it has a tree
-abbrev pub does_line : List StatementTree → ℕ → Session Position → Step Position
-does_line statements most s =
-    if are_in_stage statements then line_unless (refusal_now statements) statements most s else answered not_in_stage s
+abbrev pub does_line : Judge → List StatementTree → ℕ → Session Position → Step Position
+does_line judge statements most s =
+    if are_in_stage statements then line_unless judge (refusal_now statements) statements most s else answered not_in_stage s
 
-abbrev pub immediate : Verdict → ℕ → Session Position → Step Position
-immediate (RefusedFor cause) most s = answered (refusal_text cause) s
-immediate (HasTree tree) most s = does_line (line_statements tree) most s
+abbrev pub immediate : Judge → Verdict → ℕ → Session Position → Step Position
+immediate judge (RefusedFor cause) most s = answered (refusal_text cause) s
+immediate judge (HasTree tree) most s = does_line judge (line_statements tree) most s
 
 -- KEY LINES
 
@@ -341,10 +417,10 @@ visitor_acts other s = Gives tt (says please_say_hello s)
 
 -- a program runs for so many statements at the most
 abbrev pub user_acts : Judge → ℕ → Account → Command → Session Position → Step Position
-user_acts judge most own (Run with_name) s = runs (program_by judge s.lines) most (headed with_name s)
+user_acts judge most own (Run with_name) s = runs_all judge (program_by judge s.lines) most (headed with_name s)
 user_acts judge most own (RunFile tail) s = runs_file judge most own tail s
-user_acts judge most own Continue s = goes_on (program_by judge s.lines) most s.stop s
-user_acts judge most own (Immediate statement) s = immediate (judge statement) most s
+user_acts judge most own Continue s = goes_on judge (program_by judge s.lines) most s.stop s
+user_acts judge most own (Immediate statement) s = immediate judge (judge statement) most s
 user_acts judge most own command s = rests judge own command s
 
 abbrev pub acts : Judge → ℕ → Option Account → Command → Session Position → Step Position
@@ -394,6 +470,7 @@ new_job keys = record {
   line = 0;
   home = no_home;
   frames = [];
+  destination = program.no_destination;
 }
 
 -- nobody is logged in, nothing was written, and there is no program
