@@ -1,1 +1,4 @@
 pub mod Asked
+pub mod BindLemmas
+pub mod ElementActs
+pub mod SysRequests

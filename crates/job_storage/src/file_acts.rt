@@ -11,7 +11,7 @@ ghost use Rattle.record_fields.specs.Layouts.{natural};
 ghost use Rattle.record_fields.specs.Buffers.{IsChannel};
 
 use crate::storage::Storage;
-use crate::values::{number_at, text_at};
+use crate::values::{behind_first, number_at, text_at};
 use basic_values::errors::ILLEGAL_BYTE_COUNT;
 use basic_values::{Fault, Int, Stop};
 use file_names::{Spec, parse_spec};
@@ -48,6 +48,14 @@ impl Storage {
             FileAct::Get => self.get(alloc, port, number_at(0, values), number_at(1, values)),
             FileAct::Put => self.put(alloc, port, number_at(0, values), number_at(1, values)),
             FileAct::Unlock => self.unlock(alloc, port, number_at(0, values)),
+            FileAct::Field(names) => {
+                self.field(
+                    alloc,
+                    names.as_slice(),
+                    number_at(0, values),
+                    behind_first(values),
+                )
+            }
             FileAct::Kill => self.kill(alloc, port, text_at(0, values)),
             FileAct::Rename => self.rename(alloc, port, text_at(0, values), text_at(1, values)),
             FileAct::Sleep => self.sleep(alloc, port, number_at(0, values)),

@@ -1,6 +1,6 @@
 //! What a job keeps of its variables and files.
 
-ghost use Rattle.std.specs.Prelude.{◌≡◌, Ok, IfOk, IfErr, Err, replicate};
+ghost use Rattle.std.specs.Prelude.{◌≡◌, Ok, [], IfOk, IfErr, Err, replicate};
 ghost use Rattle.basic_values.specs.declared.limits.TheConstants.{LAST_CHANNEL};
 ghost use Rattle.channels.specs.Files.{closed_channel};
 ghost use Rattle.job_memory.specs.declared.contents.Content.TheVariants as content;
@@ -18,13 +18,15 @@ use record_fields::Buffers;
 use std::alloc::Global;
 use std::marker::Model;
 
-/// For whom a job acts, its variables, its channels and their buffers, in which some texts stand.
+/// For whom a job acts, its variables, its channels and their buffers, in which some texts stand,
+/// and core common.
 #[derive(Drop)]
 pub struct Storage {
     pub(crate) account: Account,
     pub(crate) memory: Memory,
     pub(crate) channels: Channels,
     pub(crate) buffers: Buffers,
+    pub(crate) common: Text,
 }
 
 impl Model for Storage {
@@ -37,11 +39,12 @@ impl Model for Storage {
       account = storage.account;
       memory = storage.memory;
       files = files storage.channels storage.buffers;
+      common = storage.common;
     } };
 }
 
 impl Storage {
-    /// No variables, and no open channel.
+    /// No variables, no open channel, and an empty core common.
     pub fn new(alloc: Global, account: Account, buffers: Buffers) -> Storage
         ensures { result ≡ record {
           account = account;
@@ -51,6 +54,7 @@ impl Storage {
             recount = 0;
             buffers = buffers;
           };
+          common = [];
         } }
     {
         Storage {
@@ -58,6 +62,7 @@ impl Storage {
             memory: Memory::new(alloc),
             channels: Channels::new(),
             buffers,
+            common: Text::empty(alloc),
         }
     }
 
@@ -81,6 +86,7 @@ impl Storage {
             self.old.memory self.new.memory (made shape self.old.memory) result }
         ensures files { self.new.files ≡ self.old.files }
         ensures account { self.new.account ≡ self.old.account }
+        ensures common { self.new.common ≡ self.old.common }
     {
         self.memory.dim(shape)
     }
@@ -105,6 +111,7 @@ impl Storage {
         ensures memory { Stores name (content.Number value) self.old.memory self.new.memory result }
         ensures files { self.new.files ≡ self.old.files }
         ensures account { self.new.account ≡ self.old.account }
+        ensures common { self.new.common ≡ self.old.common }
     {
         self.memory.set_number(name, value)
     }
@@ -114,6 +121,7 @@ impl Storage {
         ensures memory { Stores name (content.Own value) self.old.memory self.new.memory result }
         ensures files { self.new.files ≡ self.old.files }
         ensures account { self.new.account ≡ self.old.account }
+        ensures common { self.new.common ≡ self.old.common }
     {
         self.memory.set_text(name, value)
     }
@@ -147,6 +155,7 @@ impl Storage {
             self.old.memory self.new.memory result }
         ensures files { self.new.files ≡ self.old.files }
         ensures account { self.new.account ≡ self.old.account }
+        ensures common { self.new.common ≡ self.old.common }
     {
         self.memory.set_number_at(name, first, second, value)
     }
@@ -163,6 +172,7 @@ impl Storage {
             self.old.memory self.new.memory result }
         ensures files { self.new.files ≡ self.old.files }
         ensures account { self.new.account ≡ self.old.account }
+        ensures common { self.new.common ≡ self.old.common }
     {
         self.memory.set_text_at(name, first, second, value)
     }
@@ -173,6 +183,7 @@ impl Storage {
             self.old.memory self.new.memory (enter names.now self.old.memory) result }
         ensures files { self.new.files ≡ self.old.files }
         ensures account { self.new.account ≡ self.old.account }
+        ensures common { self.new.common ≡ self.old.common }
     {
         self.memory.enter(names)
     }

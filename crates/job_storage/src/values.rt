@@ -1,6 +1,6 @@
 //! Values by their place among others: a missing one counts as 0, and as an empty text.
 
-ghost use Rattle.std.specs.Prelude.{◌≡◌, ◌≤◌, length, IfOk};
+ghost use Rattle.std.specs.Prelude.{◌≡◌, ◌≤◌, drop, length, map, IfOk};
 ghost use Rattle.basic_values.specs.declared.texts.TheConstants.{MOST_BYTES};
 ghost use Rattle.program_model.specs.Job.{number, text};
 ghost use Rattle.program_model.specs.Functions.{number_at, text_at};
@@ -59,4 +59,25 @@ pub fn text_at(place: usize, values: &[Value]) -> &[u8]
         Some(value) => bytes(value),
         None => &[],
     }
+}
+
+/// The values behind the first.
+pub(crate) fn behind_first(values: &[Value]) -> &[Value]
+    ensures { result.now ≡ drop 1 values.entry.now }
+{
+    match values {
+        [_, rest @ ..] => rest,
+        [] => &[],
+    }
+}
+
+/// The values as numbers.
+pub(crate) fn numbers(alloc: Global, values: &[Value]) -> Result<Vec<Int>, NoMemory>
+    ensures { IfOk result (λ numbers. numbers.items ≡ map number values.now) }
+{
+    let mut numbers = Vec::new(alloc);
+    for value in values {
+        numbers.push(number(value))?;
+    }
+    Ok(numbers)
 }

@@ -9,7 +9,7 @@ use Rattle.job_storage.proofs.storage.Storage.close.Goals as goal
 
 pub returns-in_err-closed : goal.returns-in_err-closed
 returns-in_err-closed g c clock =
-    let s : Storage = record { account = c.self.inside.account; memory = c.self.inside.memory; files = files c.self.inside.channels c.self.inside.buffers } in
+    let s : Storage = record { account = c.self.inside.account; memory = c.self.inside.memory; files = files c.self.inside.channels c.self.inside.buffers; common = c.self.inside.common } in
     let t = files c.close_file.new.self c.close_file.new.buffers in
     follows_from (ap (λ (s : Storage). close_act c.args.channel s) (sym c.self.view_is))
     (broken c.in_err-closed.field-0.0 c.from_residual.result (record s { files = t }) (λ closed s. Gives tt (without_fields closed s)) c.from_residual.ensures.1
@@ -17,7 +17,7 @@ returns-in_err-closed g c clock =
 
 pub returns : goal.returns
 returns g c clock =
-    let s : Storage = record { account = c.self.inside.account; memory = c.self.inside.memory; files = files c.self.inside.channels c.self.inside.buffers } in
+    let s : Storage = record { account = c.self.inside.account; memory = c.self.inside.memory; files = files c.self.inside.channels c.self.inside.buffers; common = c.self.inside.common } in
     let t = files c.close_file.new.self c.close_file.new.buffers in
     follows_from (ap (λ (s : Storage). close_act c.args.channel s) (sym c.self.view_is))
     (follows_with (λ closed s. Gives tt (without_fields closed s))

@@ -8,6 +8,6 @@ use Rattle.job_storage.proofs.storage.Storage.get.Goals as goal
 
 pub returns : goal.returns
 returns g c clock =
-    let s : Storage = record { account = c.self.inside.account; memory = c.self.inside.memory; files = files c.self.inside.channels c.self.inside.buffers } in
+    let s : Storage = record { account = c.self.inside.account; memory = c.self.inside.memory; files = files c.self.inside.channels c.self.inside.buffers; common = c.self.inside.common } in
     follows_from (ap (λ (s : Storage). get_act c.args.channel c.args.block s) (sym c.self.view_is))
     (follows_in in_files s (gets_record c.args.channel c.args.block) c.get.result (files c.get.new.self c.get.new.buffers) (c.get.ensures clock))

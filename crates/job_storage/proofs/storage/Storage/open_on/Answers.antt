@@ -8,6 +8,6 @@ use Rattle.job_storage.proofs.storage.Storage.open_on.Goals as goal
 
 pub returns : goal.returns
 returns g c clock =
-    let s : Storage = record { account = c.self.inside.account; memory = c.self.inside.memory; files = files c.self.inside.channels c.self.inside.buffers } in
+    let s : Storage = record { account = c.self.inside.account; memory = c.self.inside.memory; files = files c.self.inside.channels c.self.inside.buffers; common = c.self.inside.common } in
     follows_from (ap (λ (s : Storage). opens_on c.args.kind c.args.channel c.args.how c.args.spec s) (sym c.self.view_is))
     (follows_in in_files s (opens_file c.args.channel c.args.spec.name c.args.kind c.args.how.1 c.args.spec.code c.args.how.0) c.open_file.result (files c.open_file.new.self c.open_file.new.buffers) (c.open_file.ensures clock))

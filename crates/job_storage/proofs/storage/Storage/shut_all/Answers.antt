@@ -13,7 +13,7 @@ next done s = Gives tt (record s { memory = forget_all s.memory })
 
 pub returns-in_err-close_all : goal.returns-in_err-close_all
 returns-in_err-close_all g c clock =
-    let s : Storage = record { account = c.self.inside.account; memory = c.self.inside.memory; files = files c.self.inside.channels c.self.inside.buffers } in
+    let s : Storage = record { account = c.self.inside.account; memory = c.self.inside.memory; files = files c.self.inside.channels c.self.inside.buffers; common = c.self.inside.common } in
     let t = files c.close_all.new.self c.close_all.new.buffers in
     follows_from (ap shut_act (sym c.self.view_is))
     (broken c.in_err-close_all.field-0.0 c.from_residual.result (record s { files = t }) next c.from_residual.ensures.1
@@ -21,7 +21,7 @@ returns-in_err-close_all g c clock =
 
 pub returns : goal.returns
 returns g c clock =
-    let s : Storage = record { account = c.self.inside.account; memory = c.self.inside.memory; files = files c.self.inside.channels c.self.inside.buffers } in
+    let s : Storage = record { account = c.self.inside.account; memory = c.self.inside.memory; files = files c.self.inside.channels c.self.inside.buffers; common = c.self.inside.common } in
     let t = files c.close_all.new.self c.close_all.new.buffers in
     follows_from (ap shut_act (sym c.self.view_is))
     (follows_with next (follows_in in_files s closes_all (Ok tt) t (c.in_ok-close_all.ensures clock))

@@ -1,0 +1,2 @@
+pub mod Justifying
+pub mod SysAnswers

@@ -1,0 +1,21 @@
+-- What the monitor is asked by SYS, and what answers it.
+use Rattle.std.specs.Prelude.{true}
+use Rattle.monitor_calls.specs.declared.calls.Request.{Request}
+use Rattle.monitor_calls.specs.declared.calls.Request.TheVariants.{Declare, Remove, Send, Receive, Status}
+use Rattle.job_model.specs.Asking.{AnswerKind, ByDone, ByMessage, ByState}
+use Rattle.job_storage.specs.declared.sys.SysAnswer.{SysAnswer}
+use Rattle.job_storage.specs.declared.sys.SysAnswer.TheVariants as answer
+
+-- the requests of the table of SYS
+abbrev pub IsAskedBySys : Request → Type 0
+IsAskedBySys (Declare name most) = Unit {0}
+IsAskedBySys Remove = Unit {0}
+IsAskedBySys (Send name text) = Unit {0}
+IsAskedBySys Receive = Unit {0}
+IsAskedBySys Status = Unit {0}
+IsAskedBySys request = ⊥
+
+abbrev pub kind_of : SysAnswer → AnswerKind
+kind_of answer.Done = ByDone true
+kind_of answer.Message = ByMessage
+kind_of answer.State = ByState
