@@ -1,10 +1,8 @@
 -- What is collected part by part is what is said of the whole statement.
-use Rattle.std.proofs.Common.{◌≡◌, ℕ, Bool, true, false, ◌||◌, List, [], ◌∷◌, ◌++◌, refl, sym, ap, ◌∙◌}
+use Rattle.std.proofs.Common.{◌≡◌, Bool, true, false, ◌||◌, List, [], ◌∷◌, ◌++◌, refl, sym, ap, ◌∙◌}
 use Rattle.std.specs.List.{flat_map, list_any}
-use Rattle.std.proofs.lemmas.Grind.{flat_map-append}
-use Rattle.basic_tree.specs.declared.names.Name.{Name}
 use Rattle.basic_tree.specs.Trees.{Tree, StatementTree}
-use Rattle.program_model.specs.Parts.{CallMade, calls_in, calls_made_in, simple_in, lines_named_by, lines_named_in}
+use Rattle.program_model.specs.Parts.{calls_in, calls_made_in, simple_in, lines_named_by, lines_named_in}
 use Rattle.program_model.specs.Soundness.{handles_errors, is_for_programs, results_by}
 use Rattle.statement_walk.specs.Walk.{StatementPart, Simple, Expression, Loop, simple_by, expression_by, parts_in, visited}
 use Rattle.statement_walk.proofs.PartLaws.{simple_parts, expression_parts, collected}
