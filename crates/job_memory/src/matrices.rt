@@ -66,8 +66,9 @@ impl Memory {
         length: usize,
     ) -> Result<Vec<Int>, NoMemory>
         requires { place + length ≤ count_in (bounds name self.now) }
-        ensures { IfOk result
+        ensures numbers { IfOk result
             (λ list. list.items ≡ take length (drop place (numbers name self.now))) }
+        ensures count { IfOk result (λ list. vec_len list ≡ length) }
     {
         match self.arrays.get(&name) {
             Some(table) => table.numbers_from(self.alloc, place, length),
