@@ -6,6 +6,8 @@
 #[cfg(test)]
 mod catalogs;
 #[cfg(test)]
+mod chains;
+#[cfg(test)]
 mod files;
 #[cfg(test)]
 mod lines;

@@ -1,0 +1,260 @@
+//! CHAIN: how the next program is read and begins, what it finds, and what a refused one leaves.
+
+use crate::talks::{Answer, HELLO, Row, expect_of_files, expect_talk};
+use std::test::Fail;
+
+/// Lines behind the login with what they show, the answers behind that to the login, and what is
+/// asked between the login and the logout.
+type Talk = (&'static [Row], &'static [Answer], &'static str);
+
+const READ_B: &str = "Input [100,5]B.BAS Opened 1\nGet 1 Block\nClose 0 Done\n";
+
+/// An error of the reading is one of the CHAIN, and the program stays.
+const REFUSED: Talk = (
+    &[
+        ("10 CHAIN 'B'", ""),
+        ("RUNNH", "?Can't find file or account at line 10\nReady\n"),
+        ("RUNNH", "?Protection violation at line 10\nReady\n"),
+        ("RUNNH", "?Data format error at line 10\nReady\n"),
+        ("LIST", "NONAME\n10 CHAIN 'B'\nReady\n"),
+        ("10 CHAIN ''", ""),
+        ("RUNNH", "?Illegal file name at line 10\nReady\n"),
+        ("CHAIN 'D:B'", "?Device not available\nReady\n"),
+        ("CHAIN 'B'", "?Can't find file or account\nReady\n"),
+    ],
+    &[
+        Answer::Failed(5),
+        Answer::Failed(10),
+        Answer::Opened(1),
+        Answer::Block("STOP\n"),
+        Answer::Done,
+        Answer::Failed(5),
+        Answer::Done,
+    ],
+    "Input [100,5]B.BAS Failed 5\nInput [100,5]B.BAS Failed 10\n\
+     Input [100,5]B.BAS Opened 1\nGet 1 Block\nClose 0 Done\nInput [100,5]B.BAS Failed 5\n",
+);
+
+/// It is trapped in the old program, which has its channels and its variables.
+const TRAPPED: Talk = (
+    &[
+        ("10 ON ERROR GOTO 40", ""),
+        ("20 A%=7% : OPEN 'D' AS FILE 3%", ""),
+        ("30 CHAIN 'B'", ""),
+        ("40 PRINT ERR;ERL;A% : GET #3% : STOP", ""),
+        ("RUNNH", " 5  30  7 \nStop at line 40\nReady\n"),
+    ],
+    &[
+        Answer::Opened(1),
+        Answer::Failed(5),
+        Answer::Block(""),
+        Answer::Done,
+    ],
+    "Either [100,5]D Opened 1\nInput [100,5]B.BAS Failed 5\nGet 1 Block\n",
+);
+
+/// So is one in the body of a function.
+const TRAPPED_IN_A_BODY: Talk = (
+    &[
+        ("10 DEF FNA%(X%)", ""),
+        ("20 CHAIN 'B'", ""),
+        ("30 FNEND", ""),
+        ("40 ON ERROR GOTO 60", ""),
+        ("50 A%=FNA%(1%)", ""),
+        ("55 END", ""),
+        ("60 PRINT ERR;ERL : RESUME 55", ""),
+        ("RUNNH", " 5  20 \nReady\n"),
+    ],
+    &[Answer::Failed(5), Answer::Done],
+    "Input [100,5]B.BAS Failed 5\n",
+);
+
+/// The wanted line is one of the new program. 0 and less are none.
+const LINES: Talk = (
+    &[
+        ("CHAIN 'B' LINE 20%", " 2 \nReady\n"),
+        ("CHAIN 'B' 0%", " 1 \n 2 \nReady\n"),
+        ("CHAIN 'B' LINE -5%", " 1 \n 2 \nReady\n"),
+        ("15 STOP", ""),
+        ("CHAIN 'B' 15%", "?Undefined line at line 15\nReady\n"),
+        ("CONT", "?Can't continue\nReady\n"),
+        ("LIST", "B\n10 PRINT 1\n20 PRINT 2\nReady\n"),
+    ],
+    &[
+        Answer::Opened(1),
+        Answer::Block("10 PRINT 1\n20 PRINT 2\n"),
+        Answer::Done,
+        Answer::Opened(1),
+        Answer::Block("10 PRINT 1\n20 PRINT 2\n"),
+        Answer::Done,
+        Answer::Opened(1),
+        Answer::Block("10 PRINT 1\n20 PRINT 2\n"),
+        Answer::Done,
+        Answer::Opened(1),
+        Answer::Block("10 PRINT 1\n20 PRINT 2\n"),
+        Answer::Done,
+        Answer::Done,
+    ],
+    "Input [100,5]B.BAS Opened 1\nGet 1 Block\nClose 0 Done\n\
+     Input [100,5]B.BAS Opened 1\nGet 1 Block\nClose 0 Done\n\
+     Input [100,5]B.BAS Opened 1\nGet 1 Block\nClose 0 Done\n\
+     Input [100,5]B.BAS Opened 1\nGet 1 Block\nClose 0 Done\n",
+);
+
+const WITH_A_BODY: &str = "10 DEF FNA%(X%)\n20 FNA%=1%\n30 FNEND\n40 PRINT 4\n";
+
+/// No program begins in the body of a function, its FNEND included.
+const BODIES: Talk = (
+    &[
+        ("CHAIN 'B' 20%", "?Undefined line at line 20\nReady\n"),
+        ("CHAIN 'B' 30%", "?Undefined line at line 30\nReady\n"),
+        ("CHAIN 'B' 10%", " 4 \nReady\n"),
+    ],
+    &[
+        Answer::Opened(1),
+        Answer::Block(WITH_A_BODY),
+        Answer::Done,
+        Answer::Opened(1),
+        Answer::Block(WITH_A_BODY),
+        Answer::Done,
+        Answer::Opened(1),
+        Answer::Block(WITH_A_BODY),
+        Answer::Done,
+        Answer::Done,
+    ],
+    "Input [100,5]B.BAS Opened 1\nGet 1 Block\nClose 0 Done\n\
+     Input [100,5]B.BAS Opened 1\nGet 1 Block\nClose 0 Done\n\
+     Input [100,5]B.BAS Opened 1\nGet 1 Block\nClose 0 Done\n",
+);
+
+/// A program that is refused is the one in memory, and the old variables are gone.
+const UNSOUND: Talk = (
+    &[
+        ("A%=7%", "Ready\n"),
+        ("CHAIN 'B'", "?Undefined line at line 10\nReady\n"),
+        ("PRINT A%", " 0 \nReady\n"),
+        ("LISTNH", "10 GOTO 20\nReady\n"),
+    ],
+    &[
+        Answer::Opened(1),
+        Answer::Block("10 GOTO 20\n"),
+        Answer::Done,
+        Answer::Done,
+    ],
+    READ_B,
+);
+
+/// Variables and the trap are those of a program that begins, core common stays, and channels are
+/// closed behind the reading.
+const CLEARED: Talk = (
+    &[
+        ("10 ON ERROR GOTO 30 : OPEN 'D' AS FILE 3%", ""),
+        ("20 A%=7% : X$=SYS(CHR$(8%)+'HI') : CHAIN 'B'", ""),
+        ("30 STOP", ""),
+        (
+            "RUNNH",
+            "HI 0 \n?I/O channel not open at line 20\nReady\n",
+        ),
+    ],
+    &[
+        Answer::Opened(1),
+        Answer::Opened(1),
+        Answer::Block("10 PRINT SYS(CHR$(7%));A%\n20 GET #3%\n30 STOP\n"),
+        Answer::Done,
+        Answer::Done,
+        Answer::Done,
+    ],
+    "Either [100,5]D Opened 1\nInput [100,5]B.BAS Opened 1\nGet 1 Block\nClose 0 Done\nClose 3 Done\n",
+);
+
+/// Three programs hand a number on by core common.
+const THREE: Talk = (
+    &[
+        ("10 X$=SYS(CHR$(8%)+'1') : CHAIN 'B'", ""),
+        ("RUNNH", " 3 \nReady\n"),
+        ("LIST", "C\n10 PRINT VAL(SYS(CHR$(7%)))+1%\nReady\n"),
+    ],
+    &[
+        Answer::Opened(1),
+        Answer::Block("10 N%=VAL(SYS(CHR$(7%)))+1%\n20 X$=SYS(CHR$(8%)+NUM1$(N%)) : CHAIN 'C'\n"),
+        Answer::Done,
+        Answer::Opened(1),
+        Answer::Block("10 PRINT VAL(SYS(CHR$(7%)))+1%\n"),
+        Answer::Done,
+        Answer::Done,
+    ],
+    "Input [100,5]B.BAS Opened 1\nGet 1 Block\nClose 0 Done\n\
+     Input [100,5]C.BAS Opened 1\nGet 1 Block\nClose 0 Done\n",
+);
+
+/// A refused CHAIN leaves a STOP; behind one that came off CONT goes on where the new program stopped.
+const CONT: Talk = (
+    &[
+        ("10 STOP", ""),
+        ("RUNNH", "Stop at line 10\nReady\n"),
+        ("CHAIN 'B'", "?Can't find file or account\nReady\n"),
+        ("CONT", "Ready\n"),
+        ("RUNNH", "Stop at line 10\nReady\n"),
+        ("CHAIN 'B'", " 1 \nReady\n"),
+        ("CONT", "?Can't continue\nReady\n"),
+        ("CHAIN 'B'", "Stop at line 10\nReady\n"),
+        ("CONT", " 2 \nReady\n"),
+    ],
+    &[
+        Answer::Failed(5),
+        Answer::Opened(1),
+        Answer::Block("10 PRINT 1\n"),
+        Answer::Done,
+        Answer::Opened(1),
+        Answer::Block("10 STOP\n20 PRINT 2\n"),
+        Answer::Done,
+        Answer::Done,
+    ],
+    "Input [100,5]B.BAS Failed 5\nInput [100,5]B.BAS Opened 1\nGet 1 Block\nClose 0 Done\n\
+     Input [100,5]B.BAS Opened 1\nGet 1 Block\nClose 0 Done\n",
+);
+
+static CHAINS: [Talk; 9] = [
+    REFUSED,
+    TRAPPED,
+    TRAPPED_IN_A_BODY,
+    LINES,
+    BODIES,
+    UNSOUND,
+    CLEARED,
+    THREE,
+    CONT,
+];
+
+#[test]
+fn programs_chain(rt: HostRuntime) -> Result<(), Fail> {
+    for talk in CHAINS.iter() {
+        expect_of_files(rt.alloc(), talk.0, talk.1, talk.2)?;
+    }
+    Ok(())
+}
+
+/// The replies of a job whose calls are used up at its third CHAIN.
+static TWICE: [Answer; 8] = [
+    Answer::Done,
+    Answer::Opened(1),
+    Answer::Block("10 CHAIN 'B'\n"),
+    Answer::Done,
+    Answer::Opened(1),
+    Answer::Block("10 CHAIN 'B'\n"),
+    Answer::Done,
+    Answer::Expired,
+];
+
+#[test]
+fn a_chain_without_end_is_ended_by_the_calls(rt: HostRuntime) -> Result<(), Fail> {
+    let log = format!(in rt.alloc();
+        "Login 100,5;DEMO Done\n{READ_B}{READ_B}Input [100,5]B.BAS Expired\n")?;
+    expect_talk(
+        rt.alloc(),
+        &[HELLO, "CHAIN 'B'"],
+        &TWICE,
+        "HELLO 100,5;DEMO\nReady\nCHAIN 'B'\n?Job expired\n",
+        log.as_str(),
+    )
+}
