@@ -1,6 +1,6 @@
 //! Messages between jobs.
 
-use crate::asks::Ask::{Declare, Login, Receive, Remove, Send, SendLong, Sleep, Status};
+use crate::asks::Ask::{Declare, Login, Logout, Receive, Remove, Send, SendLong, Sleep, Status};
 use crate::asks::Job::{One, Zero};
 use crate::asks::Label::{First, Second};
 use crate::asks::{OWNER, STRANGER};
@@ -39,6 +39,31 @@ static TWO_MESSAGES: [Row; 22] = [
 #[test]
 fn a_job_receives_in_the_order_of_sending(rt: HostRuntime) -> Result<(), Fail> {
     let wrong = wrong_row(&rt, 8, 100, &TWO_MESSAGES)?;
+    assert_eq!(rt; wrong, None);
+    Ok(())
+}
+
+/// What was sent to a job is gone when the job ends, and so is its receiver.
+static LOGGED_IN_AGAIN: [Row; 14] = [
+    (Zero, Login(OWNER), Done),
+    (One, Login(STRANGER), Done),
+    (Zero, Declare(First, 2), Done),
+    (One, Send(First, 1), Done),
+    (Zero, Logout, Done),
+    (One, Send(First, 2), Failed(5)),
+    (Zero, Login(STRANGER), Done),
+    (Zero, Receive, Failed(5)),
+    (Zero, Declare(First, 2), Done),
+    (Zero, Receive, Failed(5)),
+    (One, Send(First, 3), Done),
+    (Zero, Receive, Message(1, STRANGER, 3)),
+    (Zero, Send(First, 4), Done),
+    (Zero, Receive, Message(0, STRANGER, 4)),
+];
+
+#[test]
+fn a_receiver_ends_with_its_job(rt: HostRuntime) -> Result<(), Fail> {
+    let wrong = wrong_row(&rt, 8, 100, &LOGGED_IN_AGAIN)?;
     assert_eq!(rt; wrong, None);
     Ok(())
 }
