@@ -13,9 +13,12 @@
 //! stands for them.
 #![tactic(auto)]
 
+mod channel_items;
 mod counted;
+mod elements;
 mod emitted;
 mod expressions;
+mod field_items;
 mod file_items;
 mod lookups;
 mod loops;

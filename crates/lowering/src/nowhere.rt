@@ -7,6 +7,7 @@ use basic_tree::{Name, Series};
 use basic_values::NoMemory;
 use polish_code::Home;
 use std::alloc::Global;
+use virtual_arrays::VirtualShape;
 
 /// A program without lines.
 pub struct Nowhere;
@@ -48,5 +49,9 @@ impl Lookups for Nowhere {
 
     fn loop_place(&self, _m: usize) -> u32 {
         0
+    }
+
+    fn array(&self, _name: Name) -> Option<VirtualShape> {
+        None
     }
 }

@@ -11,16 +11,22 @@ ghost use Rattle.polish_code.specs.declared.items.Item.TheVariants as item;
 ghost use Rattle.polish_code.specs.Code.{Ex, It, places_of, def_pieces, target_pieces, targets_pieces, judged_pieces, input_pieces, read_pieces, printed_pieces, separator_pieces, print_pieces, end_pieces, step_piece};
 ghost use Rattle.lowering.specs.Emission.{with_expression, with_pieces, with_simple};
 
+use crate::channel_items::{emit_input_on, emit_line_on, emit_print_on, emit_print_using};
+use crate::elements::store_item;
 use crate::expressions::emit_expr;
+use crate::field_items::{emit_field, emit_justify};
 use crate::file_items::{emit_close, emit_open, emit_with_block, emit_with_one, emit_with_two};
 use crate::lookups::Lookups;
 use crate::numbers::counted;
 use crate::sink::{Jump, Over, Sink};
-use basic_tree::{ChainLine, Expr, PrintItem, Printed, Prompt, Separator, Series, Statement, Target};
+use basic_tree::{
+    ChainLine, Expr, PrintItem, Printed, Prompt, Separator, Series, Statement, Target,
+};
 use basic_values::{NoMemory, Text};
 use monitor_calls::copy_of;
 use polish_code::{FileAct, Item};
 use program_soundness::named_line;
+use record_fields::Side;
 use std::alloc::Global;
 
 /// Puts the items behind the start of the m-th statement in front, which has i FORs before it.
@@ -72,15 +78,31 @@ pub fn emit_simple<K: Sink, L: Lookups>(
             last,
         } => match channel {
             None => emit_print(alloc, code, tables, items.as_slice(), last),
-            Some(_) => Ok(()),
+            Some(channel) => {
+                emit_print_on(alloc, code, tables, &channel.number, items.as_slice(), last)
+            }
         },
+        Statement::PrintUsing {
+            channel,
+            format,
+            values,
+            last,
+        } => emit_print_using(
+            alloc,
+            code,
+            tables,
+            channel,
+            format,
+            values.as_slice(),
+            last,
+        ),
         Statement::Input {
             channel,
             prompt,
             targets,
         } => match channel {
             None => emit_input(alloc, code, tables, prompt, targets.as_slice()),
-            Some(_) => Ok(()),
+            Some(channel) => emit_input_on(alloc, code, tables, channel, targets.as_slice()),
         },
         Statement::InputLine { channel, variable } => match channel {
             None => {
@@ -88,7 +110,7 @@ pub fn emit_simple<K: Sink, L: Lookups>(
                 code.put(Item::Store(*variable))?;
                 code.put(Item::AskLine)
             }
-            Some(_) => Ok(()),
+            Some(channel) => emit_line_on(alloc, code, tables, channel, *variable),
         },
         Statement::Read(targets) => emit_read(alloc, code, tables, targets.as_slice()),
         Statement::Restore => code.put(Item::Restore),
@@ -147,6 +169,15 @@ pub fn emit_simple<K: Sink, L: Lookups>(
         Statement::Unlock(channel) => {
             emit_with_one(alloc, code, tables, FileAct::Unlock, channel)
         }
+        Statement::Field { channel, parts } => {
+            emit_field(alloc, code, tables, channel, parts.as_slice())
+        }
+        Statement::Lset { variable, value } => {
+            emit_justify(alloc, code, tables, Side::Left, *variable, value)
+        }
+        Statement::Rset { variable, value } => {
+            emit_justify(alloc, code, tables, Side::Right, *variable, value)
+        }
         Statement::Kill(file) => emit_with_one(alloc, code, tables, FileAct::Kill, file),
         Statement::Rename { old, new } => {
             emit_with_two(alloc, code, tables, FileAct::Rename, old, new)
@@ -157,10 +188,6 @@ pub fn emit_simple<K: Sink, L: Lookups>(
         Statement::Data(_) => Ok(()),
         Statement::Dim(_) => Ok(()),
         Statement::DimFile { .. } => Ok(()),
-        Statement::Field { .. } => Ok(()),
-        Statement::Lset { .. } => Ok(()),
-        Statement::Rset { .. } => Ok(()),
-        Statement::PrintUsing { .. } => Ok(()),
         Statement::MatRead(_) => Ok(()),
         Statement::MatPrint { .. } => Ok(()),
         Statement::MatLet { .. } => Ok(()),
@@ -228,17 +255,11 @@ fn emit_target<K: Sink, L: Lookups>(
             second,
         } => match second {
             None => {
-                code.put(Item::StoreElement {
-                    name: *name,
-                    count: 1,
-                })?;
+                code.put(store_item(tables, *name, 1))?;
                 emit_expr(alloc, code, tables, first)
             }
             Some(second) => {
-                code.put(Item::StoreElement {
-                    name: *name,
-                    count: 2,
-                })?;
+                code.put(store_item(tables, *name, 2))?;
                 emit_expr(alloc, code, tables, second)?;
                 emit_expr(alloc, code, tables, first)
             }
@@ -300,13 +321,28 @@ fn emit_input<K: Sink, L: Lookups>(
         (It (item.AskItems (prompt_text (option_map prompt_of prompt.now))
         (length targets.now)) ∷ input_pieces (map target_of targets.now)) code.old) }
 {
-    for place in (0..targets.len()).rev() {
-        emit_judged(alloc, code, tables, &targets[place])?;
-    }
+    emit_targets(alloc, code, tables, targets)?;
     code.put(Item::AskItems {
         prompt: prompt_copy(alloc, prompt)?,
         count: counted(targets.len())?,
     })
+}
+
+/// The stores of the items of a line.
+pub fn emit_targets<K: Sink, L: Lookups>(
+    alloc: Global,
+    code: &mut K,
+    tables: &L,
+    targets: &[Target],
+) -> Result<(), NoMemory>
+    ensures { OnOk result (code.new
+        ≡ with_pieces K.with (L.program tables.now) (input_pieces (map target_of targets.now))
+        code.old) }
+{
+    for place in (0..targets.len()).rev() {
+        emit_judged(alloc, code, tables, &targets[place])?;
+    }
+    Ok(())
 }
 
 fn prompt_copy(alloc: Global, prompt: &Option<Prompt>) -> Result<Text, NoMemory>
