@@ -4,7 +4,7 @@ use crate::read::program_of;
 use basic_values::Trouble;
 use line_editor::ProgramText;
 use lowering::{loops_in_program, lower};
-use polish_code::Code;
+use polish_code::{Code, Item};
 use program_model::LowerRefusal;
 use std::alloc::Global;
 use std::test::Fail;
@@ -13,7 +13,7 @@ use std::test::Fail;
 /// many DATA items it has, and how many FORs.
 type Row = ([&'static [u8]; 2], (usize, usize, usize, usize));
 
-static ROWS: [Row; 9] = [
+static ROWS: [Row; 14] = [
     ([b"!", b"END"], (3, 0, 0, 0)),
     ([b"GOTO 20", b"END"], (5, 2, 0, 0)),
     ([b"DATA 1,A", b"DATA B"], (2, 1, 3, 0)),
@@ -23,6 +23,11 @@ static ROWS: [Row; 9] = [
     ([b"A%=1% FOR I%=1% TO 2% IF A%=1%", b"END"], (18, 15, 0, 1)),
     ([b"DEF FNA%(X%)=X%", b"PRINT FNA%(1%)"], (11, 6, 0, 0)),
     ([b"OPEN 'A' AS FILE 1%", b"CLOSE 1%,2%"], (12, 7, 0, 0)),
+    ([b"PRINT #1%,A%;1%", b"PRINT USING '##',A%"], (16, 10, 0, 0)),
+    ([b"INPUT #1%,A%", b"INPUT LINE #1%,A$"], (14, 7, 0, 0)),
+    ([b"FIELD #1%,2% AS A$,3% AS B$", b"END"], (8, 5, 0, 0)),
+    ([b"LSET A$=B$", b"RSET A$='B'"], (5, 2, 0, 0)),
+    ([b"DIM #1%,A%(3%)", b"A%(1%)=A%(2%)"], (7, 1, 0, 0)),
 ];
 
 fn code_of(answer: Result<Code, Trouble<LowerRefusal>>) -> Result<Code, Fail> {
@@ -70,5 +75,28 @@ fn first_wrong(alloc: Global) -> Result<Option<usize>, Fail> {
 fn code_has_its_items(rt: HostRuntime) -> Result<(), Fail> {
     let wrong = first_wrong(rt.alloc())?;
     assert_eq!(rt; wrong, None);
+    Ok(())
+}
+
+/// The bytes of their files at which the arrays begin from which elements are loaded.
+fn starts_loaded(alloc: Global, code: &Code) -> Result<Vec<u64>, Fail> {
+    let mut starts = Vec::new(alloc);
+    for item in code.items() {
+        if let Item::LoadFileElement { array, .. } = item {
+            starts.push(array.start)?;
+        }
+    }
+    Ok(starts)
+}
+
+#[test]
+fn elements_are_in_the_files_of_dim(rt: HostRuntime) -> Result<(), Fail> {
+    let alloc = rt.alloc();
+    let lines: [&[u8]; 2] = [
+        b"DIM #1%,A%(3%),B$(2%)=8%,C%(1%),D$(0%)",
+        b"PRINT A%(0%);B$(0%);C%(0%);D$(0%);E%(0%)",
+    ];
+    let code = code_of(lower(alloc, program_of(alloc, &lines)?.program()))?;
+    assert_eq!(rt; starts_loaded(alloc, &code)?.as_slice(), &[0, 8, 32, 48]);
     Ok(())
 }

@@ -5,7 +5,7 @@ use stage_forms::is_in_stage;
 use std::alloc::Global;
 use std::test::Fail;
 
-static TAKEN: [&[u8]; 28] = [
+static TAKEN: [&[u8]; 57] = [
     b"",
     b"PRINT A%,B$;TAB(3%);1%",
     b"INPUT 'A';A%,B$(1%)",
@@ -34,10 +34,6 @@ static TAKEN: [&[u8]; 28] = [
     b"SLEEP 1% FOR I%=1% TO 2%",
     b"IF A%=1% THEN SLEEP 1% ELSE 10",
     b"IF A%=1% GOTO 10 ELSE IF B% THEN SLEEP 1%",
-];
-
-/// Lines that use a channel in a later stage, CHAIN, and functions of a later stage in operands.
-static LATER_FORMS: [&[u8]; 21] = [
     b"PRINT #1%,A%",
     b"PRINT #0%",
     b"INPUT #1%,A%",
@@ -59,32 +55,31 @@ static LATER_FORMS: [&[u8]; 21] = [
     b"KILL SYS('A')",
     b"NAME 'A' AS SYS('A')",
     b"SLEEP POS(0%)",
-];
-
-/// Lines that call a function of a later stage, at each place where an expression stands.
-static LATER_FUNCTIONS: [&[u8]; 22] = [
+    b"PRINT USING '##',A%;B%",
+    b"PRINT #1%,USING '##',A%",
     b"PRINT RECOUNT",
     b"PRINT A%;POS(0%),1%",
     b"A$=SYS(CHR$(6%))",
-    b"PRINT TAB(RECOUNT)",
-    b"A%(RECOUNT)=1%",
-    b"A%(1%,RECOUNT)=1%",
-    b"A%=B%(1%,RECOUNT)",
-    b"A%=FNA%(1%,RECOUNT)",
-    b"A$=CHR$(RECOUNT)",
     b"A%=NOT -(1%+RECOUNT)",
     b"IF RECOUNT=1% THEN 10",
-    b"IF RECOUNT GOTO 10",
-    b"A%=1% IF RECOUNT",
-    b"A%=1% WHILE RECOUNT",
-    b"A%=1% FOR I%=RECOUNT TO 2%",
-    b"A%=1% FOR I%=1% TO 2% STEP RECOUNT",
-    b"FOR I%=1% TO RECOUNT",
-    b"DEF FNA%(X%)=RECOUNT",
-    b"FNA%=RECOUNT",
-    b"ON RECOUNT GOTO 10",
-    b"READ A%(RECOUNT)",
     b"INPUT A%(RECOUNT)",
+];
+
+/// Lines with a MAT, alone and inside other statements.
+static LATER: [&[u8]; 13] = [
+    b"MAT READ A%",
+    b"MAT PRINT A%",
+    b"MAT PRINT A%;",
+    b"MAT A%=ZER",
+    b"MAT A%=B%",
+    b"MAT A%=B%+C%",
+    b"MAT A%=(2%)*B%",
+    b"MAT A%=TRN(B%)",
+    b"A%=1%:MAT READ A%",
+    b"MAT READ A% FOR I%=1% TO 2%",
+    b"IF A%=1% THEN MAT READ A% ELSE 10",
+    b"IF A%=1% THEN 10 ELSE MAT READ A%",
+    b"IF A%=1% GOTO 10 ELSE IF B% THEN MAT READ A%",
 ];
 
 /// Whether a line is of the stage.
@@ -109,22 +104,15 @@ fn first_wrong(alloc: Global, lines: &[&[u8]], taken: bool) -> Result<Option<usi
 }
 
 #[test]
-fn programs_and_functions_are_taken(rt: HostRuntime) -> Result<(), Fail> {
+fn programs_and_channels_are_taken(rt: HostRuntime) -> Result<(), Fail> {
     let wrong = first_wrong(rt.alloc(), &TAKEN, true)?;
     assert_eq!(rt; wrong, None);
     Ok(())
 }
 
 #[test]
-fn channels_come_later(rt: HostRuntime) -> Result<(), Fail> {
-    let wrong = first_wrong(rt.alloc(), &LATER_FORMS, false)?;
-    assert_eq!(rt; wrong, None);
-    Ok(())
-}
-
-#[test]
-fn functions_of_channels_and_messages_come_later(rt: HostRuntime) -> Result<(), Fail> {
-    let wrong = first_wrong(rt.alloc(), &LATER_FUNCTIONS, false)?;
+fn matrices_come_later(rt: HostRuntime) -> Result<(), Fail> {
+    let wrong = first_wrong(rt.alloc(), &LATER, false)?;
     assert_eq!(rt; wrong, None);
     Ok(())
 }
