@@ -1,28 +1,51 @@
--- What a statement on files asks is asked by the job.
-use Rattle.std.proofs.Common.{◌≡◌, List, drop, Option, Some, Ok, Err, refl, sym, ap}
+-- What is asked for what a job keeps is asked by the job.
+use Rattle.std.proofs.Common.{◌≡◌, List, drop, Option, Some, Result, Ok, Err, refl, sym, ap}
 use Rattle.std.specs.Option.{option_map}
 use Rattle.basic_values.specs.declared.failures.Stop.{Stop}
 use Rattle.basic_values.specs.declared.failures.Stop.TheVariants as stop
+use Rattle.basic_values.specs.declared.failures.Trouble.{Trouble}
+use Rattle.basic_values.specs.declared.failures.Trouble.TheVariants as trouble
 use Rattle.monitor_calls.specs.Pairs.{Pair}
 use Rattle.job_model.specs.Act.{Gives, ◌then◌}
 use Rattle.job_model.specs.Play.{Clock}
 use Rattle.job_model.specs.Follow.{Follows, answered_by}
-use Rattle.job_model.proofs.Follows.{follows_from, follows_to, follows_is, follows_then, follows_with, follows_in}
-use Rattle.program_model.specs.Storage.{Storage, in_storage}
+use Rattle.job_model.proofs.Follows.{follows_from, follows_to, follows_is, follows_nothing, follows_then, follows_with, follows_in}
+use Rattle.program_model.specs.Storage.{Storage, StorageAct, in_storage, stores_by}
 use Rattle.program_model.specs.FileActs.{act_by}
 use Rattle.program_model.specs.Job.{Job}
 use Rattle.program_model.specs.declared.values.Value.{Value}
 use Rattle.program_model.specs.declared.file_acts.FileAct.{FileAct}
 use Rattle.polish_code.specs.Walk.{Spot, Walked, Move, Pass, taken, passed, operand_count, asks}
-use Rattle.basic_eval.specs.Acting.{left_by}
+use Rattle.basic_eval.specs.declared.exits.Exit.{Exit}
+use Rattle.basic_eval.specs.Acting.{Acts, left_by}
 use Rattle.basic_eval.specs.Keeping.{exit_at}
 
+-- a call that ends at once
+pub follows_acts : {P W A : Type 0} {who : P → W} {log : P → List Pair} {p : P} {c : Clock} {m : Walked A} (r : Result A (Trouble Exit)) (k : Job Spot) → Acts m k r → Follows who log p p c c m (left_by r k)
+follows_acts (Ok value) k is = follows_is is
+follows_acts (Err (trouble.Refused why)) k is = follows_is is
+follows_acts (Err trouble.NoMemory) k is = follows_nothing
+
 -- a stop goes past what would go on
-stopped : (next : Unit {0} → Job Spot → Walked Move) (e : Stop) (k : Job Spot) → option_map (λ t. t then next) (answered_by (Err e) k) ≡ left_by (Err (exit_at e)) k
+stopped : {A B : Type 0} (next : A → Job Spot → Walked B) (e : Stop) (k : Job Spot) → option_map (λ t. t then next) (answered_by (Err e) k) ≡ left_by (Err (exit_at e)) k
 stopped next (stop.Fault n) k = refl
 stopped next (stop.Halt h) k = refl
 stopped next stop.Expired k = refl
 stopped next stop.NoMemory k = refl
+
+pub past : {A B : Type 0} (next : A → Job Spot → Walked B) (e : Trouble Exit) (k : Job Spot) → option_map (λ t. t then next) (left_by (Err e) k) ≡ left_by (Err e) k
+past next (trouble.Refused why) k = refl
+past next trouble.NoMemory k = refl
+
+-- what is done on what a job keeps, and what goes on with it
+module _ {P W A B : Type 0} {who : P → W} {log : P → List Pair} {p q : P} {c d : Clock} (act : StorageAct A) (j : Job Spot) (next : A → Job Spot → Walked B) (t : Storage) where
+  pub act_gives : {r : P} {e : Clock} {left : Option (Walked B)} (value : A) → Follows who log p q c d (act (in_storage.part j)) (Some (Gives value t)) → Follows who log q r d e (next value (in_storage.with_part j t)) left
+      → Follows who log p r c e (stores_by act j then next) left
+  act_gives value f g = follows_with next (follows_in in_storage j act (Ok value) t f) g
+
+  pub act_stops : (e : Stop) → Follows who log p q c d (act (in_storage.part j)) (answered_by (Err e) t)
+      → Follows who log p q c d (stores_by act j then next) (left_by (Err (exit_at e)) (in_storage.with_part j t))
+  act_stops e f = follows_to (stopped next e (in_storage.with_part j t)) (follows_then next (follows_in in_storage j act (Err e) t f))
 
 module _ {P W : Type 0} {who : P → W} {log : P → List Pair} {p q : P} {c d : Clock} (act : FileAct) (stack values : List Value) (j : Job Spot) (are : values ≡ taken (operand_count act) stack) (t : Storage) where
   pub ask_passes : (stack' : List Value) → stack' ≡ drop (operand_count act) stack → Follows who log p q c d (act_by act values (in_storage.part j)) (Some (Gives tt t))

@@ -1,5 +1,6 @@
 //! The items of a program's code that call no function of it: each runs on the state of a job and
 //! leaves what its act leaves. So do the beginning and the end of a call.
+//! Those that ask the monitor go along the path of their act, over any port: `Running::ask_item`.
 //!
 //! `state::Running` is the state, seen as the job of the definitions, and `stack::Stack` the values
 //! that items leave for later ones. `Running::step` carries the promise: the new stack and the new
@@ -12,11 +13,14 @@ mod asking;
 mod calls;
 mod chains;
 pub mod exits;
+mod fields;
+mod file_elements;
 mod functions;
 mod gosub;
 mod input;
 mod loops;
 mod numbers;
+mod on_channels;
 mod printing;
 mod reading;
 mod relations;
@@ -25,6 +29,7 @@ pub mod stack;
 pub mod state;
 mod step;
 mod traps;
+mod using;
 mod values;
 mod variables;
 

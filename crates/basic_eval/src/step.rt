@@ -2,13 +2,14 @@
 
 ghost use Rattle.std.specs.Prelude.{◌≡◌, ◌-◌, false};
 ghost use Rattle.polish_code.specs.Walk.{item_act};
-ghost use Rattle.basic_eval.specs.Acting.{Acts, alone, is_call, is_ask, seen, told};
+ghost use Rattle.basic_eval.specs.Acting.{Acts, alone, is_call, is_ask, is_sys, seen, told};
 
 use crate::exits::{Exit, Move};
 use crate::spots::Spot;
 use crate::stack::Stack;
 use crate::state::Running;
 use crate::values::{take_truth, wrapped};
+use basic_tree::Function;
 use basic_values::{Text, Trouble};
 use polish_code::Item;
 use program_model::Value;
@@ -57,9 +58,19 @@ impl Running {
             Item::PrintTab => self.print_tab(stack),
             Item::Zone => self.next_zone(),
             Item::EndLine => self.end_line(),
-            Item::Call { .. } | Item::Ask(_) => unreachable!(),
+            Item::TestOutput => self.test_output(stack),
+            Item::TabText => self.tab_text(stack),
+            Item::ZoneText => self.zone_text(stack),
+            Item::Call { .. }
+            | Item::Ask(_)
+            | Item::LoadFileElement { .. }
+            | Item::StoreFileElement { .. }
+            | Item::WriteOn
+            | Item::WriteUsing { .. }
+            | Item::LineOn => unreachable!(),
             Item::AskItems { prompt, count } => self.ask_items(prompt, *count as usize, stack),
             Item::AskLine => self.ask_line(stack),
+            Item::Split(count) => self.split(*count as usize, stack),
             Item::TakeItem => self.take_item(words, stack),
             Item::Judge(is_text) => self.judge(*is_text, stack),
             Item::Restore => {
@@ -132,6 +143,8 @@ impl Running {
             }
             Item::End => self.go_out(Trouble::Refused(Exit::Ended)),
             Item::Chain => self.chain(stack),
+            Item::Justify { side, name } => self.justify(*side, name, stack),
+            Item::JustifyBy { side, name, by } => self.justify_by(*side, name, by),
             Item::Leave => Move::Away,
         }
     }
@@ -154,12 +167,28 @@ pub fn is_call(item: &Item) -> bool
     }
 }
 
-/// Whether an item asks the monitor.
+/// Whether an item may ask the monitor.
 pub fn is_ask(item: &Item) -> bool
     ensures { result ≡ is_ask item.now }
 {
     match item {
-        Item::Ask(_) => true,
+        Item::Ask(_)
+        | Item::LoadFileElement { .. }
+        | Item::StoreFileElement { .. }
+        | Item::WriteOn
+        | Item::WriteUsing { .. }
+        | Item::LineOn => true,
+        Item::Apply { function, .. } => is_sys(*function),
+        _ => false,
+    }
+}
+
+/// Whether a function asks the monitor.
+fn is_sys(function: Function) -> bool
+    ensures { result ≡ is_sys function }
+{
+    match function {
+        Function::Sys => true,
         _ => false,
     }
 }

@@ -1,0 +1,55 @@
+//! PRINT USING: the bytes that a format writes of values.
+
+ghost use Rattle.std.specs.Prelude.{◌≡◌, map, IfOk, if◌then◌else◌};
+ghost use Rattle.print_using.specs.Values.{printed_value};
+ghost use Rattle.program_model.specs.PrintingOnChannels.{used_bytes, used_value};
+ghost use Rattle.basic_eval.specs.Acting.{Answers};
+
+use basic_values::{Fault, NoMemory, Text2, Trouble};
+use print_using::{Using, format_line, format_values};
+use program_model::Value;
+use std::alloc::Global;
+
+/// What a format writes of values, and the end of the line behind it where that is wanted. Error 50
+/// where no field takes a value.
+pub(crate) fn used_bytes(
+    alloc: Global,
+    ends_line: bool,
+    format: &[u8],
+    values: &[Value],
+) -> Result<Text2, Trouble<Fault>>
+    ensures { Answers (used_bytes ends_line format.now values.now) result }
+{
+    let values = match used_values(alloc, values) {
+        Ok(values) => values,
+        Err(NoMemory) => return Err(Trouble::NoMemory),
+    };
+    if ends_line {
+        format_line(alloc, format, values.as_slice())
+    } else {
+        format_values(alloc, format, values.as_slice())
+    }
+}
+
+/// The values, lent.
+fn used_values<'a>(alloc: Global, values: &'a [Value]) -> Result<Vec<Using<'a>>, NoMemory>
+    ensures { IfOk result (λ used. map printed_value used.items ≡ map used_value values.now) }
+{
+    let mut used = Vec::new(alloc);
+    for value in values {
+        if used.push(used_value(value)).is_err() {
+            return Err(NoMemory);
+        }
+    }
+    Ok(used)
+}
+
+/// A value, lent.
+fn used_value(value: &Value) -> Using<'_>
+    ensures { printed_value result ≡ used_value value.entry.now }
+{
+    match value {
+        Value::Number(number) => Using::Number(number.value()),
+        Value::Text(text) => Using::Text(text.as_bytes()),
+    }
+}
