@@ -97,6 +97,9 @@ fn elements_are_in_the_files_of_dim(rt: HostRuntime) -> Result<(), Fail> {
         b"PRINT A%(0%);B$(0%);C%(0%);D$(0%);E%(0%)",
     ];
     let code = code_of(lower(alloc, program_of(alloc, &lines)?.program()))?;
-    assert_eq!(rt; starts_loaded(alloc, &code)?.as_slice(), &[0, 8, 32, 48]);
+    assert_eq!(rt;
+        starts_loaded(alloc, &code)?.as_slice(),
+        [0, 8, 32, 48].as_slice()
+    );
     Ok(())
 }

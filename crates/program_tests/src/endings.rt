@@ -2,10 +2,10 @@
 
 use basic_interpreter::{Exit, Running, Spot, Stack, Storage, clear, write_ending};
 use basic_tree::Name;
-use basic_values::{Fault, Halt, Int, Trouble};
+use basic_values::{Fault, Halt, Int, Text, Trouble};
 use error_trap::Trap;
 use monitor_calls::Account;
-use program_model::Home;
+use program_model::{Destination, Home};
 use record_fields::Buffers;
 use std::alloc::Global;
 use std::test::Fail;
@@ -39,6 +39,10 @@ fn running(alloc: Global, shown: &[u8]) -> Result<Running, Fail> {
         line: 10,
         home: HOME,
         frames: Stack::new(alloc),
+        destination: Destination {
+            name: Text::empty(alloc),
+            line: None,
+        },
         exit: Trouble::Refused(Exit::Ended),
     })
 }

@@ -2,11 +2,11 @@
 
 use basic_interpreter::{Clock, Exit, Running, Stack, Storage, run};
 use basic_tree::{Name, Operator, Series};
-use basic_values::{Halt, Trouble};
+use basic_values::{Halt, Text, Trouble};
 use error_trap::Trap;
 use monitor_calls::{Account, Reply, ScriptPort};
 use polish_code::{Code, Item};
-use program_model::Home;
+use program_model::{Destination, Home};
 use record_fields::Buffers;
 use std::alloc::Global;
 use std::test::Fail;
@@ -32,6 +32,10 @@ fn at_rest(alloc: Global) -> Result<Running, Fail> {
         line: 0,
         home: home(0, 0, 0),
         frames: Stack::new(alloc),
+        destination: Destination {
+            name: Text::empty(alloc),
+            line: None,
+        },
         exit: Trouble::Refused(Exit::Ended),
     })
 }
@@ -63,6 +67,7 @@ fn ending(answer: Result<(), Trouble<Exit>>) -> &'static str {
             Exit::Halt(_) => "halt",
             Exit::Gone => "gone",
             Exit::Ended => "ended",
+            Exit::Chained => "chained",
             Exit::Stopped(_) => "stopped",
             Exit::StoppedInside(_) => "stopped inside",
         },
