@@ -137,8 +137,8 @@ static REFUSED: [(u16, Option<&[u8]>, Put); 10] = [
     (10, Some(b" GOTO"), Put::Line(1, Cause::Syntax)),
     (10, Some(b" A%=40000"), Put::Line(4, Cause::NumberTooWide)),
     (10, Some(b"5 STOP"), Put::Line(0, Cause::Syntax)),
-    (32768, Some(b" CHAIN 'A'"), Put::Number),
-    (10, Some(b" CHAIN 'A'"), Put::Later),
+    (32768, Some(b" MAT READ A%"), Put::Number),
+    (10, Some(b" MAT READ A%"), Put::Later),
 ];
 
 /// Whether a text of one line is answered so, and keeps its line.

@@ -151,10 +151,7 @@ const CLEARED: Talk = (
         ("10 ON ERROR GOTO 30 : OPEN 'D' AS FILE 3%", ""),
         ("20 A%=7% : X$=SYS(CHR$(8%)+'HI') : CHAIN 'B'", ""),
         ("30 STOP", ""),
-        (
-            "RUNNH",
-            "HI 0 \n?I/O channel not open at line 20\nReady\n",
-        ),
+        ("RUNNH", "HI 0 \n?I/O channel not open at line 20\nReady\n"),
     ],
     &[
         Answer::Opened(1),
@@ -249,7 +246,8 @@ static TWICE: [Answer; 8] = [
 #[test]
 fn a_chain_without_end_is_ended_by_the_calls(rt: HostRuntime) -> Result<(), Fail> {
     let log = format!(in rt.alloc();
-        "Login 100,5;DEMO Done\n{READ_B}{READ_B}Input [100,5]B.BAS Expired\n")?;
+        "Login 100,5;DEMO Done\n{READ_B}{READ_B}Input [100,5]B.BAS Expired\n"
+    )?;
     expect_talk(
         rt.alloc(),
         &[HELLO, "CHAIN 'B'"],

@@ -186,15 +186,13 @@ fn words_of_commands_on_files(rt: HostRuntime) -> Result<(), Fail> {
     expect_of_users(rt.alloc(), &WORDS)
 }
 
-static LATER: [&str; 8] = [
-    "FIELD #1%,2% AS A$",
-    "LSET A$='B'",
-    "PRINT #1%,'A'",
-    "IF 0% THEN CHAIN 'A'",
-    "INPUT #1%,A%",
-    "CHAIN 'A'",
-    "A%=RECOUNT",
-    "PRINT SYS('A')",
+static LATER: [&str; 6] = [
+    "MAT READ A%",
+    "MAT A%=ZER",
+    "MAT A%=B%+C%",
+    "IF 0% THEN MAT A%=(2%)*B%",
+    "A%=1%:MAT PRINT A%,",
+    "MAT READ A% FOR I%=1% TO 2%",
 ];
 
 fn expect_later(alloc: Global, statement: &str) -> Result<(), Fail> {
