@@ -1,0 +1,3 @@
+mod Flags
+mod Parses
+mod Walks
