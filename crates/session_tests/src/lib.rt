@@ -8,6 +8,8 @@ mod catalogs;
 #[cfg(test)]
 mod chains;
 #[cfg(test)]
+mod channels;
+#[cfg(test)]
 mod files;
 #[cfg(test)]
 mod lines;

@@ -1,6 +1,6 @@
 //! How a session is tried: its keys, the replies of its port, what it shows and what it asks.
 
-use basic_values::{Fault, KeyLine};
+use basic_values::{Fault, KeyLine, Text};
 use command_level::serve;
 use file_names::print;
 use monitor_calls::{Account, FileName, OpenKind, Page, Reply, Request, ScriptPort, Short};
@@ -50,6 +50,10 @@ pub(crate) enum Answer {
     Comments(u32, u32),
     /// A file of [100,5] with the extension BAS: its code, and its blocks where they are told.
     Named(&'static str, u8, Option<u16>),
+    /// A message of this text, from the first job.
+    Message(&'static str),
+    /// So many calls of the first job.
+    State(u16),
 }
 
 fn key_lines(alloc: Global, keys: &[&str]) -> Result<Vec<KeyLine>, Fail> {
@@ -73,6 +77,32 @@ fn reply_of(alloc: Global, answer: Answer) -> Result<Reply, Fail> {
         Answer::Block(text) => block(alloc, text),
         Answer::Comments(first, last) => block(alloc, comments(alloc, first, last)?.as_str()),
         Answer::Named(stem, code, blocks) => name(stem.as_bytes(), code, blocks),
+        Answer::Message(text) => message(alloc, text),
+        Answer::State(calls) => Ok(state(calls)),
+    }
+}
+
+const USER: Account = Account {
+    project: 100,
+    programmer: 5,
+};
+
+fn message(alloc: Global, text: &str) -> Result<Reply, Fail> {
+    let Ok(text) = Text::of(alloc, text.as_bytes()) else {
+        return Err(Fail::from("a message is too long"));
+    };
+    Ok(Reply::Message {
+        job: 0,
+        account: USER,
+        text,
+    })
+}
+
+fn state(calls: u16) -> Reply {
+    Reply::State {
+        job: 0,
+        account: USER,
+        calls,
     }
 }
 
@@ -104,12 +134,8 @@ fn comments(alloc: Global, first: u32, last: u32) -> Result<String, Fail> {
 }
 
 fn name(stem: &[u8], code: u8, blocks: Option<u16>) -> Result<Reply, Fail> {
-    let owner = Account {
-        project: 100,
-        programmer: 5,
-    };
     let name = FileName {
-        owner,
+        owner: USER,
         stem: Short::of(stem).ok_or("no stem")?,
         extension: Short::of(b"BAS").ok_or("no extension")?,
     };
@@ -145,6 +171,8 @@ fn reply_told(alloc: Global, reply: &Reply) -> Result<String, Fail> {
         Reply::Opened { blocks, .. } => Ok(format!(in alloc; "Opened {blocks}")?),
         Reply::Block(_) => Ok(String::from_str(alloc, "Block")?),
         Reply::Name { name, .. } => named(alloc, "Name", name, None),
+        Reply::Message { .. } => Ok(String::from_str(alloc, "Message")?),
+        Reply::State { .. } => Ok(String::from_str(alloc, "State")?),
         _ => Ok(String::from_str(alloc, "another")?),
     }
 }
@@ -172,8 +200,24 @@ fn request_told(alloc: Global, request: &Request) -> Result<String, Fail> {
         Request::Rename { new, code, .. } => named(alloc, "Rename to", new, *code),
         Request::Kill { name } => named(alloc, "Kill", name, None),
         Request::Directory { owner, index } => directory_told(alloc, *owner, *index),
+        Request::Declare { name, most } => declare_told(alloc, name, *most),
+        Request::Send { name, text } => send_told(alloc, name, text),
+        Request::Remove => Ok(String::from_str(alloc, "Remove")?),
+        Request::Receive => Ok(String::from_str(alloc, "Receive")?),
+        Request::Status => Ok(String::from_str(alloc, "Status")?),
         _ => Ok(String::from_str(alloc, "another")?),
     }
+}
+
+fn declare_told(alloc: Global, name: &Short, most: u8) -> Result<String, Fail> {
+    let name = str::from_utf8(name.as_bytes())?;
+    Ok(format!(in alloc; "Declare {name} {most}")?)
+}
+
+fn send_told(alloc: Global, name: &Short, text: &Text) -> Result<String, Fail> {
+    let name = str::from_utf8(name.as_bytes())?;
+    let text = str::from_utf8(text.as_bytes())?;
+    Ok(format!(in alloc; "Send {name} {text}")?)
 }
 
 fn login_told(alloc: Global, account: Account, password: &Short) -> Result<String, Fail> {
