@@ -46,6 +46,8 @@ pub(crate) enum Step {
     Place(u8),
     /// How many bytes a text has, where each channel's buffer is one block.
     Length(u8),
+    /// How many bytes an own text has.
+    OwnLength(u8),
     /// A channel is closed, or all of them.
     Forget(u8),
     ForgetAll,
@@ -193,6 +195,7 @@ fn call(alloc: Global, memory: &mut Memory, step: Step) -> Result<Told, Fail> {
         }
         Step::Place(letter) => Ok(place_of(memory, letter)),
         Step::Length(letter) => length_of(alloc, memory, letter),
+        Step::OwnLength(letter) => Ok(own_length(memory, letter)),
         Step::EnterText(letter) => Ok(made(memory.enter(&[text_name(letter)]))),
         Step::EnterTextTwice(letter) => {
             let name = text_name(letter);
@@ -226,6 +229,13 @@ fn field(memory: &mut Memory, letter: u8, channel: u8, offset: u16, length: u16)
 fn place_of(memory: &Memory, letter: u8) -> Told {
     match memory.place_of(text_name(letter)) {
         Some((channel, part)) => Told::At(channel, part.offset, part.length),
+        None => Told::Empty,
+    }
+}
+
+fn own_length(memory: &Memory, letter: u8) -> Told {
+    match memory.own_length(text_name(letter)) {
+        Some(length) => Told::Is(length as i16),
         None => Told::Empty,
     }
 }
@@ -320,6 +330,24 @@ fn first_wrong_subscript(alloc: Global) -> Result<Option<usize>, Fail> {
 #[test]
 fn a_store_makes_an_array(rt: HostRuntime) -> Result<(), Fail> {
     let wrong = first_wrong_subscript(rt.alloc())?;
+    assert_eq!(rt; wrong, None);
+    Ok(())
+}
+
+static OWN_TEXTS: [Row; 8] = [
+    (Step::OwnLength(b'A'), Told::Empty),
+    (Step::SetText(b'A', b'x', 5), Told::Done),
+    (Step::OwnLength(b'A'), Told::Is(5)),
+    (Step::OwnLength(b'B'), Told::Empty),
+    (Step::Bind(b'A'), Told::Done),
+    (Step::OwnLength(b'A'), Told::Empty),
+    (Step::ForgetAll, Told::Done),
+    (Step::OwnLength(b'A'), Told::Is(0)),
+];
+
+#[test]
+fn own_texts_have_a_length(rt: HostRuntime) -> Result<(), Fail> {
+    let wrong = first_wrong(rt.alloc(), &OWN_TEXTS)?;
     assert_eq!(rt; wrong, None);
     Ok(())
 }
