@@ -1,7 +1,7 @@
 //! What a run writes and asks, and how it ends.
 
 use basic_interpreter::{Clock, Exit, Running, Stack, Storage, run};
-use basic_tree::{Name, Operator, Series};
+use basic_tree::{Function, Name, Operator, Series};
 use basic_values::{Halt, Text, Trouble};
 use error_trap::Trap;
 use monitor_calls::{Account, Reply, ScriptPort};
@@ -89,6 +89,12 @@ enum Small {
     Call(bool, u32),
     PrintValue,
     EndLine,
+    TestOutput,
+    WriteOn,
+    Discard,
+    /// The text of SYS that ends a receiver.
+    Remove,
+    Sys,
     End,
     Answer,
     Skip,
@@ -102,6 +108,10 @@ fn item(alloc: Global, small: Small) -> Result<Item, Fail> {
         Small::Arrive(start, behind, line) => Ok(Item::Arrive(home(start, behind, line))),
         Small::Stop(start, behind, line) => Ok(Item::Stop(home(start, behind, line))),
         Small::Call(has_parameter, body) => call(alloc, has_parameter, body),
+        Small::Remove => match Text::of(alloc, &[6, 22, 0]) {
+            Ok(text) => Ok(Item::Quoted(text)),
+            Err(_) => Err(Fail::from("no text")),
+        },
         _ => Ok(plain(small)),
     }
 }
@@ -114,6 +124,13 @@ fn plain(small: Small) -> Item {
         Small::LoadX => Item::Load(name(b'X')),
         Small::PrintValue => Item::PrintValue,
         Small::EndLine => Item::EndLine,
+        Small::TestOutput => Item::TestOutput,
+        Small::WriteOn => Item::WriteOn,
+        Small::Discard => Item::Discard,
+        Small::Sys => Item::Apply {
+            function: Function::Sys,
+            count: 1,
+        },
         Small::Answer => Item::Answer,
         Small::Skip => Item::Skip(0),
         Small::Leave => Item::Leave,
@@ -320,4 +337,60 @@ static TICKS: Row = (
 #[test]
 fn ticks_end_a_run(rt: HostRuntime) -> Result<(), Fail> {
     expect(rt.alloc(), &TICKS)
+}
+
+/// PRINT #0%, 7%; writes on the terminal.
+static ON_THE_TERMINAL: Row = (
+    &[
+        Small::Start(0, 6, 10),
+        Small::Number(0),
+        Small::TestOutput,
+        Small::Number(7),
+        Small::WriteOn,
+        Small::Discard,
+    ],
+    0,
+    "ended",
+    b" 7 ",
+    0,
+    10,
+);
+
+/// PRINT #1% on a channel that is not open asks nothing.
+static NOT_OPEN: Row = (
+    &[
+        Small::Start(0, 5, 10),
+        Small::Number(1),
+        Small::TestOutput,
+        Small::Number(7),
+        Small::WriteOn,
+    ],
+    0,
+    "fault",
+    b"",
+    0,
+    10,
+);
+
+/// SYS gives no byte for what was done.
+static SYS_DONE: Row = (
+    &[
+        Small::Start(0, 5, 10),
+        Small::Remove,
+        Small::Sys,
+        Small::PrintValue,
+        Small::EndLine,
+    ],
+    1,
+    "ended",
+    b"\r\n",
+    1,
+    10,
+);
+
+#[test]
+fn items_ask(rt: HostRuntime) -> Result<(), Fail> {
+    expect(rt.alloc(), &ON_THE_TERMINAL)?;
+    expect(rt.alloc(), &NOT_OPEN)?;
+    expect(rt.alloc(), &SYS_DONE)
 }
