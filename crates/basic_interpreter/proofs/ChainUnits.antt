@@ -1,5 +1,5 @@
 -- What a run that ends in a chain has taken.
-use Rattle.std.proofs.Common.{◌≡◌, ℕ, ◌≤◌, List, Option, Some, Result, Ok, Err, sym, subst, arith}
+use Rattle.std.proofs.Common.{◌≡◌, ℕ, ◌≤◌, List, [], ◌∷◌, Option, Some, Result, Ok, Err, sym, subst, arith}
 use Rattle.basic_values.specs.declared.failures.Stop.{Stop}
 use Rattle.basic_values.specs.declared.failures.Stop.TheVariants as stop
 use Rattle.basic_values.specs.declared.failures.Trouble.{Trouble}
@@ -31,23 +31,23 @@ use Rattle.basic_interpreter.specs.Units.{SpendsAtChain}
 use Rattle.basic_interpreter.proofs.PathLemmas.{chain_less}
 
 -- a reason that is no chain
-pub reason_spends : {A : Type 0} (c d : Clock) (why : Exit) (k : Job Spot) → SpendsFirst {A = A} (Breaks (break_of why) k) → SpendsAtChain c d (Err (trouble.Refused why))
-reason_spends c d exit.Chained k h = absurd h
-reason_spends c d exit.Ended k h = tt
-reason_spends c d (exit.Stopped spot) k h = tt
-reason_spends c d (exit.StoppedInside home) k h = tt
-reason_spends c d (exit.Fault fault) k h = tt
-reason_spends c d (exit.Halt halt) k h = tt
-reason_spends c d exit.Gone k h = tt
+pub reason_spends : (A : Type 0) (c d : Clock) (why : Exit) (k : Job Spot) → SpendsFirst {A = A} (Breaks (break_of why) k) → SpendsAtChain c d (Err (trouble.Refused why))
+reason_spends A c d exit.Chained k h = absurd h
+reason_spends A c d exit.Ended k h = tt
+reason_spends A c d (exit.Stopped spot) k h = tt
+reason_spends A c d (exit.StoppedInside home) k h = tt
+reason_spends A c d (exit.Fault fault) k h = tt
+reason_spends A c d (exit.Halt halt) k h = tt
+reason_spends A c d exit.Gone k h = tt
 
 -- DIMs that broke
 pub dims_spend : (program : Program) (j k : Job Spot) (c d : Clock) (e : Trouble Exit) → Acts (dimension_program program j) k (Err e) → SpendsAtChain c d (Err e)
-dims_spend program j k c d (trouble.Refused why) acts = reason_spends {A = Unit {0}} c d why k (subst SpendsFirst acts (dimension_spends program j))
+dims_spend program j k c d (trouble.Refused why) acts = reason_spends (Unit {0}) c d why k (subst SpendsFirst acts (dimension_spends program j))
 dims_spend program j k c d trouble.NoMemory acts = tt
 
 -- an error that leads out of the program
 pub error_spends : (fault : ℕ) (j k : Job Spot) (c d : Clock) (why : Exit) → caught (λ line. line) (Faulted fault) j.frames j ≡ Breaks (break_of why) k → SpendsAtChain c d (Err (trouble.Refused why))
-error_spends fault j k c d why is = reason_spends {A = ℕ} c d why k (subst SpendsFirst is (by_frames j.frames))
+error_spends fault j k c d why is = reason_spends ℕ c d why k (subst SpendsFirst is (by_frames j.frames))
   where
     by_handler : (t : Trap) (r : Raised) → SpendsFirst (handled (λ line. line) fault (t, r) j)
     by_handler t (Handle line) = tt

@@ -1,5 +1,5 @@
 -- An error of the statement that ran last: where the code leads it, and where the meaning does.
-use Rattle.std.proofs.Common.{◌≡◌, ℕ, List, Result, Ok, Err, refl, sym, ap, ◌∙◌}
+use Rattle.std.proofs.Common.{◌≡◌, ℕ, List, [], ◌∷◌, Option, Some, None, Result, Ok, Err, refl, sym, ap, ◌∙◌}
 use Rattle.basic_values.specs.declared.failures.Trouble.{Trouble}
 use Rattle.basic_values.specs.declared.failures.Trouble.TheVariants as trouble
 use Rattle.monitor_calls.specs.Pairs.{Pair}
@@ -8,11 +8,13 @@ use Rattle.job_model.specs.Play.{Clock}
 use Rattle.program_model.specs.Program.{Program, Position}
 use Rattle.program_model.specs.Job.{Job}
 use Rattle.program_model.specs.Control.{Doing, Onward, at_line}
-use Rattle.program_model.specs.Traps.{caught, trapped}
+use Rattle.program_model.specs.declared.values.Frame.{Frame}
+use Rattle.error_trap.specs.Trapping.{way_out, led as raised_to}
+use Rattle.program_model.specs.Traps.{handled, caught, trapped}
 use Rattle.program_model.specs.Running.{runs_from, raises_open}
-use Rattle.polish_code.specs.Walk.{Spot, Walked}
+use Rattle.polish_code.specs.Code.{statement_place}
+use Rattle.polish_code.specs.Walk.{Spot}
 use Rattle.polish_code.specs.Lowered.{lowered, low_leaving, lowers}
-use Rattle.polish_code.proofs.Lowering.{trapped_same}
 use Rattle.basic_eval.specs.declared.exits.Exit.{Exit}
 use Rattle.basic_eval.specs.Acting.{break_of, caught_as}
 use Rattle.basic_interpreter.specs.Meaning.{Means}
@@ -28,10 +30,19 @@ module _ (program : Program) (fault : ℕ) (j : Job Position) (before : Job Spot
   abbrev led : ℕ → Job Position → Doing Onward
   led line j = Gives (at_line program line) j
 
+  error_same : caught (λ line. line) (Faulted fault) j.frames (lowered program j) ≡ lowers program error (low_end program)
+  error_same = by_frames j.frames
+    where
+      by_way : (way : Option ℕ) → handled (λ line. line) fault (raised_to fault j.line (statement_place program j.home.start) (record j.trap { place = statement_place program j.trap.place }) way) (lowered program j) ≡ lowers program (handled (λ line. line) fault (raised_to fault j.line j.home.start j.trap way) j) (low_end program)
+      by_way None = refl
+      by_way (Some handler) = refl
+
+      by_frames : (frames : List Frame) → caught (λ line. line) (Faulted fault) frames (lowered program j) ≡ lowers program (caught (λ line. line) (Faulted fault) frames j) (low_end program)
+      by_frames [] = by_way (way_out j.trap.handler j.trap.active)
+      by_frames (frame ∷ frames) = refl
+
   error_low : (r : Result ℕ Exit) (k : Job Spot) → caught (λ line. line) (Faulted fault) before.frames before ≡ caught_as r k → lowers program error (low_end program) ≡ caught_as r k
-  error_low r k is =
-      sym (trapped_same program (λ line. line) (λ line. line) (λ line. line) (λ line. refl) (Breaks (Faulted fault) j))
-      ∙ ap (λ (k : Job Spot). caught (λ line. line) (Faulted fault) k.frames k) same ∙ is
+  error_low r k is = sym error_same ∙ ap (λ (k : Job Spot). caught (λ line. line) (Faulted fault) k.frames k) same ∙ is
 
   error_leads : trapped (at_line program) (Breaks (Faulted fault) j) ≡ (error then led)
   error_leads = caught_then (at_line program) (Faulted fault) j.frames j
