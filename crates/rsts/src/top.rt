@@ -37,4 +37,6 @@ pub fn rsts_main<R: Threads + Wait + Sync, S: Source, K: Sink, P: Pacer + Sync>(
 #[cfg(test)]
 mod pacing;
 #[cfg(test)]
+mod sessions;
+#[cfg(test)]
 mod tests;

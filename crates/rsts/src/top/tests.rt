@@ -33,7 +33,7 @@ struct Ended {
 
 /// What a call is to leave.
 #[derive(Clone, Copy)]
-struct Want<'a> {
+pub(crate) struct Want<'a> {
     status: u8,
     line: &'a str,
     written: &'a [u8],
@@ -84,7 +84,7 @@ fn expect(ended: Ended, want: Want<'_>) -> Result<(), Fail> {
 }
 
 /// A call over ends that never fail leaves this.
-fn expect_call<R: Threads + Wait + Sync>(
+pub(crate) fn expect_call<R: Threads + Wait + Sync>(
     rt: &R,
     alloc: Global,
     asked: &[&str],
@@ -95,7 +95,7 @@ fn expect_call<R: Threads + Wait + Sync>(
 }
 
 /// What a call leaves that writes this and says nothing.
-fn good(written: &[u8]) -> Want<'_> {
+pub(crate) fn good(written: &[u8]) -> Want<'_> {
     Want {
         status: 0,
         line: "",
