@@ -15,7 +15,7 @@ use Rattle.program_model.specs.FileActs.{act_by}
 use Rattle.program_model.specs.Job.{Job}
 use Rattle.program_model.specs.declared.values.Value.{Value}
 use Rattle.program_model.specs.declared.file_acts.FileAct.{FileAct}
-use Rattle.polish_code.specs.Walk.{Spot, Walked, Move, Pass, taken, passed, operand_count, asks}
+use Rattle.polish_code.specs.Walk.{Spot, Walked, Pass, taken, passed, operand_count, asks}
 use Rattle.basic_eval.specs.declared.exits.Exit.{Exit}
 use Rattle.basic_eval.specs.Acting.{Acts, left_by}
 use Rattle.basic_eval.specs.Keeping.{exit_at}

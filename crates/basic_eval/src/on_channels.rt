@@ -1,22 +1,21 @@
 //! PRINT # and PRINT USING, INPUT # and INPUT LINE #: channels as programs know them, where 0 is the
 //! terminal.
 
-ghost use Rattle.std.specs.Prelude.{◌≡◌, List, drop, replicate, IfOk, if◌then◌else◌};
+ghost use Rattle.std.specs.Prelude.{◌≡◌, List, drop, replicate, IfOk};
 ghost use Rattle.basic_values.specs.Texts.{space};
 ghost use Rattle.channels.specs.Files.{shown_count};
-ghost use Rattle.job_model.specs.Act.{Gives, ◌then◌};
+ghost use Rattle.job_model.specs.Act.{◌then◌};
 ghost use Rattle.job_model.specs.Follow.{Follows};
 ghost use Rattle.job_model.specs.Play as play;
-ghost use Rattle.polish_code.specs.Walk.{Pass, passed, pushed, taken, top};
+ghost use Rattle.polish_code.specs.Walk.{passed, pushed, taken, top};
 ghost use Rattle.program_model.specs.declared.values.Value.{Value};
 ghost use Rattle.program_model.specs.declared.values.Value.TheVariants as value;
 ghost use Rattle.program_model.specs.Input.{line_on};
-ghost use Rattle.program_model.specs.Job.{number, text, or_fault};
+ghost use Rattle.program_model.specs.Job.{number, text};
 ghost use Rattle.program_model.specs.OnChannels.{column_count, column_on, is_terminal};
 ghost use Rattle.program_model.specs.Printing.{value_bytes};
 ghost use Rattle.program_model.specs.PrintingOnChannels.{output_tested, tab_on, zone_on, writes_on, writes_used};
 ghost use Rattle.terminal_line.specs.Columns.{tab_text, zone_text};
-ghost use Rattle.terminal_line.specs.declared.columns.TheConstants.{MOST_COLUMN};
 ghost use Rattle.basic_eval.specs.Acting.{Acts, left_by, seen, told};
 
 use crate::exits::{Exit, Move};

@@ -1,6 +1,6 @@
 //! PRINT USING: the bytes that a format writes of values.
 
-ghost use Rattle.std.specs.Prelude.{◌≡◌, map, IfOk, if◌then◌else◌};
+ghost use Rattle.std.specs.Prelude.{◌≡◌, map, IfOk};
 ghost use Rattle.print_using.specs.Values.{printed_value};
 ghost use Rattle.program_model.specs.PrintingOnChannels.{used_bytes, used_value};
 ghost use Rattle.basic_eval.specs.Acting.{Answers};

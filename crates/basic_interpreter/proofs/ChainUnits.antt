@@ -1,15 +1,15 @@
 -- What a run that ends in a chain has taken.
-use Rattle.std.proofs.Common.{◌≡◌, ℕ, ◌≤◌, List, [], ◌∷◌, Option, Some, Result, Ok, Err, sym, subst, arith}
+use Rattle.std.proofs.Common.{◌≡◌, ℕ, ◌≤◌, List, [], ◌∷◌, Some, Result, Ok, Err, sym, subst, arith}
 use Rattle.basic_values.specs.declared.failures.Stop.{Stop}
 use Rattle.basic_values.specs.declared.failures.Stop.TheVariants as stop
 use Rattle.basic_values.specs.declared.failures.Trouble.{Trouble}
 use Rattle.basic_values.specs.declared.failures.Trouble.TheVariants as trouble
 use Rattle.monitor_calls.specs.Pairs.{Pair}
-use Rattle.job_model.specs.Act.{Gives, Breaks, Faulted}
+use Rattle.job_model.specs.Act.{Breaks, Faulted}
 use Rattle.job_model.specs.Play.{Clock}
 use Rattle.program_model.specs.declared.values.Frame.{Frame}
 use Rattle.program_model.specs.Program.{Program}
-use Rattle.program_model.specs.Job.{Job, Deed}
+use Rattle.program_model.specs.Job.{Job}
 use Rattle.program_model.specs.Traps.{handled, caught}
 use Rattle.program_model.specs.Running.{dimension_program}
 use Rattle.program_model.proofs.ChainLemmas.{SpendsFirst, dimension_spends}
@@ -26,7 +26,7 @@ use Rattle.basic_eval.specs.declared.exits.Exit.{Exit}
 use Rattle.basic_eval.specs.declared.exits.Exit.TheVariants as exit
 use Rattle.basic_eval.specs.Acting.{Acts, break_of}
 use Rattle.basic_eval.specs.Keeping.{exit_at}
-use Rattle.basic_interpreter.specs.Meaning.{left_of, RunsCode}
+use Rattle.basic_interpreter.specs.Meaning.{RunsCode}
 use Rattle.basic_interpreter.specs.Units.{SpendsAtChain}
 use Rattle.basic_interpreter.proofs.PathLemmas.{chain_less}
 

@@ -1,13 +1,13 @@
 -- What came to its end leaves no channel open.
-use Rattle.std.proofs.Common.{◌≡◌, ℕ, ◌≤◌, true, false, List, [], ◌++◌, refl, sym, ap, subst, ◌∙◌, append_assoc}
+use Rattle.std.proofs.Common.{◌≡◌, ℕ, ◌≤◌, true, false, List, ◌++◌, refl, sym, ap, subst, ◌∙◌, append_assoc}
 use Rattle.std.specs.Prelude.{Option, Some, None, Result, Ok, Err}
 use Rattle.std.specs.Option.{option_map}
 use Rattle.basic_values.specs.declared.failures.Stop.{Stop}
 use Rattle.basic_values.specs.declared.failures.Stop.TheVariants as stop
 use Rattle.basic_values.specs.declared.failures.Trouble.{Trouble}
 use Rattle.basic_values.specs.declared.failures.Trouble.TheVariants as trouble
-use Rattle.monitor_calls.specs.Pairs.{Pair, Grew}
-use Rattle.job_model.specs.Act.{Act, Gives, Breaks, Asks, Takes, Break, Faulted, Halted, Gone, Left, ◌then◌, break_over}
+use Rattle.monitor_calls.specs.Pairs.{Pair}
+use Rattle.job_model.specs.Act.{Breaks, Break, Faulted, Halted, Gone, Left, ◌then◌, break_over}
 use Rattle.job_model.specs.Play.{Clock}
 use Rattle.job_model.specs.Follow.{Path, here, asked, quiet, tick, gone, Reaches, Follows, answered_by}
 use Rattle.job_model.proofs.Follows.{follows_from, follows_then, follows_in}

@@ -1,5 +1,5 @@
 -- A STOP as it is kept for CONT, and the end of a program.
-use Rattle.std.specs.Prelude.{Bool, true, false, Result, Ok, Err}
+use Rattle.std.specs.Prelude.{Bool, true, false, Result, Err}
 use Rattle.basic_values.specs.declared.failures.Trouble.{Trouble}
 use Rattle.basic_values.specs.declared.failures.Trouble.TheVariants as trouble
 use Rattle.basic_eval.specs.declared.exits.Exit.{Exit}

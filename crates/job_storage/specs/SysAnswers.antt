@@ -15,7 +15,7 @@ IsAskedBySys Receive = Unit {0}
 IsAskedBySys Status = Unit {0}
 IsAskedBySys request = ⊥
 
-abbrev pub kind_of : SysAnswer → AnswerKind
-kind_of answer.Done = ByDone true
-kind_of answer.Message = ByMessage
-kind_of answer.State = ByState
+abbrev pub kind_answered : SysAnswer → AnswerKind
+kind_answered answer.Done = ByDone true
+kind_answered answer.Message = ByMessage
+kind_answered answer.State = ByState

@@ -10,7 +10,7 @@ ghost use Rattle.monitor_calls.specs.declared.calls.Request.{Request as Asked};
 ghost use Rattle.program_model.specs.SysActs.{text_by, sys_does, sys_act};
 ghost use Rattle.sys_calls.specs.declared.calls.SysCall.TheVariants as told;
 ghost use Rattle.sys_calls.specs.Table.{IsToldBySys};
-ghost use Rattle.job_storage.specs.SysAnswers.{IsAskedBySys, kind_of};
+ghost use Rattle.job_storage.specs.SysAnswers.{IsAskedBySys, kind_answered};
 
 use crate::storage::Storage;
 use crate::values::copied;
@@ -79,7 +79,7 @@ fn ask_text<P: Port>(alloc: Global, port: &mut P, request: Request) -> Result<Te
 /// What answers a request of SYS.
 fn answer_to(request: &Request) -> SysAnswer
     requires { IsAskedBySys request.now }
-    ensures { answer_to request.now ≡ kind_of result }
+    ensures { answer_to request.now ≡ kind_answered result }
 {
     match request {
         Request::Receive => SysAnswer::Message,
@@ -90,7 +90,7 @@ fn answer_to(request: &Request) -> SysAnswer
 
 /// The text of a reply; a refusal ends the statement, and what is no reply to the request the job.
 fn text_by(alloc: Global, answer: SysAnswer, reply: &Reply) -> Result<Text, Stop>
-    ensures { (request : Asked) → IsAskedBySys request → answer_to request ≡ kind_of answer
+    ensures { (request : Asked) → IsAskedBySys request → answer_to request ≡ kind_answered answer
         → IfSome (answered_by result tt) (λ left. text_by (counts_as request reply.now) ≡ left) }
 {
     if let Reply::Failed(fault) = reply {
@@ -116,7 +116,7 @@ fn refused_by(fault: Fault) -> Stop
 
 /// Whether a reply is the answer.
 fn is_told(answer: SysAnswer, reply: &Reply) -> bool
-    ensures is { result ≡ is_answer (kind_of answer) reply.now }
+    ensures is { result ≡ is_answer (kind_answered answer) reply.now }
     ensures told { IsTrue result → IsToldBySys reply.now }
 {
     match (answer, reply) {

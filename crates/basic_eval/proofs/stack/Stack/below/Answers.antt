@@ -1,4 +1,4 @@
-use Rattle.std.proofs.Common.{◌≡◌, ◌-◌, List, [], ◌∷◌, length, drop, subst, arith}
+use Rattle.std.proofs.Common.{◌≡◌, ◌-◌, length, arith}
 use Rattle.basic_eval.proofs.LastValues.{before_last}
 use Rattle.basic_eval.proofs.stack.Stack.below.Goals as goal
 

@@ -1,4 +1,4 @@
-use Rattle.std.proofs.Common.{Ok, Err, Some, ap, sym}
+use Rattle.std.proofs.Common.{Ok, Err, ap, sym}
 use Rattle.channels.specs.Seen.{files}
 use Rattle.job_model.specs.Act.{Gives}
 use Rattle.job_model.proofs.Follows.{follows_from, follows_with, follows_is, follows_in, broken}

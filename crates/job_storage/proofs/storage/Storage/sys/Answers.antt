@@ -5,7 +5,6 @@ use Rattle.job_model.proofs.Follows.{follows_from, follows_nothing, follows_is}
 use Rattle.program_model.specs.SysActs.{sys_does}
 use Rattle.sys_calls.specs.CallFronts.{ReadsCall, call_in}
 use Rattle.sys_calls.specs.declared.calls.SysCall.{SysCall}
-use Rattle.job_storage.proofs.SysRequests.{asked}
 use Rattle.job_storage.proofs.storage.Storage.sys.Goals as goal
 
 pub returns-in-Ok : goal.returns-in-Ok
