@@ -1,7 +1,7 @@
 //! Tests of the parts that wholes are made of, by their public calls alone: of the monitor
 //! accounts, protection, the disk, the message queues, the table of jobs, the interlock, the printer, and names
-//! of files; of a job its memory, record fields, trap and terminal line; the texts of SYS, and what PRINT USING
-//! writes.
+//! of files; of a job its memory, record fields, trap and terminal line; the texts of SYS, what PRINT USING
+//! writes, and MAT.
 #![tactic(auto)]
 
 #[cfg(test)]
@@ -16,6 +16,8 @@ mod fields;
 mod interlock;
 #[cfg(test)]
 mod keys;
+#[cfg(test)]
+mod matrices;
 #[cfg(test)]
 mod memory;
 #[cfg(test)]

@@ -1,0 +1,7 @@
+mod CellLemmas
+mod LawLemmas
+mod LookupLemmas
+mod MatrixExamples
+mod RowLemmas
+mod StoreLemmas
+mod SumLemmas

@@ -1,0 +1,63 @@
+-- The bounds of matrices, and where MAT has error 55 by them.
+use Rattle.std.specs.Prelude.{ℕ, ◌==◌, Bool, true, false, ◌&&◌, Option, Some, None, is_some, unwrap_or}
+use Rattle.basic_tree.specs.declared.names.Name.{Name}
+use Rattle.job_memory.specs.Matrices.{bounds}
+use Rattle.job_memory.specs.Memory.{Memory}
+use Rattle.basic_matrix.specs.declared.values.MatValue.{MatValue}
+use Rattle.basic_matrix.specs.declared.values.MatValue.TheVariants.{Zero, One, Identity, Copy, Sum, Difference, Product, Scaled, Transposed}
+
+-- the greatest first subscript, and the greatest second one of an array that has two
+abbrev pub MatrixShape : Type 0
+MatrixShape = ℕ × Option ℕ
+
+-- that of an array, which is one without rows where it was not made
+abbrev pub shape_of : Memory → Name → MatrixShape
+shape_of m name = unwrap_or (bounds name m) (0, None)
+
+abbrev pub has_two : MatrixShape → Bool
+has_two shape = is_some shape.1
+
+abbrev pub row_count : MatrixShape → ℕ
+row_count shape = shape.0
+
+-- an array of one subscript has one element in each row
+abbrev pub column_count : MatrixShape → ℕ
+column_count shape = unwrap_or shape.1 1
+
+-- as many subscripts, with the same bounds
+abbrev pub same_second : Option ℕ → Option ℕ → Bool
+same_second None None = true
+same_second (Some a) (Some b) = a == b
+same_second None (Some b) = false
+same_second (Some a) None = false
+
+abbrev pub same_shape : MatrixShape → MatrixShape → Bool
+same_shape a b = (row_count a == row_count b) && same_second a.1 b.1
+
+-- IDN
+abbrev pub is_square : MatrixShape → Bool
+is_square shape = has_two shape && (row_count shape == column_count shape)
+
+-- the product of two arrays
+abbrev pub is_product : MatrixShape → MatrixShape → MatrixShape → Bool
+is_product left right shape =
+    has_two left && has_two right && has_two shape
+    && (column_count left == row_count right) && (row_count shape == row_count left) && (column_count shape == column_count right)
+
+-- TRN of an array
+abbrev pub is_turned : MatrixShape → MatrixShape → Bool
+is_turned of shape =
+    has_two of && has_two shape && (row_count shape == column_count of) && (column_count shape == row_count of)
+
+-- whether the arrays of the value fit each other, and the target fits the value. Where not, there is error 55.
+abbrev pub fits : (Name → MatrixShape) → Name → MatValue → Bool
+fits shape target Zero = true
+fits shape target One = true
+fits shape target Identity = is_square (shape target)
+fits shape target (Copy b) = same_shape (shape target) (shape b)
+fits shape target (Sum b c) = same_shape (shape b) (shape c) && same_shape (shape target) (shape b)
+fits shape target (Difference b c) =
+    same_shape (shape b) (shape c) && same_shape (shape target) (shape b)
+fits shape target (Product b c) = is_product (shape b) (shape c) (shape target)
+fits shape target (Scaled n b) = same_shape (shape target) (shape b)
+fits shape target (Transposed b) = is_turned (shape b) (shape target)

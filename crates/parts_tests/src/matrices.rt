@@ -1,0 +1,293 @@
+//! MAT on a memory: rows of assignments, arrays that are made where they are named, and rows that are read.
+
+use crate::arrays::are;
+use crate::memory::number_name;
+use basic_matrix::{MatValue, assign, row, touch};
+use basic_tree::{Name, Shape};
+use basic_values::{Fault, Halt, Int, Stop, Trouble};
+use job_memory::Memory;
+use std::alloc::Global;
+use std::test::Fail;
+
+/// 1 2 / 3 4.
+const A: u8 = b'A';
+/// Zeros of the same bounds.
+const B: u8 = b'B';
+/// 1 2 3 / 4 5 6.
+const C: u8 = b'C';
+/// 5, 6, of one subscript.
+const D: u8 = b'D';
+/// Three elements of one subscript.
+const E: u8 = b'E';
+/// Two rows without a column.
+const F: u8 = b'F';
+/// Two columns without a row.
+const G: u8 = b'G';
+
+/// The bounds of each array, and its numbers row by row.
+static ARRAYS: [(u8, u16, Option<u16>, &[i16]); 7] = [
+    (A, 2, Some(2), &[9, 9, 9, 9, 1, 2, 9, 3, 4]),
+    (B, 2, Some(2), &[9, 9, 9, 9, 0, 0, 9, 0, 0]),
+    (C, 2, Some(3), &[9, 9, 9, 9, 9, 1, 2, 3, 9, 4, 5, 6]),
+    (D, 2, None, &[9, 5, 6]),
+    (E, 3, None, &[9, 0, 0, 0]),
+    (F, 2, Some(0), &[9, 9, 9]),
+    (G, 0, Some(2), &[9, 9, 9]),
+];
+
+/// A value, with arrays by their letters, and the factor as a plain number.
+#[derive(Clone, Copy)]
+enum Given {
+    Zero,
+    One,
+    Identity,
+    Copy(u8),
+    Sum(u8, u8),
+    Difference(u8, u8),
+    Product(u8, u8),
+    Scaled(i16, u8),
+    Transposed(u8),
+}
+
+/// A target, what is assigned to it, and its numbers then; none where that is error 55.
+type Row = (u8, Given, &'static [i16]);
+
+static ROWS: [Row; 36] = [
+    (B, Given::Product(A, A), &[7, 10, 15, 22]),
+    (A, Given::Product(A, A), &[7, 10, 15, 22]),
+    (A, Given::Product(A, B), &[0, 0, 0, 0]),
+    (C, Given::Product(A, C), &[9, 12, 15, 19, 26, 33]),
+    (A, Given::Product(F, G), &[0, 0, 0, 0]),
+    (C, Given::Product(C, A), &[]),
+    (A, Given::Product(A, C), &[]),
+    (A, Given::Product(A, D), &[]),
+    (D, Given::Product(A, D), &[]),
+    (A, Given::Transposed(A), &[1, 3, 2, 4]),
+    (B, Given::Transposed(A), &[1, 3, 2, 4]),
+    (B, Given::Transposed(C), &[]),
+    (D, Given::Transposed(D), &[]),
+    (B, Given::Sum(A, A), &[2, 4, 6, 8]),
+    (A, Given::Sum(A, B), &[1, 2, 3, 4]),
+    (D, Given::Sum(D, D), &[10, 12]),
+    (A, Given::Sum(A, C), &[]),
+    (A, Given::Sum(A, D), &[]),
+    (D, Given::Sum(D, A), &[]),
+    (D, Given::Sum(D, E), &[]),
+    (C, Given::Sum(A, A), &[]),
+    (A, Given::Difference(B, A), &[-1, -2, -3, -4]),
+    (D, Given::Difference(D, D), &[0, 0]),
+    (E, Given::Difference(D, D), &[]),
+    (A, Given::Scaled(20000, A), &[20000, -25536, -5536, 14464]),
+    (D, Given::Scaled(-1, D), &[-5, -6]),
+    (C, Given::Scaled(2, A), &[]),
+    (A, Given::Identity, &[1, 0, 0, 1]),
+    (C, Given::Identity, &[]),
+    (D, Given::Identity, &[]),
+    (C, Given::One, &[1, 1, 1, 1, 1, 1]),
+    (D, Given::One, &[1, 1]),
+    (A, Given::Zero, &[0, 0, 0, 0]),
+    (B, Given::Copy(A), &[1, 2, 3, 4]),
+    (A, Given::Copy(A), &[1, 2, 3, 4]),
+    (A, Given::Copy(D), &[]),
+];
+
+fn value_of(given: Given) -> MatValue {
+    match given {
+        Given::Zero => MatValue::Zero,
+        Given::One => MatValue::One,
+        Given::Identity => MatValue::Identity,
+        Given::Copy(b) => MatValue::Copy(number_name(b)),
+        Given::Sum(b, c) => MatValue::Sum(number_name(b), number_name(c)),
+        Given::Difference(b, c) => MatValue::Difference(number_name(b), number_name(c)),
+        Given::Product(b, c) => MatValue::Product(number_name(b), number_name(c)),
+        Given::Scaled(n, b) => MatValue::Scaled(Int::new(n), number_name(b)),
+        Given::Transposed(b) => MatValue::Transposed(number_name(b)),
+    }
+}
+
+/// The numbers of an array are stored one by one.
+fn store(memory: &mut Memory, name: Name, second: Option<u16>, values: &[i16]) -> Result<(), Fail> {
+    let (mut i, mut j) = (0, 0);
+    for value in values {
+        let last = second.map(|_| Int::new(j));
+        let stored = memory.set_number_at(name, Int::new(i), last, Int::new(*value));
+        stored.ok().ok_or("no element")?;
+        (i, j) = next_subscripts(second, i, j);
+    }
+    Ok(())
+}
+
+/// The subscripts behind these.
+fn next_subscripts(second: Option<u16>, i: i16, j: i16) -> (i16, i16) {
+    match second {
+        Some(second) if i32::from(j) < i32::from(second) => (i, j.wrapping_add(1)),
+        _ => (i.wrapping_add(1), 0),
+    }
+}
+
+fn memory_of_arrays(alloc: Global) -> Result<Memory, Fail> {
+    let mut memory = Memory::new(alloc);
+    for (name, first, second, values) in &ARRAYS {
+        let (name, first, second) = (number_name(*name), *first, *second);
+        let shape = Shape {
+            name,
+            first,
+            second,
+        };
+        memory.dim(shape).ok().ok_or("no array")?;
+        store(&mut memory, name, second, values)?;
+    }
+    Ok(memory)
+}
+
+/// The numbers of a row that is there.
+fn row_of(memory: &Memory, name: Name, place: u16) -> Result<Vec<Int>, Fail> {
+    match memory.bounds(name) {
+        Some((first, _)) if place <= first => Ok(row(memory, name, place)?),
+        _ => Err("no row".into()),
+    }
+}
+
+/// Whether the rows of the array hold these numbers.
+fn rows_are(memory: &Memory, name: Name, wanted: &[i16]) -> Result<bool, Fail> {
+    let mut left = wanted;
+    for place in 1..=memory.bounds(name).map_or(0, |bounds| bounds.0) {
+        let numbers = row_of(memory, name, place)?;
+        let Some((front, rest)) = left.split_at_checked(numbers.len()) else {
+            return Ok(false);
+        };
+        if !are(&numbers, front) {
+            return Ok(false);
+        }
+        left = rest;
+    }
+    Ok(left.is_empty())
+}
+
+/// Whether the array holds these numbers, those with a subscript 0 too.
+fn holds(memory: &Memory, name: Name, wanted: &[i16]) -> Result<bool, Fail> {
+    Ok(are(&memory.numbers(name)?, wanted))
+}
+
+/// Whether each array but this one is as it was made.
+fn others_stay(memory: &Memory, target: Name) -> Result<bool, Fail> {
+    for (letter, _, _, values) in &ARRAYS {
+        let name = number_name(*letter);
+        if name != target && !holds(memory, name, values)? {
+            return Ok(false);
+        }
+    }
+    Ok(true)
+}
+
+/// Whether each number with a subscript 0 is 9, as it was stored.
+fn zero_subscripts_stay(memory: &Memory, name: Name) -> bool {
+    let (zero, one) = (Int::new(0), Int::new(1));
+    let nine = Ok(Int::new(9));
+    if matches!(memory.bounds(name), Some((_, None))) {
+        return memory.number_at(name, zero, None) == nine;
+    }
+    memory.number_at(name, zero, Some(one)) == nine
+        && memory.number_at(name, one, Some(zero)) == nine
+}
+
+/// Whether an assignment leaves what the row wants.
+fn is_assigned(alloc: Global, letter: u8, given: Given, wanted: &[i16]) -> Result<bool, Fail> {
+    let target = number_name(letter);
+    let mut memory = memory_of_arrays(alloc)?;
+    match assign(&mut memory, target, &value_of(given)) {
+        Ok(()) => {
+            let is_right = rows_are(&memory, target, wanted)?
+                && zero_subscripts_stay(&memory, target);
+            Ok(is_right && others_stay(&memory, target)?)
+        }
+        Err(Stop::Fault(fault)) => {
+            let is_refused = fault == Fault::new(55) && wanted.is_empty();
+            Ok(is_refused && others_stay(&memory, number_name(b'Z'))?)
+        }
+        Err(_) => Ok(false),
+    }
+}
+
+fn first_wrong_assignment(alloc: Global) -> Result<Option<usize>, Fail> {
+    for (place, (target, given, wanted)) in ROWS.iter().enumerate() {
+        if !is_assigned(alloc, *target, *given, wanted)? {
+            return Ok(Some(place));
+        }
+    }
+    Ok(None)
+}
+
+#[test]
+fn each_value_of_mat_is_assigned_or_refused(rt: HostRuntime) -> Result<(), Fail> {
+    let wrong = first_wrong_assignment(rt.alloc())?;
+    assert_eq!(rt; wrong, None);
+    Ok(())
+}
+
+/// The bounds of an array behind its being named, where one with these is there before.
+fn bounds_behind_touch(
+    alloc: Global,
+    before: Option<(u16, Option<u16>)>,
+) -> Result<Option<(u16, Option<u16>)>, Fail> {
+    let mut memory = Memory::new(alloc);
+    if let Some((first, second)) = before {
+        let shape = Shape {
+            name: number_name(A),
+            first,
+            second,
+        };
+        memory.dim(shape).ok().ok_or("no array")?;
+    }
+    touch(&mut memory, number_name(A)).ok().ok_or("no room")?;
+    Ok(memory.bounds(number_name(A)))
+}
+
+#[test]
+fn an_array_that_is_named_is_made(rt: HostRuntime) -> Result<(), Fail> {
+    let made = bounds_behind_touch(rt.alloc(), None)?;
+    assert_eq!(rt; made, Some((10, Some(10))));
+    let kept = bounds_behind_touch(rt.alloc(), Some((3, None)))?;
+    assert_eq!(rt; kept, Some((3, None)));
+    Ok(())
+}
+
+/// Whether there is no room for another array where one fills it.
+fn is_full(alloc: Global) -> Result<bool, Fail> {
+    let mut memory = Memory::new(alloc);
+    let shape = Shape {
+        name: number_name(B),
+        first: 65535,
+        second: Some(1),
+    };
+    memory.dim(shape).ok().ok_or("no array")?;
+    let is_refused = touch(&mut memory, number_name(A)) == Err(Trouble::Refused(Halt::RoomFull));
+    Ok(is_refused && memory.bounds(number_name(A)) == None)
+}
+
+#[test]
+fn an_array_without_room_is_not_made(rt: HostRuntime) -> Result<(), Fail> {
+    let is_right = is_full(rt.alloc())?;
+    assert!(rt; is_right);
+    Ok(())
+}
+
+/// Whether an array that was just made takes CON from 1 to 10.
+fn is_made_of_ones(alloc: Global) -> Result<bool, Fail> {
+    let mut memory = Memory::new(alloc);
+    touch(&mut memory, number_name(A)).ok().ok_or("no room")?;
+    assign(&mut memory, number_name(A), &MatValue::One)
+        .ok()
+        .ok_or("refused")?;
+    let (zero, ten) = (Int::new(0), Int::new(10));
+    let last = memory.number_at(number_name(A), ten, Some(ten)) == Ok(Int::new(1));
+    let corner = memory.number_at(number_name(A), zero, Some(ten)) == Ok(zero);
+    Ok(last && corner)
+}
+
+#[test]
+fn an_array_that_was_just_made_is_assigned(rt: HostRuntime) -> Result<(), Fail> {
+    let is_right = is_made_of_ones(rt.alloc())?;
+    assert!(rt; is_right);
+    Ok(())
+}
