@@ -15,7 +15,7 @@ named letter = record { letter = letter; digit = None; text = false }
 abbrev table_of : ℕ → Option ℕ → List ℕ → Table
 table_of first second cells = record { first = first; second = second; cells = map (λ n. Number (pos n)) cells }
 
--- A% is 1 2 / 3 4, B% is of the same bounds, C% has two row_count of three, D% two elements of one subscript, E% two rows without
+-- A% is 1 2 / 3 4, B% is of the same bounds, C% has two matrix_rows of three, D% two elements of one subscript, E% two rows without
 -- columns, and F% two columns without rows
 abbrev some : Memory
 some = record {
@@ -31,7 +31,7 @@ some = record {
   aside = [];
 }
 
--- two row_count of an array behind an assignment, or nothing in place of an error
+-- two matrix_rows of an array behind an assignment, or nothing in place of an error
 abbrev rows_behind : ℕ → Result Memory ℕ → List (List ℤ)
 rows_behind letter (Ok m) = row_numbers m (named letter) 1 ∷ row_numbers m (named letter) 2 ∷ []
 rows_behind letter (Err fault) = []
@@ -50,7 +50,7 @@ product = refl
 product_onto_itself : rows_behind 65 (assigned (named 65) (Product (named 65) (named 65)) some) ≡ squared
 product_onto_itself = refl
 
--- two row_count of three columns are those of 2 by 2 and 2 by 3
+-- two matrix_rows of three columns are those of 2 by 2 and 2 by 3
 oblong_product : rows_behind 67 (assigned (named 67) (Product (named 65) (named 67)) some) ≡ (pos 9 ∷ pos 12 ∷ pos 15 ∷ []) ∷ (pos 19 ∷ pos 26 ∷ pos 33 ∷ []) ∷ []
 oblong_product = refl
 

@@ -6,7 +6,7 @@ use Rattle.job_memory.specs.Memory.{Memory, array, element, number_at}
 use Rattle.job_memory.specs.Names.{at_name}
 use Rattle.basic_matrix.specs.declared.values.MatValue.{MatValue}
 use Rattle.basic_matrix.specs.MatrixActs.{assigned}
-use Rattle.basic_matrix.specs.MatrixShapes.{shape_of, row_count, column_count}
+use Rattle.basic_matrix.specs.MatrixShapes.{shape_of, matrix_rows, matrix_columns}
 use Rattle.basic_matrix.specs.MatrixValues.{entry, value_at}
 
 -- an array has as many elements as its bounds say, as in every memory that calls make
@@ -21,12 +21,12 @@ pub record HasElement (m : Memory) (name : Name) (row column : ℕ) : Type 0 whe
 
 abbrev pub EntriesAreElements : Type 0
 EntriesAreElements =
-    (m : Memory) (name : Name) (row column : ℕ) → row ≤ row_count (shape_of m name) → HasElement m name row column
+    (m : Memory) (name : Name) (row column : ℕ) → row ≤ matrix_rows (shape_of m name) → HasElement m name row column
 
 -- after an assignment the target is the value over the old memory, and all else is as it was
 pub record ChangesTheTarget (target : Name) (value : MatValue) (old new : Memory) : Type 0 where
-  pub value_is : (row column : ℕ) → 1 ≤ row → row ≤ row_count (shape_of old target) → 1 ≤ column →
-      column ≤ column_count (shape_of old target) → entry new target row column ≡ value_at old value row column
+  pub value_is : (row column : ℕ) → 1 ≤ row → row ≤ matrix_rows (shape_of old target) → 1 ≤ column →
+      column ≤ matrix_columns (shape_of old target) → entry new target row column ≡ value_at old value row column
   pub row_0 : (column : ℤ) → element target (pos 0) (Some column) new ≡ element target (pos 0) (Some column) old
   pub column_0 : (row : ℤ) → element target row (Some (pos 0)) new ≡ element target row (Some (pos 0)) old
   pub element_0 : element target (pos 0) None new ≡ element target (pos 0) None old

@@ -13,7 +13,7 @@ use Rattle.job_memory.specs.Answers.{Changes}
 use Rattle.job_memory.specs.Matrices.{bounds, renumbered, subscripts_at}
 use Rattle.job_memory.specs.Memory.{Memory, made}
 use Rattle.basic_matrix.specs.declared.values.MatValue.{MatValue}
-use Rattle.basic_matrix.specs.MatrixShapes.{shape_of, row_count, column_count, fits}
+use Rattle.basic_matrix.specs.MatrixShapes.{shape_of, matrix_rows, matrix_columns, fits}
 use Rattle.basic_matrix.specs.MatrixValues.{entry, value_at}
 
 -- AN ARRAY THAT A STATEMENT NAMES
@@ -62,8 +62,8 @@ StoresValue old new (Ok wanted) (Err other) = ⊥
 -- the row is there
 pub record HasRow (m : Memory) (name : Name) (row : ℕ) : Type 0 where
   pub made : IsSome (bounds name m)
-  pub within : row ≤ row_count (shape_of m name)
+  pub within : row ≤ matrix_rows (shape_of m name)
 
 -- its numbers, from column 1 on
 abbrev pub row_numbers : Memory → Name → ℕ → List ℤ
-row_numbers m name row = map (entry m name row) (range_with_len 1 (column_count (shape_of m name)))
+row_numbers m name row = map (entry m name row) (range_with_len 1 (matrix_columns (shape_of m name)))

@@ -17,12 +17,12 @@ shape_of m name = unwrap_or (bounds name m) (0, None)
 abbrev pub has_two : MatrixShape → Bool
 has_two shape = is_some shape.1
 
-abbrev pub row_count : MatrixShape → ℕ
-row_count shape = shape.0
+abbrev pub matrix_rows : MatrixShape → ℕ
+matrix_rows shape = shape.0
 
 -- an array of one subscript has one element in each row
-abbrev pub column_count : MatrixShape → ℕ
-column_count shape = unwrap_or shape.1 1
+abbrev pub matrix_columns : MatrixShape → ℕ
+matrix_columns shape = unwrap_or shape.1 1
 
 -- as many subscripts, with the same bounds
 abbrev pub same_second : Option ℕ → Option ℕ → Bool
@@ -32,22 +32,24 @@ same_second None (Some b) = false
 same_second (Some a) None = false
 
 abbrev pub same_shape : MatrixShape → MatrixShape → Bool
-same_shape a b = (row_count a == row_count b) && same_second a.1 b.1
+same_shape a b = (matrix_rows a == matrix_rows b) && same_second a.1 b.1
 
 -- IDN
 abbrev pub is_square : MatrixShape → Bool
-is_square shape = has_two shape && (row_count shape == column_count shape)
+is_square shape = has_two shape && (matrix_rows shape == matrix_columns shape)
 
 -- the product of two arrays
 abbrev pub is_product : MatrixShape → MatrixShape → MatrixShape → Bool
 is_product left right shape =
     has_two left && has_two right && has_two shape
-    && (column_count left == row_count right) && (row_count shape == row_count left) && (column_count shape == column_count right)
+    && (matrix_columns left == matrix_rows right) && (matrix_rows shape == matrix_rows left)
+    && (matrix_columns shape == matrix_columns right)
 
 -- TRN of an array
 abbrev pub is_turned : MatrixShape → MatrixShape → Bool
 is_turned of shape =
-    has_two of && has_two shape && (row_count shape == column_count of) && (column_count shape == row_count of)
+    has_two of && has_two shape
+    && (matrix_rows shape == matrix_columns of) && (matrix_columns shape == matrix_rows of)
 
 -- whether the arrays of the value fit each other, and the target fits the value. Where not, there is error 55.
 abbrev pub fits : (Name → MatrixShape) → Name → MatValue → Bool

@@ -9,7 +9,7 @@ use Rattle.basic_matrix.specs.declared.sources.Source.{Source}
 use Rattle.basic_matrix.specs.declared.sources.Source.TheVariants.{Constant, Diagonal, Copied, Sum, Difference, Product, Scaled, Turned}
 use Rattle.basic_matrix.specs.declared.values.MatValue.{MatValue}
 use Rattle.basic_matrix.specs.MatrixActs.{at_subscripts}
-use Rattle.basic_matrix.specs.MatrixShapes.{MatrixShape, shape_of, column_count}
+use Rattle.basic_matrix.specs.MatrixShapes.{MatrixShape, shape_of, matrix_columns}
 use Rattle.basic_matrix.specs.MatrixValues.{entry_place, middle_sum, value_at}
 
 abbrev pub grid_at : Grid → ℕ → ℕ → ℤ
@@ -27,7 +27,7 @@ source_at (Copied b) row column = grid_at b row column
 source_at (Sum b c) row column = wrap (grid_at b row column +ℤ grid_at c row column)
 source_at (Difference b c) row column = wrap (grid_at b row column -ℤ grid_at c row column)
 source_at (Product b c) row column =
-    wrap (middle_sum (grid_at b) (grid_at c) (column_count b.shape) row column)
+    wrap (middle_sum (grid_at b) (grid_at c) (matrix_columns b.shape) row column)
 source_at (Scaled n b) row column = wrap (n *ℤ grid_at b row column)
 source_at (Turned b) row column = grid_at b column row
 

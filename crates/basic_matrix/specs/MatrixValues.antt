@@ -7,7 +7,7 @@ use Rattle.job_memory.specs.Matrices.{numbers, number_in_list}
 use Rattle.job_memory.specs.Memory.{Memory}
 use Rattle.basic_matrix.specs.declared.values.MatValue.{MatValue}
 use Rattle.basic_matrix.specs.declared.values.MatValue.TheVariants.{Zero, One, Identity, Copy, Sum, Difference, Product, Scaled, Transposed}
-use Rattle.basic_matrix.specs.MatrixShapes.{shape_of, column_count}
+use Rattle.basic_matrix.specs.MatrixShapes.{shape_of, matrix_columns}
 
 -- where the element of a row and a column stands; in an array of one subscript each row has one element
 abbrev pub entry_place : Option ℕ → ℕ → ℕ → ℕ
@@ -33,6 +33,6 @@ value_at m (Copy b) row column = entry m b row column
 value_at m (Sum b c) row column = wrap (entry m b row column +ℤ entry m c row column)
 value_at m (Difference b c) row column = wrap (entry m b row column -ℤ entry m c row column)
 value_at m (Product b c) row column =
-    wrap (middle_sum (entry m b) (entry m c) (column_count (shape_of m b)) row column)
+    wrap (middle_sum (entry m b) (entry m c) (matrix_columns (shape_of m b)) row column)
 value_at m (Scaled n b) row column = wrap (n *ℤ entry m b row column)
 value_at m (Transposed b) row column = entry m b column row

@@ -5,7 +5,7 @@ ghost use Rattle.job_memory.specs.Matrices.{number_in_list, renumbered};
 ghost use Rattle.basic_matrix.specs.MatrixActs.{assigned, with_value, row_numbers, Touches, StoresValue, HasRow};
 
 use crate::grids::entry_place;
-use crate::shapes::{column_count, fits, shape_of};
+use crate::shapes::{fits, matrix_columns, shape_of};
 use crate::sources::Source;
 use crate::values::MatValue;
 use basic_tree::{Name, Shape};
@@ -59,5 +59,5 @@ pub fn row(memory: &Memory, name: Name, row: u16) -> Result<Vec<Int>, NoMemory>
 {
     let shape = shape_of(memory, name);
     let place = entry_place(shape.1, usize::from(row), 1);
-    memory.numbers_from(name, place, usize::from(column_count(shape)))
+    memory.numbers_from(name, place, usize::from(matrix_columns(shape)))
 }

@@ -2,11 +2,11 @@
 
 ghost use Rattle.std.specs.Prelude.{◌≡◌, ◌<◌, ◌^◌, IfOk};
 ghost use Rattle.basic_values.specs.Numbers.{wrap};
-ghost use Rattle.basic_matrix.specs.MatrixShapes.{column_count};
+ghost use Rattle.basic_matrix.specs.MatrixShapes.{matrix_columns};
 ghost use Rattle.basic_matrix.specs.MatrixSources.{grid_at, IsGridOf};
 ghost use Rattle.basic_matrix.specs.MatrixValues.{entry_place, middle_sum};
 
-use crate::shapes::{Bounds, column_count, shape_of};
+use crate::shapes::{Bounds, matrix_columns, shape_of};
 use basic_tree::Name;
 use basic_values::{Int, NoMemory};
 use job_memory::Memory;
@@ -58,10 +58,10 @@ pub(crate) fn middle_sum(left: &Grid, right: &Grid, row: usize, column: usize) -
     requires row { row < 2 ^ 32 }
     requires column { column < 2 ^ 32 }
     ensures { result ≡ wrap
-        (middle_sum (grid_at left.now) (grid_at right.now) (column_count left.now.shape) row column) }
+        (middle_sum (grid_at left.now) (grid_at right.now) (matrix_columns left.now.shape) row column) }
 {
     let mut sum = Int::new(0);
-    for before in 0..usize::from(column_count(left.shape)) {
+    for before in 0..usize::from(matrix_columns(left.shape)) {
         let middle = before + 1;
         sum = sum.add(left.at(row, middle).mul(right.at(middle, column)));
     }

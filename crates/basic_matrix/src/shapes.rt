@@ -1,7 +1,7 @@
 //! The bounds of matrices, and whether those of a statement fit.
 
 ghost use Rattle.std.specs.Prelude.{◌≡◌};
-ghost use Rattle.basic_matrix.specs.MatrixShapes.{shape_of, column_count, same_second, same_shape, is_square, is_product, is_turned, fits};
+ghost use Rattle.basic_matrix.specs.MatrixShapes.{shape_of, matrix_columns, same_second, same_shape, is_square, is_product, is_turned, fits};
 
 use crate::values::MatValue;
 use basic_tree::Name;
@@ -18,8 +18,8 @@ pub(crate) fn shape_of(memory: &Memory, name: Name) -> Bounds
 }
 
 /// How many elements a row has without that of subscript 0: one where there is one subscript.
-pub(crate) fn column_count(shape: Bounds) -> u16
-    ensures { result ≡ column_count shape }
+pub(crate) fn matrix_columns(shape: Bounds) -> u16
+    ensures { result ≡ matrix_columns shape }
 {
     shape.1.unwrap_or(1)
 }

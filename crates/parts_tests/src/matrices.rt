@@ -1,10 +1,10 @@
 //! MAT on a memory: rows of assignments, arrays that are made where they are named, and rows that are read.
 
 use crate::arrays::are;
-use crate::memory::number_name;
+use crate::memory::{Told, number_name, stored};
 use basic_matrix::{MatValue, assign, row, touch};
 use basic_tree::{Name, Shape};
-use basic_values::{Fault, Halt, Int, Stop, Trouble};
+use basic_values::{Halt, Int, Trouble};
 use job_memory::Memory;
 use std::alloc::Global;
 use std::test::Fail;
@@ -195,17 +195,14 @@ fn zero_subscripts_stay(memory: &Memory, name: Name) -> bool {
 fn is_assigned(alloc: Global, letter: u8, given: Given, wanted: &[i16]) -> Result<bool, Fail> {
     let target = number_name(letter);
     let mut memory = memory_of_arrays(alloc)?;
-    match assign(&mut memory, target, &value_of(given)) {
-        Ok(()) => {
+    match stored(assign(&mut memory, target, &value_of(given))) {
+        Told::Done => {
             let is_right = rows_are(&memory, target, wanted)?
                 && zero_subscripts_stay(&memory, target);
             Ok(is_right && others_stay(&memory, target)?)
         }
-        Err(Stop::Fault(fault)) => {
-            let is_refused = fault == Fault::new(55) && wanted.is_empty();
-            Ok(is_refused && others_stay(&memory, number_name(b'Z'))?)
-        }
-        Err(_) => Ok(false),
+        Told::Fault(55) => Ok(wanted.is_empty() && others_stay(&memory, number_name(b'Z'))?),
+        _ => Ok(false),
     }
 }
 

@@ -100,7 +100,7 @@ fn made(answer: Result<(), Trouble<Halt>>) -> Told {
     }
 }
 
-fn stored(answer: Result<(), Stop>) -> Told {
+pub(crate) fn stored(answer: Result<(), Stop>) -> Told {
     match answer {
         Ok(()) => Told::Done,
         Err(stop) => stopped(&stop),
