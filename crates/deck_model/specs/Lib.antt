@@ -9,6 +9,5 @@ pub mod Reading
 pub mod Refusals
 pub mod Report
 pub mod Spelling
-pub mod Words
 pub use Rattle.monitor_calls.specs.Names
 pub use Rattle.monitor_calls.specs.Volumes

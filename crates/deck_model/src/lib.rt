@@ -2,7 +2,7 @@
 //!
 //! `specs/Spelling` says which bytes spell which deck, in two versions, `specs/Refusals` at which
 //! line and for which cause bytes that spell none are refused, in the words of `specs/Lines`, `Forms`
-//! and `Fronts`; `specs/Report` says what a run writes, and `specs/Words` what the words ask for.
+//! and `Fronts`; `specs/Report` says what a run writes.
 //! `specs/Reading` reads a deck line by line; no promise of the program speaks of it, and the
 //! lemmas of `proofs/ReadingLaws` prove that it finds exactly the decks and the refusals of the
 //! definitions. It stands on `monitor_calls`, for accounts and volumes, and on `basic_values`, for

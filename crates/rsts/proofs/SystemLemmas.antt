@@ -1,5 +1,5 @@
 -- What was read, and what a run leaves for its report.
-use Rattle.std.proofs.Common.{◌≡◌, ℕ, true, false, List, ◌∷◌, [], map, Option, Some, None, Ok, Err, inl, inr, ⊎_elim, refl, sym, ap, ◌∙◌}
+use Rattle.std.proofs.Common.{◌≡◌, ℕ, true, false, List, ◌∷◌, [], map, Option, Some, None, Ok, Err, inl, inr, ⊎_elim, refl, sym, ap, ◌∙◌, arith}
 use Rattle.std.specs.Prelude.{Bool, Result, IsOk}
 use Rattle.monitor_calls.specs.declared.calls.Entry.{Entry}
 use Rattle.deck_model.specs.declared.faults.DeckCause.{DeckCause}
@@ -17,8 +17,10 @@ use Rattle.rsts.specs.declared.systems.Stopped.{Stopped}
 use Rattle.rsts.specs.declared.systems.Stopped.TheVariants as stopped
 use Rattle.deck_reader.specs.Seen.{terminal_of, deck_of}
 use Rattle.report_texts.specs.Names.{names_of}
+use Rattle.program_words.specs.declared.words.Asked.{Asked}
+use Rattle.program_words.specs.declared.words.Asked.TheVariants.{Run, Check, Nothing}
 use Rattle.rsts.specs.Headline as headline
-use Rattle.rsts.specs.Headline.{Ends, NothingGiven, SourceFailed, InputTooLong, SinkFailed, WantedMemory, Answers, IsReport, HasRan, IsGoodLine, HasChecked, FoundDeck, SpellsNone}
+use Rattle.rsts.specs.Headline.{Ends, NothingGiven, SourceFailed, InputTooLong, SinkFailed, WantedMemory, Answers, IsReport, HasRan, IsGoodLine, HasChecked, FoundDeck, SpellsNone, Does}
 use Rattle.rsts.specs.Outcomes.{IfRan, OnChecked, OnUsage, OnReadFault, OnTooLong, IfDeck, OnWriteFault, OnNoMemory}
 use Rattle.rsts.specs.SourceEnds.{outcome_of, WhyStopped, MustStop, MustFind, MustRefuse}
 use Rattle.rsts.specs.Streams.{AreAll, IsOverLimit, BrokeOff}
@@ -147,3 +149,22 @@ module _ (deck : Deck) (before after : Ends) (stop : MustStop (Ok deck) before.s
     must_refuse = λ fault none. absurd (not_refused fault none);
     completes = λ fair. absurd (fair.sink broke.fault);
   }
+
+-- where memory ran out before anything was done
+wanted_answers : (IsOutput : model.Deck → List ℕ → Type 0) (Succeeds : Outcome → Type 0) (e : Ends) → Answers IsOutput Succeeds e e outcome.NoMemory
+wanted_answers IsOutput Succeeds e = record {
+  not_usage = tt;
+  read_fault = tt;
+  too_long = tt;
+  deck = tt;
+  write_fault = tt;
+  no_memory = record { no_fault = refl; given = refl };
+  must_be_too_long = λ over. absurd (omega (arith, over));
+  must_refuse = λ fault none. inr refl;
+  completes = λ fair. inr refl;
+}
+
+pub wanted : (asked : Asked) (e : Ends) → Does asked e e outcome.NoMemory
+wanted (Run history) e = record { ran = tt; not_checked = tt; answers = wanted_answers (IsReport history) HasRan e }
+wanted Check e = record { checked = tt; not_ran = tt; answers = wanted_answers IsGoodLine HasChecked e }
+wanted Nothing e = record { usage = inr refl; untouched = refl }

@@ -1,6 +1,6 @@
 -- What the program does. Whoever trusts this file, and the definitions that it names, knows it.
 -- `Does`, at the end, is the one clause of the program's call; what stands before it are its words.
-use Rattle.std.specs.Prelude.{◌≡◌, ℕ, ◌≤◌, Bool, if◌then◌else◌, List, [], ◌++◌, length, map, slice_get, Some, ◌⊎◌}
+use Rattle.std.specs.Prelude.{◌≡◌, ℕ, ◌≤◌, Bool, if◌then◌else◌, List, ◌++◌, length, map, slice_get, Some, ◌⊎◌}
 use Rattle.monitor_calls.specs.declared.calls.Entry.{Entry}
 use Rattle.monitor_calls.specs.Pairs.{Pair, requests, replies}
 use Rattle.monitor_calls.specs.Proper.{Proper}
@@ -12,7 +12,8 @@ use Rattle.deck_model.specs.Spelling.{Spelled}
 use Rattle.deck_model.specs.Refusals as refusals
 use Rattle.deck_model.specs.Report.{report, good_line}
 use Rattle.deck_model.specs.Histories.{history_text}
-use Rattle.deck_model.specs.Words.{Asked, Run, Check, Nothing}
+use Rattle.program_words.specs.declared.words.Asked.{Asked}
+use Rattle.program_words.specs.declared.words.Asked.TheVariants.{Run, Check, Nothing}
 use Rattle.rsts_io.specs.Ends.{SourceState, SinkState, Rose}
 use Rattle.deck_model.specs.declared.faults.DeckFault.{DeckFault}
 use Rattle.rsts.specs.declared.outcomes.Outcome.{Outcome}
@@ -221,9 +222,9 @@ pub record Checks (before after : Ends) (result : Outcome) : Type 0 where
   pub not_ran : IfRan result (λ history. ⊥)
   pub answers : Answers IsGoodLine HasChecked before after result
 
--- nothing was read and nothing was written
+-- unless memory runs out, the usage is told; nothing was read and nothing was written
 pub record TellsUsage (before after : Ends) (result : Outcome) : Type 0 where
-  pub usage : result ≡ outcome.Usage
+  pub usage : (result ≡ outcome.Usage) ⊎ (result ≡ outcome.NoMemory)
   pub untouched : after ≡ before
 
 -- as the words ask, a deck is run, with the text of its history or without, or checked, or the usage

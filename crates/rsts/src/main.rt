@@ -2,8 +2,8 @@
 //!
 //! `top::rsts_main` carries the program's promise: its one clause is `Does` of `specs/Headline`.
 //! `streams` reads a source and gives to a sink, `runs` runs the terminals of a deck,
-//! `systems` puts these together, `words` tells what is asked, and `outcomes` the status. It stands
-//! on `deck_reader`, for decks, on `report_texts`, for what is written, on `command_level`, for the
+//! `systems` puts these together, and `outcomes` tells the status. It stands on `program_words`, for
+//! what is asked, on `deck_reader`, for decks, on `report_texts`, for what is written, on `command_level`, for the
 //! session of a terminal, on `terminal_runner`, for the threads, and on `rsts_io`, for the ends;
 //! what they mean stands in `deck_model`, `job_model` and `monitor_model`.
 #![tactic(auto)]
@@ -13,27 +13,27 @@ mod runs;
 mod streams;
 mod systems;
 mod top;
-mod words;
 
 use crate::outcomes::Outcome;
-use crate::top::rsts_main;
+use crate::top::{Step, begin, rsts_main};
 use rsts_io::{IdlePacer, StdSink, StdSource};
 use std::process::ExitCode;
 use std::rt::Env;
 use std::{env, io, str};
 
-/// Calls the top call with standard input and output, says on standard error how it ended, and ends
-/// with its status.
+/// Does what the words ask between standard input and output, says on standard error how it ended,
+/// and ends with its status. What waits for nobody is done without the top call, which may wait.
 fn main(rt: HostRuntime) -> ExitCode {
+    let mut source = StdSource::new(rt.reader());
+    let mut sink = StdSink::new(io::writer(&rt));
     let outcome = match words_of(&rt) {
-        Ok(words) => rsts_main(
-            &rt,
-            rt.alloc(),
-            words.as_slice(),
-            &mut StdSource::new(rt.reader()),
-            &mut StdSink::new(io::writer(&rt)),
-            &IdlePacer,
-        ),
+        Ok(words) => match begin(rt.alloc(), &words, &mut source, &mut sink) {
+            Step::Ended(outcome) => outcome,
+            Step::Runs(_) => {
+                let alloc = rt.alloc();
+                rsts_main(&rt, alloc, &words, &mut source, &mut sink, &IdlePacer)
+            }
+        },
         Err(error) if error.kind() == io::ErrorKind::OutOfMemory => Outcome::NoMemory,
         // A word that is no text asks for nothing that the program does.
         Err(_) => Outcome::Usage,

@@ -1,16 +1,47 @@
 //! The top call: what the program does with its words and its two ends.
 
 ghost use Rattle.std.specs.Prelude.{map, string_bytes};
-ghost use Rattle.deck_model.specs.Words.{asked};
+ghost use Rattle.program_words.specs.Words.{asked};
 ghost use Rattle.rsts.specs.Headline.{ends, Does};
+ghost use Rattle.rsts.specs.Steps.{Begins};
 
 use crate::outcomes::Outcome;
 use crate::systems::{check_system, run_system};
-use crate::words::{Asked, action_of};
+use basic_values::NoMemory;
+use program_words::{Asked, asked_by};
 use rsts_io::{Pacer, Sink, Source};
 use std::alloc::Global;
 use std::sync::Wait;
 use std::thread::Threads;
+
+/// How far the program gets without waiting.
+#[derive(Drop)]
+pub enum Step {
+    /// It is done.
+    Ended(Outcome),
+    /// A deck is to be run, with the text of its history or without; nothing was read yet.
+    Runs(bool),
+}
+
+/// Does what the words ask where that waits for nobody, as a check and the usage do.
+#[tactic(auto, using(crate::proofs::SystemLemmas::wanted))]
+pub fn begin<S: Source, K: Sink>(
+    alloc: Global,
+    words: &[String],
+    source: &mut S,
+    sink: &mut K,
+) -> Step
+    ensures { Begins (asked (map string_bytes words.now))
+        (ends (S.state source.old) (K.state sink.old))
+        (ends (S.state source.new) (K.state sink.new)) result }
+{
+    match asked_by(alloc, words) {
+        Ok(Asked::Run(history)) => Step::Runs(history),
+        Ok(Asked::Check) => Step::Ended(check_system(alloc, source, sink)),
+        Ok(Asked::Nothing) => Step::Ended(Outcome::Usage),
+        Err(NoMemory) => Step::Ended(Outcome::NoMemory),
+    }
+}
 
 /// Reads a deck from the source, runs its terminals, each in a thread of its own, and writes the
 /// report to the sink, and behind it the text of the history; or reads a deck and writes whether it
@@ -27,13 +58,18 @@ pub fn rsts_main<R: Threads + Wait + Sync, S: Source, K: Sink, P: Pacer + Sync>(
         (ends (S.state source.old) (K.state sink.old))
         (ends (S.state source.new) (K.state sink.new)) result }
 {
-    match action_of(words) {
-        Asked::Run(history) => run_system(rt, alloc, history, source, sink, pacer),
-        Asked::Check => check_system(alloc, source, sink),
-        Asked::Nothing => Outcome::Usage,
+    match begin(alloc, words, source, sink) {
+        Step::Ended(outcome) => outcome,
+        Step::Runs(history) => run_system(rt, alloc, history, source, sink, pacer),
     }
 }
 
+#[cfg(test)]
+mod calls;
+#[cfg(test)]
+mod ends;
+#[cfg(test)]
+mod hostile;
 #[cfg(test)]
 mod pacing;
 #[cfg(test)]

@@ -1,4 +1,4 @@
-//! A pacer for tests: no job makes its second call before each has made its first.
+//! A pacer for tests: it holds calls until calls of other jobs were answered.
 
 use rsts_io::Pacer;
 use std::alloc::Global;
@@ -7,8 +7,17 @@ use std::test::Fail;
 use std::thread;
 use std::time::{Clock, Duration};
 
-/// How many milliseconds a call waits for the first calls of the other jobs.
+/// How many milliseconds a call waits for a call of another job.
 const MOST_NAPS: u32 = 20_000;
+
+/// A job's call of that number is held until another job has so many calls answered.
+#[derive(Clone, Copy)]
+pub(crate) struct Hold {
+    pub(crate) job: u32,
+    pub(crate) call: u32,
+    pub(crate) other: u32,
+    pub(crate) answered: u64,
+}
 
 /// How often it was called for a job.
 #[derive(Drop)]
@@ -17,17 +26,22 @@ struct Calls {
     after: AtomicU64,
 }
 
-/// It holds each job's second call until every job's first call was answered.
+/// It holds the calls that it was told.
 #[derive(Drop)]
-pub(crate) struct Together<'a, R: Clock> {
+pub(crate) struct Ordered<'a, R: Clock> {
     rt: &'a R,
+    holds: Vec<Hold>,
     calls: Vec<Calls>,
-    answered: AtomicU64,
     late: AtomicU64,
 }
 
-impl<'a, R: Clock> Together<'a, R> {
-    pub(crate) fn new(rt: &'a R, alloc: Global, jobs: u32) -> Result<Together<'a, R>, Fail> {
+impl<'a, R: Clock> Ordered<'a, R> {
+    pub(crate) fn new(
+        rt: &'a R,
+        alloc: Global,
+        jobs: u32,
+        holds: Vec<Hold>,
+    ) -> Result<Ordered<'a, R>, Fail> {
         let mut calls = Vec::new(alloc);
         for _ in 0..jobs {
             calls.push(Calls {
@@ -35,12 +49,21 @@ impl<'a, R: Clock> Together<'a, R> {
                 after: AtomicU64::new(0),
             })?;
         }
-        Ok(Together {
+        Ok(Ordered {
             rt,
+            holds,
             calls,
-            answered: AtomicU64::new(0),
             late: AtomicU64::new(0),
         })
+    }
+
+    /// No job makes its second call before each has made its first.
+    pub(crate) fn together(rt: &'a R, alloc: Global, jobs: u32) -> Result<Ordered<'a, R>, Fail> {
+        let mut holds = Vec::new(alloc);
+        for job in 0..jobs {
+            push_second_calls(&mut holds, job, jobs)?;
+        }
+        Ordered::new(rt, alloc, jobs, holds)
     }
 
     /// Whether a call waited in vain.
@@ -59,10 +82,9 @@ impl<'a, R: Clock> Together<'a, R> {
         }
     }
 
-    fn wait_for_all(&self) {
+    fn wait_for(&self, hold: Hold) {
         for _ in 0..MOST_NAPS {
-            let all = self.answered.load(Ordering::SeqCst) >= self.calls.len() as u64;
-            if all || self.late.load(Ordering::SeqCst) > 0 {
+            if self.calls_of(hold.other).1 >= hold.answered || self.is_late() {
                 return;
             }
             thread::sleep(self.rt, Duration::from_millis(1));
@@ -71,22 +93,34 @@ impl<'a, R: Clock> Together<'a, R> {
     }
 }
 
-impl<'a, R: Clock> Pacer for Together<'a, R> {
+/// A job's second call waits for the first call of each.
+fn push_second_calls(holds: &mut Vec<Hold>, job: u32, jobs: u32) -> Result<(), Fail> {
+    for other in 0..jobs {
+        holds.push(Hold {
+            job,
+            call: 2,
+            other,
+            answered: 1,
+        })?;
+    }
+    Ok(())
+}
+
+impl<'a, R: Clock> Pacer for Ordered<'a, R> {
     fn before(&self, job: u32, call: u32) {
         if let Some(calls) = self.calls.get(job as usize) {
             calls.before.fetch_add(1, Ordering::SeqCst);
         }
-        if call == 2 {
-            self.wait_for_all();
+        for hold in self.holds.as_slice() {
+            if hold.job == job && hold.call == call {
+                self.wait_for(*hold);
+            }
         }
     }
 
-    fn after(&self, job: u32, call: u32) {
+    fn after(&self, job: u32, _call: u32) {
         if let Some(calls) = self.calls.get(job as usize) {
             calls.after.fetch_add(1, Ordering::SeqCst);
-        }
-        if call == 1 {
-            self.answered.fetch_add(1, Ordering::SeqCst);
         }
     }
 }

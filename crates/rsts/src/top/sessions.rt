@@ -1,7 +1,7 @@
 //! Whole sessions at the terminals of a deck: what files, records, fields, arrays in files, text on
 //! channels and messages show behind a monitor.
 
-use crate::top::tests::{expect_call, good};
+use crate::top::calls::{expect_call, good};
 use std::alloc::Global;
 use std::sync::Wait;
 use std::test::Fail;

@@ -5,124 +5,14 @@ ghost use Rattle.rsts.specs.Headline.{HasRan};
 
 use super::*;
 use crate::streams::INPUT_LIMIT;
-use crate::top::pacing::Together;
+use crate::top::calls::*;
+use crate::top::pacing::Ordered;
 use monitor_calls::RunRecord;
-use rsts_io::{IdlePacer, MemorySink, MemorySource, PlainSink, PlainSource, StdSink, StdSource};
-use std::io;
-use std::io::{Read, Write};
-use std::sync::Wait;
+use rsts_io::{IdlePacer, MemorySink, MemorySource, PlainSink, PlainSource};
 use std::test::Fail;
-use std::thread::Threads;
 use std::time::Clock;
 
-const HEAD: &[u8] = b"RSTS-DECK 1\nDISK 8\nACCOUNT 100,5 DEMO 100\nTERMINAL T1\n";
-
-const FIRST_SUM: &[u8] = b"RSTS-DECK 1\nDISK 8\nACCOUNT 100,5 DEMO 100\nTERMINAL T1\n\
->HELLO 100,5;DEMO\n>PRINT 2%+3%\n>BYE\nEND\n";
-
-const SUM_REPORT: &[u8] =
-    b"TERMINAL T1 60\nHELLO 100,5;DEMO\r\nReady\r\nPRINT 2%+3%\r\n 5 \r\nReady\r\nBYE\r\nBye\r\n\n";
-
-/// What a call of the program left: its status, its line, and what it wrote.
-#[derive(Drop)]
-struct Ended {
-    status: u8,
-    line: String,
-    written: Vec<u8>,
-}
-
-/// What a call is to leave.
-#[derive(Clone, Copy)]
-pub(crate) struct Want<'a> {
-    status: u8,
-    line: &'a str,
-    written: &'a [u8],
-}
-
-/// The words of a call.
-fn words_of(alloc: Global, asked: &[&str]) -> Result<Vec<String>, Fail> {
-    let mut words = Vec::new(alloc);
-    for word in asked {
-        words.push(String::from_str(alloc, word)?)?;
-    }
-    Ok(words)
-}
-
-/// Calls the program with words and an input, over ends that fail at the listed calls.
-fn call<R: Threads + Wait + Sync>(
-    rt: &R,
-    alloc: Global,
-    asked: &[&str],
-    input: &[u8],
-    failing_takes: &[u64],
-    failing_gifts: &[u64],
-) -> Result<Ended, Fail> {
-    let words = words_of(alloc, asked)?;
-    let mut source = MemorySource::new(alloc, input, failing_takes)?;
-    let mut sink = MemorySink::new(alloc, failing_gifts)?;
-    let outcome = rsts_main(rt, alloc, &words, &mut source, &mut sink, &IdlePacer);
-    left(alloc, &outcome, sink.bytes())
-}
-
-fn left(alloc: Global, outcome: &Outcome, written: &[u8]) -> Result<Ended, Fail> {
-    Ok(Ended {
-        status: outcome.status(),
-        line: String::from_utf8(outcome.line().as_slice().to_vec(alloc)?)?,
-        written: written.to_vec(alloc)?,
-    })
-}
-
-/// Fails with what was told or written, unless a call left this.
-fn expect(ended: Ended, want: Want<'_>) -> Result<(), Fail> {
-    if ended.written.as_slice() != want.written {
-        return Err(Fail::new(String::from_utf8(ended.written)?));
-    }
-    if ended.status != want.status || ended.line.as_str() != want.line {
-        return Err(Fail::new(ended.line));
-    }
-    Ok(())
-}
-
-/// A call over ends that never fail leaves this.
-pub(crate) fn expect_call<R: Threads + Wait + Sync>(
-    rt: &R,
-    alloc: Global,
-    asked: &[&str],
-    input: &[u8],
-    want: Want<'_>,
-) -> Result<(), Fail> {
-    expect(call(rt, alloc, asked, input, &[], &[])?, want)
-}
-
-/// What a call leaves that writes this and says nothing.
-pub(crate) fn good(written: &[u8]) -> Want<'_> {
-    Want {
-        status: 0,
-        line: "",
-        written,
-    }
-}
-
-/// What a call leaves that writes nothing.
-fn refused(status: u8, line: &str) -> Want<'_> {
-    Want {
-        status,
-        line,
-        written: b"",
-    }
-}
-
 const NO_KEYS: &[u8] = b"RSTS-DECK 1\nDISK 8\nACCOUNT 100,5 DEMO 100\nTERMINAL T1\nEND\n";
-
-/// The words of a call, an input, and what is written.
-type Good = (&'static [&'static str], &'static [u8], &'static [u8]);
-
-fn expect_all<R: Threads + Wait + Sync>(rt: &R, alloc: Global, rows: &[Good]) -> Result<(), Fail> {
-    for (words, input, written) in rows {
-        expect_call(rt, alloc, words, input, good(written))?;
-    }
-    Ok(())
-}
 
 static RUN_OR_CHECKED: [Good; 4] = [
     (&["run"], FIRST_SUM, SUM_REPORT),
@@ -154,86 +44,6 @@ fn other_words_are_told_the_usage(rt: HostRuntime) -> Result<(), Fail> {
     for words in OTHER_WORDS.iter() {
         let ended = call(&rt, rt.alloc(), words, FIRST_SUM, &[1], &[1])?;
         expect(ended, refused(1, USAGE))?;
-    }
-    Ok(())
-}
-
-/// An input, the calls of its source that fail, and what is told of it.
-type Bad = (&'static [u8], &'static [u64], u8, &'static str);
-
-static BAD: [Bad; 5] = [
-    (b"", &[], 2, "deck line 1: input ends early"),
-    (
-        b"RSTS-DECK 9\nDISK 8\nACCOUNT 100,5 DEMO 100\nTERMINAL T1\nEND\n",
-        &[],
-        2,
-        "deck line 1: not a version 1 or 2 deck",
-    ),
-    (
-        b"RSTS-DECK 1\nDISK 8\nACCOUNT 100,5 DEMO 100\nTERMINAL T1\nTERMINAL T1\nEND\n",
-        &[],
-        2,
-        "deck line 5: name given twice",
-    ),
-    (FIRST_SUM, &[1], 3, "read fault"),
-    (FIRST_SUM, &[2], 3, "read fault"),
-];
-
-fn expect_bad<R: Threads + Wait + Sync>(
-    rt: &R,
-    alloc: Global,
-    input: &[u8],
-    failing: &[u64],
-    want: Want<'_>,
-) -> Result<(), Fail> {
-    expect(call(rt, alloc, &["run"], input, failing, &[])?, want)?;
-    expect(call(rt, alloc, &["check"], input, failing, &[])?, want)
-}
-
-/// A deck with so many key bytes in a line.
-fn expect_bad_keys<R: Threads + Wait + Sync>(
-    rt: &R,
-    alloc: Global,
-    count: usize,
-    want: Want<'_>,
-) -> Result<(), Fail> {
-    let keys = vec![in alloc; b'A'; count]?;
-    let mut deck = HEAD.to_vec(alloc)?;
-    deck.push(b'>')?;
-    deck.extend_from_slice(&keys)?;
-    deck.extend_from_slice(b"\nEND\n")?;
-    expect_bad(rt, alloc, deck.as_slice(), &[], want)
-}
-
-#[test]
-fn bad_input_is_refused_and_nothing_is_written(rt: HostRuntime) -> Result<(), Fail> {
-    let alloc = rt.alloc();
-    for (input, failing, status, line) in BAD.iter() {
-        expect_bad(&rt, alloc, input, failing, refused(*status, line))?;
-    }
-    let out_of_range = refused(2, "deck line 5: number or text out of range");
-    expect_bad_keys(&rt, alloc, 256, out_of_range)?;
-    let beyond = INPUT_LIMIT + 1 - HEAD.len() - 6;
-    expect_bad_keys(&rt, alloc, beyond, refused(4, "input too long"))
-}
-
-/// How many lines are whole in some bytes, and one.
-fn last_line(bytes: &[u8]) -> usize {
-    let whole = bytes.iter().filter(|b| **b == b'\n').count();
-    whole.saturating_add(1)
-}
-
-fn expect_cut<R: Threads + Wait + Sync>(rt: &R, alloc: Global, end: usize) -> Result<(), Fail> {
-    let bytes = &FIRST_SUM[..end.min(FIRST_SUM.len())];
-    let line = last_line(bytes);
-    let told = format!(in alloc; "deck line {line}: input ends early")?;
-    expect_call(rt, alloc, &["run"], bytes, refused(2, told.as_str()))
-}
-
-#[test]
-fn a_deck_that_is_cut_at_any_byte_is_refused(rt: HostRuntime) -> Result<(), Fail> {
-    for end in 0..FIRST_SUM.len() {
-        expect_cut(&rt, rt.alloc(), end)?;
     }
     Ok(())
 }
@@ -270,7 +80,7 @@ fn run_held<R: Threads + Wait + Clock + Sync>(
     alloc: Global,
     deck: &[u8],
     want: &[u8],
-    pacer: &Together<'_, R>,
+    pacer: &Ordered<'_, R>,
 ) -> Result<Outcome, Fail> {
     let words = words_of(alloc, &["run"])?;
     let mut source = MemorySource::new(alloc, deck, &[])?;
@@ -290,7 +100,7 @@ fn entries_of(record: &RunRecord, job: u32) -> u64 {
 
 /// Whether the pacer held each job: it was called before and after each call, and nobody waited in
 /// vain.
-fn were_held<R: Clock>(pacer: &Together<'_, R>, record: &RunRecord, jobs: u32) -> bool {
+fn were_held<R: Clock>(pacer: &Ordered<'_, R>, record: &RunRecord, jobs: u32) -> bool {
     for job in 0..jobs {
         let entries = entries_of(record, job);
         if pacer.calls_of(job) != (entries, entries) {
@@ -308,7 +118,7 @@ fn run_together<R: Threads + Wait + Clock + Sync>(
     deck: &[u8],
     want: &[u8],
 ) -> Result<(), Fail> {
-    let pacer = Together::new(rt, alloc, jobs)?;
+    let pacer = Ordered::together(rt, alloc, jobs)?;
     match run_held(rt, alloc, deck, want, &pacer)? {
         Outcome::Ok(record) if were_held(&pacer, &record, jobs) => Ok(()),
         Outcome::Ok(_) => Err("a job was not held")?,
@@ -343,93 +153,6 @@ fn four_terminals_run_beside_each_other(rt: HostRuntime) -> Result<(), Fail> {
     run_together(&rt, rt.alloc(), 4, deck.as_slice(), report.as_slice())
 }
 
-/// A word, the gifts that the sink fails at, the status, and what it keeps.
-static FAILING: [(&str, &[u64], u8, &[u8]); 5] = [
-    ("run", &[1], 5, b""),
-    ("run", &[2], 5, b"TERMINAL T1 60\n"),
-    ("run", &[3], 0, SUM_REPORT),
-    ("check", &[1], 5, b""),
-    ("check", &[2], 0, b"GOOD 1 0 1\n"),
-];
-
-fn expect_failing<R: Threads + Wait + Sync>(
-    rt: &R,
-    alloc: Global,
-    word: &str,
-    failing: &[u64],
-    status: u8,
-    written: &[u8],
-) -> Result<(), Fail> {
-    let line = if status == 5 { "write fault" } else { "" };
-    let ended = call(rt, alloc, &[word], FIRST_SUM, &[], failing)?;
-    expect(
-        ended,
-        Want {
-            status,
-            line,
-            written,
-        },
-    )
-}
-
-#[test]
-fn a_failing_sink_leaves_a_proper_front(rt: HostRuntime) -> Result<(), Fail> {
-    for (word, failing, status, written) in FAILING.iter() {
-        expect_failing(&rt, rt.alloc(), word, failing, *status, written)?;
-    }
-    Ok(())
-}
-
-/// A line, and what it shows.
-type Row = (&'static str, &'static str);
-
-/// The deck of lines behind the login, each given with what it shows, and the screen.
-fn deck_and_screen(alloc: Global, lines: &[(&str, &str)]) -> Result<(Vec<u8>, String), Fail> {
-    let mut deck = HEAD.to_vec(alloc)?;
-    deck.extend_from_slice(b">HELLO 100,5;DEMO\n")?;
-    let mut screen = String::from_str(alloc, "HELLO 100,5;DEMO\r\nReady\r\n")?;
-    for (line, shown) in lines {
-        deck.push(b'>')?;
-        deck.extend_from_slice(line.as_bytes())?;
-        deck.push(b'\n')?;
-        screen.push_str(line)?;
-        screen.push_str("\r\n")?;
-        screen.push_str(shown)?;
-    }
-    deck.extend_from_slice(b"END\n")?;
-    screen.push_str("Bye\r\n")?;
-    Ok((deck, screen))
-}
-
-/// The program shows this of lines behind the login, each given with what it shows.
-fn expect_lines<R: Threads + Wait + Sync>(
-    rt: &R,
-    alloc: Global,
-    lines: &[(&str, &str)],
-) -> Result<(), Fail> {
-    let (deck, screen) = deck_and_screen(alloc, lines)?;
-    let count = screen.len();
-    let report = format!(in alloc; "TERMINAL T1 {count}\n{screen}\n")?;
-    expect_call(
-        rt,
-        alloc,
-        &["run"],
-        deck.as_slice(),
-        good(report.as_bytes()),
-    )
-}
-
-/// The same of one line, in front of CR LF and Ready.
-fn expect_line<R: Threads + Wait + Sync>(
-    rt: &R,
-    alloc: Global,
-    line: &str,
-    answer: &str,
-) -> Result<(), Fail> {
-    let shown = format!(in alloc; "{answer}\r\nReady\r\n")?;
-    expect_lines(rt, alloc, &[(line, shown.as_str())])
-}
-
 static JUDGED: [Row; 14] = [
     ("PRINT A", "?Floating variable"),
     ("PRINT 1.5", "?Floating literal"),
@@ -447,26 +170,12 @@ static JUDGED: [Row; 14] = [
     ("print 2 + 3%", " 5 "),
 ];
 
-/// PRINT of a number in so many parentheses.
-fn print_in_parentheses(alloc: Global, levels: usize) -> Result<String, Fail> {
-    let mut line = String::from_str(alloc, "PRINT ")?;
-    for _ in 0..levels {
-        line.push_str("(")?;
-    }
-    line.push_str("1%")?;
-    for _ in 0..levels {
-        line.push_str(")")?;
-    }
-    Ok(line)
-}
-
 #[test]
 fn lines_are_judged_by_the_grammar(rt: HostRuntime) -> Result<(), Fail> {
     for (line, answer) in JUDGED.iter() {
         expect_line(&rt, rt.alloc(), line, answer)?;
     }
-    let line = print_in_parentheses(rt.alloc(), 65)?;
-    expect_line(&rt, rt.alloc(), line.as_str(), "?Expression too deep")
+    Ok(())
 }
 
 const MODIFIED: &str = "PRINT I%; FOR I%=1% TO 3% IF I%=0%";
@@ -551,20 +260,6 @@ fn deepest_line(alloc: Global, opening: &str) -> Result<String, Fail> {
         line.push_str(")")?;
     }
     Ok(line)
-}
-
-/// The keys of lines behind the login, and the screen up to what they show.
-fn keys_and_screen(alloc: Global, lines: &[&str]) -> Result<(String, String), Fail> {
-    let mut keys = String::from_str(alloc, ">HELLO 100,5;DEMO\n")?;
-    let mut screen = String::from_str(alloc, "HELLO 100,5;DEMO\r\nReady\r\n")?;
-    for line in lines {
-        keys.push_str(">")?;
-        keys.push_str(line)?;
-        keys.push_str("\n")?;
-        screen.push_str(line)?;
-        screen.push_str("\r\n")?;
-    }
-    Ok((keys, screen))
 }
 
 /// The program writes this when these lines are typed at each of two terminals, of which one at
@@ -695,66 +390,4 @@ fn a_good_deck_between_ends_that_never_fail_is_run(rt: HostRuntime) -> Result<()
     assert_eq!(rt; outcome.status(), 0);
     assert_eq!(rt; sink.bytes(), SUM_REPORT);
     Ok(())
-}
-
-/// A reader that gives one byte a call.
-#[derive(Drop)]
-struct DribblingReader {
-    text: &'static [u8],
-}
-
-impl Read for DribblingReader {
-    fn read(&mut self, buf: &mut [u8]) -> io::Result<usize> {
-        if self.text.is_empty() || buf.is_empty() {
-            return Ok(0);
-        }
-        buf[0] = self.text[0];
-        self.text = &self.text[1..];
-        Ok(1)
-    }
-}
-
-/// A writer that takes one byte a call.
-#[derive(Drop)]
-struct DribblingWriter<'a> {
-    kept: &'a mut Vec<u8>,
-}
-
-impl Write for DribblingWriter<'_> {
-    fn write(&mut self, buf: &[u8]) -> io::Result<usize> {
-        let most = buf.len().min(1);
-        self.kept.extend_from_slice(&buf[..most])?;
-        Ok(most)
-    }
-
-    fn flush(&mut self) -> io::Result<()> {
-        Ok(())
-    }
-}
-
-/// What is written where a deck is run between ends that move one byte at a time.
-fn run_dribbling<R: Threads + Wait + Sync>(
-    rt: &R,
-    alloc: Global,
-    text: &'static [u8],
-) -> Result<Ended, Fail> {
-    let words = words_of(alloc, &["run"])?;
-    let mut kept = Vec::new(alloc);
-    let mut source = StdSource::new(DribblingReader { text });
-    let mut sink = StdSink::new(DribblingWriter { kept: &mut kept });
-    let outcome = rsts_main(
-        rt,
-        alloc,
-        words.as_slice(),
-        &mut source,
-        &mut sink,
-        &IdlePacer,
-    );
-    drop(sink);
-    left(alloc, &outcome, kept.as_slice())
-}
-
-#[test]
-fn ends_that_move_one_byte_at_a_time_change_nothing(rt: HostRuntime) -> Result<(), Fail> {
-    expect(run_dribbling(&rt, rt.alloc(), FIRST_SUM)?, good(SUM_REPORT))
 }

@@ -1,7 +1,9 @@
 use Rattle.std.proofs.Common.{◌≡◌, ℕ, false, List, [], ◌∷◌, ◌++◌, map, Some, ap, subst, ◌∙◌, arith}
 use Rattle.std.specs.Prelude.{string_bytes}
 use Rattle.std.specs.Global.{Global}
-use Rattle.deck_model.specs.Words.{Asked, Run, asked}
+use Rattle.program_words.specs.Words.{asked}
+use Rattle.program_words.specs.declared.words.Asked.{Asked}
+use Rattle.program_words.specs.declared.words.Asked.TheVariants.{Run}
 use Rattle.rsts_io.specs.Memory.{plain_feed_state, plain_store_state}
 use Rattle.rsts.specs.Headline.{ends, Does}
 use Rattle.rsts.proofs.top.tests.run_between_plain_ends.Goals as goal

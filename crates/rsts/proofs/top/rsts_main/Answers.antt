@@ -1,0 +1,16 @@
+use Rattle.std.proofs.Common.{◌≡◌, map, sym, subst}
+use Rattle.std.specs.Prelude.{string_bytes}
+use Rattle.std.specs.Global.{Global}
+use Rattle.program_words.specs.declared.words.Asked.{Asked}
+use Rattle.program_words.specs.declared.words.Asked.TheVariants.{Run}
+use Rattle.program_words.specs.Words.{asked}
+use Rattle.rsts.specs.Headline.{Ends, ends, Does, Runs}
+use Rattle.rsts.proofs.top.rsts_main.Goals as goal
+
+pub returns-in-Runs : goal.returns-in-Runs
+returns-in-Runs g c =
+    let before = ends (g.S.Source.state c.args.source.now) (g.K.Sink.state c.args.sink.now) in
+    let after = ends (g.S.Source.state c.run_system.new.source) (g.K.Sink.state c.run_system.new.sink) in
+    let told : (asked (map (string_bytes {Z = Global}) c.args.words.now) ≡ Run c.in-Runs.history) × (ends (g.S.Source.state c.begin.new.source) (g.K.Sink.state c.begin.new.sink) ≡ before) = c.in-Runs.ensures in
+    subst (λ (a : Asked). Does a before after c.run_system.result) (sym told.0)
+    (subst (λ (e : Ends). Runs c.in-Runs.history e after c.run_system.result) told.1 c.run_system.ensures)

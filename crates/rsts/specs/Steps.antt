@@ -1,0 +1,12 @@
+-- What the program does without waiting.
+use Rattle.std.specs.Prelude.{◌≡◌}
+use Rattle.program_words.specs.declared.words.Asked.{Asked}
+use Rattle.program_words.specs.declared.words.Asked.TheVariants.{Run}
+use Rattle.rsts.specs.declared.top.Step.{Step}
+use Rattle.rsts.specs.declared.top.Step.TheVariants as step
+use Rattle.rsts.specs.Headline.{Ends, Does}
+
+-- all that the words ask is done; or they ask for a run, and nothing was done yet
+abbrev pub Begins : Asked → Ends → Ends → Step → Type 0
+Begins asked before after (step.Ended result) = Does asked before after result
+Begins asked before after (step.Runs history) = (asked ≡ Run history) × (after ≡ before)
