@@ -23,24 +23,23 @@ use Rattle.program_model.specs.Job as program
 use Rattle.program_model.specs.Job.{Job}
 use Rattle.program_model.specs.Storage.{in_storage}
 use Rattle.program_model.specs.FileActs.{shut_act}
-use Rattle.program_model.specs.Control.{Doing}
-use Rattle.program_model.specs.Running.{Coming, cleared}
+use Rattle.program_model.specs.Running.{cleared}
+use Rattle.program_model.specs.Soundness.{refusal_of}
 use Rattle.polish_code.specs.Code.{start_of}
 use Rattle.polish_code.specs.Walk.{Spot}
 use Rattle.polish_code.specs.Lowered.{lowered, low_leaving}
 use Rattle.basic_eval.specs.declared.exits.Exit.{Exit}
 use Rattle.basic_eval.specs.declared.exits.Exit.TheVariants as exit
 use Rattle.basic_eval.specs.Acting.{break_of}
-use Rattle.basic_interpreter.specs.Meaning.{Came, went, left_a_body, no_memory}
 use Rattle.session_model.specs.Commands.{Login, Naming, Nameless, Named, Misnamed, Range, Command, Hello, Bye, New, Rename, ListLines, Delete, Old, Save, Unsave, Catalog, Cataloging, OfOwn, OfAccount, OfNone, Numbered}
 use Rattle.session_model.specs.Editing.{Edited, Accepted, Refused, edited}
 use Rattle.session_model.specs.ProgramFiles.{spec_read, spec_or_own, is_blank_text, saved_pages, program_on}
-use Rattle.session_model.specs.Talk.{Session, Step, SessionEnd, with_job, says, with_lines, named, no_name, answered, entered, hello, leave, log_out, emptied, begins_new, renames, headed, lists, deletes, takes_edit, broken_off, tried, with_storage, shut_down, by_name, loaded, loads, reads_old, old, saves_as, saves, kills_file, unsaves, with_screen, catalogs_of, catalogs, rests, visitor_acts, outlives, reported, run_is_over, stop_by}
+use Rattle.session_model.specs.Talk.{Session, Step, SessionEnd, with_job, says, with_lines, named, no_name, answered, entered, hello, leave, log_out, emptied, begins_new, renames, headed, lists, deletes, takes_edit, broken_off, tried, with_storage, shut_down, by_name, loaded, loads, reads_old, old, saves_as, saves, kills_file, unsaves, with_screen, catalogs_of, catalogs, rests, visitor_acts, program_by, reported, run_is_over}
 use Rattle.session_model.specs.Talk as talk
 use Rattle.basic_tree.specs.ProgramLines.{Lines}
 use Rattle.session_model.specs.Texts.{illegal_file_name}
 use Rattle.session_model.proofs.Ends.{Ends}
-use Rattle.command_level.specs.Standing.{is_gone, low_session, StopFits, run_ends, line_ends}
+use Rattle.command_level.specs.Standing.{is_gone, low_session, StopFits}
 
 start_zero : (ss : List StatementTree) → start_of ss 0 ≡ 0
 start_zero [] = refl
@@ -184,45 +183,45 @@ module _ (p : Program) where
 
   -- THE ENDS OF RUNS
 
-  -- what the answer of a run leads to is what the end of the meaning leads to
-  pub came_run : (s : Session Position) (end : Result (Unit {0}) (Trouble Exit)) (after : Job Spot) (left : Option (Doing Coming)) → Came (low_leaving p) (lowered p) end after left
-      → run_ends end (with_job after (low s)) ≡ option_map (λ m. lows (outlives (run_is_over s) s m)) left
-  came_run s end after left (went {why = why} {j = j} {exit = exit} e f) =
-      ap Some (ap (λ (k : Job Spot). talk.outlived (run_is_over (low s)) (with_job k (low s)) (break_of exit) k) (sym f)
-      ∙ ap (λ (b : Break (program.Leaving Spot)). talk.outlived (run_is_over (low s)) (with_job (lowered p j) (low s)) b (lowered p j)) (sym e)
-      ∙ alone why)
-    where
-      alone : (why : Break (program.Leaving Position)) → talk.outlived (run_is_over (low s)) (with_job (lowered p j) (low s)) (break_over (low_leaving p) why) (lowered p j) ≡ lows (talk.outlived (run_is_over s) s why j)
-      alone Gone = refl
-      alone (Faulted fault) = refl
-      alone (Halted halt) = refl
-      alone (Left program.Ended) = refl
-      alone (Left (program.Stopped q)) = refl
-      alone (Left (program.StoppedInside home)) = refl
-  came_run s end after left (left_a_body {j = j} f) = ap (λ (k : Job Spot). Some (Gives tt (run_is_over (low s) (Left program.Ended) k))) (sym f)
-  came_run s end after left no_memory = refl
+  -- what an end leads to, with the places of the code
+  pub end_low : (s : Session Position) (why : Break (program.Leaving Position)) (j : Job Position) → talk.outlived (run_is_over (low (with_job j s))) (low (with_job j s)) (break_over (low_leaving p) why) (lowered p j) ≡ lows (talk.outlived (run_is_over s) s why j)
+  end_low s Gone j = refl
+  end_low s (Faulted fault) j = refl
+  end_low s (Halted halt) j = refl
+  end_low s (Left program.Ended) j = refl
+  end_low s (Left (program.Stopped q)) j = refl
+  end_low s (Left (program.StoppedInside home)) j = refl
+  end_low s (Left program.Chained) j = refl
 
-  pub came_line : (q : Program) (s : Session Position) (end : Result (Unit {0}) (Trouble Exit)) (after : Job Spot) (left : Option (Doing Coming)) → Came (low_leaving q) (lowered p) end after left
-      → line_ends end (with_job after (low s)) ≡ option_map (λ m. lows (outlives (reported s) s m)) left
-  came_line q s end after left (went {why = why} {j = j} {exit = exit} e f) =
-      ap Some (ap (λ (k : Job Spot). talk.outlived (reported (low s)) (with_job k (low s)) (break_of exit) k) (sym f)
-      ∙ ap (λ (b : Break (program.Leaving Spot)). talk.outlived (reported (low s)) (with_job (lowered p j) (low s)) b (lowered p j)) (sym e)
-      ∙ alone why)
-    where
-      alone : (why : Break (program.Leaving Position)) → talk.outlived (reported (low s)) (with_job (lowered p j) (low s)) (break_over (low_leaving q) why) (lowered p j) ≡ lows (talk.outlived (reported s) s why j)
-      alone Gone = refl
-      alone (Faulted fault) = refl
-      alone (Halted halt) = refl
-      alone (Left program.Ended) = refl
-      alone (Left (program.Stopped spot)) = refl
-      alone (Left (program.StoppedInside home)) = refl
-  came_line q s end after left (left_a_body {j = j} f) = ap (λ (k : Job Spot). Some (Gives tt (reported (low s) (Left program.Ended) k))) (sym f)
-  came_line q s end after left no_memory = refl
+  -- and the end of a line, whose own places nobody keeps
+  pub line_low : (q : Program) (s : Session Position) (why : Break (program.Leaving Position)) (j : Job Position) → talk.outlived (reported (low (with_job j s))) (low (with_job j s)) (break_over (low_leaving q) why) (lowered p j) ≡ lows (talk.outlived (reported s) s why j)
+  line_low q s Gone j = refl
+  line_low q s (Faulted fault) j = refl
+  line_low q s (Halted halt) j = refl
+  line_low q s (Left program.Ended) j = refl
+  line_low q s (Left (program.Stopped spot)) j = refl
+  line_low q s (Left (program.StoppedInside home)) j = refl
+  line_low q s (Left program.Chained) j = refl
 
   -- A STOP THAT FITS
 
   abbrev pub Fit : {A : Type 0} → Act SessionEnd (Session Position) A → Type 0
   Fit m = Ends (StopFits p) m
+
+  pub end_fits : (s : Session Position) (why : Break (program.Leaving Position)) (j : Job Position) → p ≡ program_by judge_of s.lines → refusal_of p ≡ None → StopFits p s → Fit (talk.outlived (run_is_over s) s why j)
+  end_fits s Gone j here sound fits = fits
+  end_fits s (Faulted fault) j here sound fits = tt
+  end_fits s (Halted halt) j here sound fits = tt
+  end_fits s (Left program.Ended) j here sound fits = tt
+  end_fits s (Left (program.Stopped q)) j here sound fits = (here, sound)
+  end_fits s (Left (program.StoppedInside home)) j here sound fits = (here, sound)
+  end_fits s (Left program.Chained) j here sound fits = tt
+
+  pub line_fits : (s : Session Position) (why : Break (program.Leaving Position)) (j : Job Position) → StopFits p s → Fit (talk.outlived (reported s) s why j)
+  line_fits s Gone j fits = fits
+  line_fits s (Faulted fault) j fits = fits
+  line_fits s (Halted halt) j fits = fits
+  line_fits s (Left way) j fits = fits
 
   renames_fits : (naming : Naming) (s : Session Position) → StopFits p s → Fit (renames naming s)
   renames_fits Nameless s h = h
@@ -334,6 +333,7 @@ outlived_by during s (exit.Halt halt) j e = refl
 outlived_by during s exit.Ended j e = refl
 outlived_by during s (exit.Stopped spot) j e = refl
 outlived_by during s (exit.StoppedInside home) j e = refl
+outlived_by during s exit.Chained j e = refl
 
 pub gone_by : (during : Break (program.Leaving Spot) → Job Spot → Session Spot) (s : Session Spot) (why : Exit) → is_gone why ≡ true → talk.outlived during s (break_of why) s.job ≡ Breaks Gone s
 gone_by during s exit.Gone e = refl
@@ -342,6 +342,7 @@ gone_by during s (exit.Halt halt) e = absurd (cc)
 gone_by during s exit.Ended e = absurd (cc)
 gone_by during s (exit.Stopped spot) e = absurd (cc)
 gone_by during s (exit.StoppedInside home) e = absurd (cc)
+gone_by during s exit.Chained e = absurd (cc)
 
 pub ruleset outlived = (outlived_by, gone_by)
 

@@ -4,12 +4,10 @@ use Rattle.std.specs.Prelude.{Bool, true, false, IfOk, OnOk}
 use Rattle.std.specs.Option.{option_map, OnSome}
 use Rattle.std.specs.Result.{IsErrAnd}
 use Rattle.basic_values.specs.declared.failures.NoMemory.{NoMemory}
-use Rattle.basic_values.specs.declared.failures.Trouble.{Trouble}
 use Rattle.basic_tree.specs.declared.programs.Line.{Line}
 use Rattle.grammar_machine.specs.MachineJudge.{judge_of}
-use Rattle.basic_tree.specs.Trees.{StatementTree}
 use Rattle.monitor_calls.specs.Pairs.{Pair}
-use Rattle.job_model.specs.Act.{Gives, Breaks, Asks, Takes, Break, Faulted, Halted, Gone, Left}
+use Rattle.job_model.specs.Act.{Gives}
 use Rattle.job_model.specs.Play.{Clock}
 use Rattle.job_model.specs.Follow.{Follows, unless_memory}
 use Rattle.job_model.specs.Texts.{line_end}
@@ -23,16 +21,15 @@ use Rattle.program_model.specs.declared.refusals.LowerRefusal.{LowerRefusal}
 use Rattle.program_model.specs.Program.{Program, Position}
 use Rattle.program_model.specs.Job as program
 use Rattle.program_model.specs.Job.{Job}
-use Rattle.program_model.specs.Control.{Doing}
-use Rattle.program_model.specs.Running.{Coming, cleared, runs_cleared, continues, runs_line, line_alone}
-use Rattle.program_model.specs.Soundness.{refusal_of, refusal_now}
+use Rattle.program_model.specs.Storage.{Storage, in_storage}
+use Rattle.program_model.specs.FileActs.{shut_act}
+use Rattle.program_model.specs.Running.{cleared}
+use Rattle.program_model.specs.Soundness.{refusal_of}
 use Rattle.polish_code.specs.Walk.{Spot}
-use Rattle.polish_code.specs.Lowered.{lowered, low_leaving}
-use Rattle.basic_eval.specs.declared.exits.Exit.{Exit}
+use Rattle.polish_code.specs.Lowered.{low_leaving}
 use Rattle.basic_eval.specs.Acting as acting
-use Rattle.basic_interpreter.specs.Meaning.{Means}
 use Rattle.session_model.specs.Talk as talk
-use Rattle.session_model.specs.Talk.{Step, says, with_job, headed, begun, runs_shut, runs_unless, outlives, run_is_over, reported, goes_on, line_unless, does_line, answered, program_by, stop_by, acts, visitor_acts, user_acts, line_acts, rests}
+use Rattle.session_model.specs.Talk.{Step, Runs, says, with_job, with_storage, shut_down, headed, begun, no_line, runs_shut, runs_there, runs_unless, answered, program_by, acts, visitor_acts, user_acts, line_acts, rests}
 use Rattle.session_model.specs.Texts.{lowering_text}
 use Rattle.basic_interpreter.specs.declared.stops.Stop.{Stop}
 use Rattle.basic_interpreter.specs.Stopping.{leaving_of}
@@ -43,10 +40,13 @@ use Rattle.command_level.specs.declared.commands.Command as code
 use Rattle.command_level.specs.declared.commands.Command.TheVariants as variant
 use Rattle.std.specs.Borrow.{Bor}
 use Rattle.command_level.specs.Seen.{seen, command_seen}
-use Rattle.command_level.specs.Standing.{low_session, StopFits, Stands, Serves, run_ends, line_ends}
+use Rattle.command_level.specs.declared.chains.Reached.{Reached}
+use Rattle.command_level.specs.Chaining.{ServesRun}
+use Rattle.command_level.specs.Standing.{low_session, StopFits, Stands, Serves}
+use Rattle.command_level.proofs.FileLemmas.{tried_follows, shut_from, shut_stands}
 use Rattle.command_level.proofs.Ends.{ok_map}
-use Rattle.command_level.proofs.Lows.{Fit, low_cleared, headed_low, came_run, came_line, said, visitor_low, visitor_fits, rests_low, rests_fits}
-use Rattle.command_level.proofs.Serving.{serves_from, serves_nothing, serves_same, serves_rest, serves_run}
+use Rattle.command_level.proofs.Lows.{low_cleared, headed_low, said, visitor_low, visitor_fits, rests_low, rests_fits}
+use Rattle.command_level.proofs.Serving.{serves_from, serves_nothing, serves_same, serves_rest}
 use Rattle.command_level.proofs.Spelled.{trees_program}
 
 -- ANSWERS
@@ -57,24 +57,6 @@ ok_fact {T} {E} {Fact} r value is fact = subst (λ (r : Result T E). OnOk r Fact
 pub serves_lost : {P W : Type 0} {who : P → W} {log : P → List Pair} {p : P} {c : Clock} {step : ℕ → Step Position} {session : Session} (result : Result AfterLine NoMemory) (IsIt : NoMemory → Type 0) → IsErrAnd result IsIt → Serves who log p p c c step session result
 serves_lost (Ok on) IsIt is = absurd is
 serves_lost (Err e) IsIt is = serves_nothing e
-
--- STOPS THAT FIT
-
-on_any : {T : Type 0} {Fact : Type 0} (o : Option T) → Fact → OnSome o Fact
-on_any (Some value) fact = fact
-on_any None fact = tt
-
-outlives_fits : (p : Program) (during : Break (program.Leaving Position) → Job Position → talk.Session Position) (s : talk.Session Position) → StopFits p s → ((why : Break (program.Leaving Position)) (j : Job Position) → StopFits p (during why j)) → (m : Doing Coming) → Fit p (outlives during s m)
-outlives_fits p during s h f (Gives a j) = f (Left program.Ended) j
-outlives_fits p during s h f (Breaks Gone j) = h
-outlives_fits p during s h f (Breaks (Faulted fault) j) = f (Faulted fault) j
-outlives_fits p during s h f (Breaks (Halted halt) j) = f (Halted halt) j
-outlives_fits p during s h f (Breaks (Left way) j) = f (Left way) j
-outlives_fits p during s h f (Asks r by) = λ x. outlives_fits p during s h f (by x)
-outlives_fits p during s h f (Takes j rest) = (h, outlives_fits p during s h f rest)
-
-run_fits : (p : Program) (s : talk.Session Position) → StopFits p s → p ≡ program_by judge_of s.lines → refusal_of p ≡ None → (m : Doing Coming) → Fit p (outlives (run_is_over s) s m)
-run_fits p s h is sound m = outlives_fits p (run_is_over s) s h (λ why j. on_any (stop_by why) (is, sound)) m
 
 -- RUN
 
@@ -101,6 +83,10 @@ module _ (old : Session) (s : talk.Session Position) (st : Stands old s) where
       ∙ ap (λ (u : talk.Session Spot). record u { job = cleared p u.job; stop = None }) st.low
       ∙ ap (λ (k : Job Spot). record (seen old) { job = k; stop = None }) (sym is)
 
+-- where no STOP is kept every program fits
+pub no_stop_fits : (p : Program) (s : talk.Session Position) → s.stop ≡ None → StopFits p s
+no_stop_fits p s none = subst (λ (o : Option (program.Leaving Position)). OnSome o ((p ≡ program_by judge_of s.lines) × (refusal_of p ≡ None))) (sym none) tt
+
 -- the program in memory
 pub program_here : (lines text : Lines) (trees : List (ℕ × Line)) → text ≡ lines → AreTrees text trees → program_of trees ≡ program_by judge_of lines
 program_here lines text trees same h = trees_program text trees h ∙ ap (program_by judge_of) same
@@ -110,60 +96,40 @@ pub here_behind : (mid : Session) (s : talk.Session Position) (prog : Program) (
 here_behind mid s prog trees low h = program_here s.lines mid.text trees (sym (ap (λ (u : talk.Session Spot). u.lines) low)) h
 
 module _ {P W : Type 0} {who : P → W} {log : P → List Pair} where
-  -- a program that is not refused, from the state that it finds
-  pub serves_program : {p q : P} {c d : Clock} (prog : Program) (s t : talk.Session Position) (mid after new : Session) (end : Result (Unit {0}) (Trouble Exit)) (result : Result AfterLine NoMemory)
-      → t ≡ begun prog s → low_session prog t ≡ seen mid → seen after ≡ with_job (acting.seen after.running) (seen mid) → prog ≡ program_by judge_of s.lines → refusal_of prog ≡ None
-      → Means who log p q c d (low_leaving prog) (lowered prog) (λ most. runs_cleared prog most t.job) (acting.seen after.running) end
-      → IfOk result (λ on. run_ends end (seen after) ≡ Some (goes on (seen new)))
-      → Serves who log p q c d (λ most. runs_shut prog most s) new result
-  serves_program {p} {q} {c} {d} prog s t mid after new end result is low changed here sound means told =
-      serves_from (λ most. ap (λ (o : Option LowerRefusal). runs_unless o prog most (begun prog s)) sound ∙ ap (λ (t : talk.Session Position). outlives (run_is_over t) t (runs_cleared prog most t.job)) (sym is))
-      (serves_run prog (low_leaving prog) (λ most. runs_cleared prog most t.job) (acting.seen after.running) end t (run_is_over t) (run_ends end (seen after)) new result means
-      (λ left came. ap (run_ends end) (changed ∙ ap (with_job (acting.seen after.running)) (sym low)) ∙ came_run prog t end (acting.seen after.running) left came)
-      told
-      (run_fits prog t (subst (StopFits prog) (sym is) tt) (here ∙ ap (λ (t : talk.Session Position). program_by judge_of t.lines) (sym is)) sound))
+  -- behind the closing of all channels
+  pub run_shut : {p q r : P} {c d : Clock} (count : ℕ → ℕ) (mid behind : Session) (s : talk.Session Position) (st : Stands mid s) (t : Storage) (next : ℕ → talk.Session Position → Step Position) (new : Session) (result : Result Reached NoMemory)
+      → Follows who log p q c c (shut_act (in_storage.part (seen mid).job)) (Some (Gives tt t)) → seen behind ≡ with_storage (seen mid) t
+      → (Stands behind (with_storage s t) → ServesRun who log q r c d count (λ most. next most (with_storage s t)) new result)
+      → ServesRun who log p r c d count (λ most. shut_down (next most) s) new result
+  run_shut count mid behind s st t next new result f is g =
+      let run = g (shut_stands mid s st t behind is) in
+      record { left = run.left; leaves = run.leaves; follows = tried_follows (with_storage s) (λ most _ s. next most s) tt t (shut_from mid s st f) run.follows }
 
   -- a program that is refused
-  pub serves_refused : {p : P} {c : Clock} (prog : Program) (s : talk.Session Position) (mid new : Session) (refusal : LowerRefusal) (result : Result AfterLine NoMemory)
+  pub serves_refused : {p : P} {c : Clock} (prog : Program) (run : ℕ → Runs) (line : Option ℕ) (s : talk.Session Position) (mid new : Session) (refusal : LowerRefusal) (result : Result AfterLine NoMemory)
       → low_session prog (begun prog s) ≡ seen mid → refusal_of prog ≡ Some refusal
       → IfOk result (λ on. answered (lowering_text refusal) (seen mid) ≡ goes on (seen new))
-      → Serves who log p p c c (λ most. runs_shut prog most s) new result
-  serves_refused prog s mid new refusal result low is told =
-      serves_from (λ most. ap (λ (o : Option LowerRefusal). runs_unless o prog most (begun prog s)) is)
+      → Serves who log p p c c (λ most. runs_shut (run most) prog most line s) new result
+  serves_refused prog run line s mid new refusal result low is told =
+      serves_from (λ most. ap (λ (o : Option LowerRefusal). runs_unless (run most) o prog most line (begun prog s)) is)
       (serves_same prog new result (answered (lowering_text refusal) (begun prog s)) (ok_map result (λ on same. ap (answered (lowering_text refusal)) low ∙ same) told) tt)
+
+  -- one that cannot begin at a line
+  pub serves_nowhere : {p : P} {c : Clock} (prog : Program) (run : ℕ → Runs) (line : Option ℕ) (can : Bool) (s : talk.Session Position) (mid new : Session) (refusal : LowerRefusal) (result : Result AfterLine NoMemory)
+      → low_session prog s ≡ seen mid → s.stop ≡ None → can ≡ false → refusal ≡ no_line line
+      → IfOk result (λ on. answered (lowering_text refusal) (seen mid) ≡ goes on (seen new))
+      → Serves who log p p c c (λ most. runs_there (run most) prog most line can s) new result
+  serves_nowhere prog run line can s mid new refusal result low none nay is told =
+      serves_from (λ most. ap (λ (can : Bool). runs_there (run most) prog most line can s) nay)
+      (serves_same prog new result (answered (lowering_text (no_line line)) s)
+      (ok_map result (λ on same. ap (answered (lowering_text (no_line line))) low ∙ ap (λ (refusal : LowerRefusal). answered (lowering_text refusal) (seen mid)) (sym is) ∙ same) told)
+      (no_stop_fits prog s none))
 
   -- an answer without a run
   pub serves_answer : {p : P} {c : Clock} (old new : Session) (s : talk.Session Position) (st : Stands old s) (text : List ℕ) (result : Result AfterLine NoMemory)
       → IfOk result (λ on. answered text (seen old) ≡ goes on (seen new)) → Serves who log p p c c (λ most. answered text s) new result
   serves_answer old new s st text result told =
       serves_same st.program new result (answered text s) (ok_map result (λ on same. ap (answered text) st.low ∙ same) told) st.fits
-
-  -- CONT
-  pub serves_stop : {p q : P} {c d : Clock} (old after new : Session) (s : talk.Session Position) (st : Stands old s) (way : program.Leaving Position) (end : Result (Unit {0}) (Trouble Exit)) (result : Result AfterLine NoMemory)
-      → s.stop ≡ Some way → seen after ≡ with_job (acting.seen after.running) (seen old)
-      → st.program ≡ program_by judge_of s.lines → refusal_of st.program ≡ None
-      → Means who log p q c d (low_leaving st.program) (lowered st.program) (λ most. continues st.program most way s.job) (acting.seen after.running) end
-      → IfOk result (λ on. run_ends end (seen after) ≡ Some (goes on (seen new)))
-      → Serves who log p q c d (λ most. goes_on (program_by judge_of s.lines) most s.stop s) new result
-  serves_stop {p} {q} {c} {d} old after new s st way end result is changed here sound means told =
-      serves_from (λ most. ap (λ (prog : Program). goes_on prog most s.stop s) (sym here) ∙ ap (λ (o : Option (program.Leaving Position)). goes_on st.program most o s) is)
-      (serves_run st.program (low_leaving st.program) (λ most. continues st.program most way s.job) (acting.seen after.running) end s (run_is_over s) (run_ends end (seen after)) new result means
-      (λ left came. ap (run_ends end) (changed ∙ ap (with_job (acting.seen after.running)) (sym st.low)) ∙ came_run st.program s end (acting.seen after.running) left came)
-      told
-      (run_fits st.program s st.fits here sound))
-
-  -- a line of immediate mode
-  pub serves_line : {p q : P} {c d : Clock} (old after new : Session) (s : talk.Session Position) (st : Stands old s) (statements : List StatementTree) (end : Result (Unit {0}) (Trouble Exit)) (result : Result AfterLine NoMemory)
-      → refusal_now statements ≡ None → seen after ≡ with_job (acting.seen after.running) (seen old)
-      → Means who log p q c d (low_leaving (line_alone statements)) (lowered st.program) (λ most. runs_line statements most s.job) (acting.seen after.running) end
-      → IfOk result (λ on. line_ends end (seen after) ≡ Some (goes on (seen new)))
-      → Serves who log p q c d (λ most. line_unless (refusal_now statements) statements most s) new result
-  serves_line {p} {q} {c} {d} old after new s st statements end result sound changed means told =
-      serves_from (λ most. ap (λ (o : Option LowerRefusal). line_unless o statements most s) sound)
-      (serves_run st.program (low_leaving (line_alone statements)) (λ most. runs_line statements most s.job) (acting.seen after.running) end s (reported s) (line_ends end (seen after)) new result means
-      (λ left came. ap (line_ends end) (changed ∙ ap (with_job (acting.seen after.running)) (sym st.low)) ∙ came_line st.program (line_alone statements) s end (acting.seen after.running) left came)
-      told
-      (outlives_fits st.program (reported s) s st.fits (λ why j. st.fits)))
 
 -- what is kept of a STOP: the way that it was left, of the program in memory, which is not refused
 pub record StopKept (s : talk.Session Position) (st_program : Program) (stop : Stop) : Type 0 where

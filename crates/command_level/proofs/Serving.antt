@@ -3,23 +3,15 @@ use Rattle.std.proofs.Common.{◌≡◌, ℕ, ◌≤◌, List, [], ◌∷◌, Op
 use Rattle.std.specs.Prelude.{IfOk}
 use Rattle.std.specs.Option.{option_map}
 use Rattle.basic_values.specs.declared.failures.NoMemory.{NoMemory}
-use Rattle.basic_values.specs.declared.failures.Trouble.{Trouble}
 use Rattle.monitor_calls.specs.Pairs.{Pair}
 use Rattle.monitor_calls.specs.declared.calls.Request.TheVariants.{Tick}
 use Rattle.job_model.specs.Act.{Act, Gives, Breaks, Asks, Takes, Break, Gone, Left, over}
 use Rattle.job_model.specs.Play.{Clock, counted, ticked}
 use Rattle.job_model.specs.Follow.{Path, here, asked, quiet, tick, gone, Reaches, Follows, unless_memory}
 use Rattle.program_model.specs.Program.{Program, Position}
-use Rattle.program_model.specs.Job as program
-use Rattle.program_model.specs.Job.{Job}
-use Rattle.program_model.specs.Control.{Doing}
-use Rattle.program_model.specs.Running.{Coming}
 use Rattle.polish_code.specs.Walk.{Spot}
-use Rattle.polish_code.specs.Lowered.{lowered}
-use Rattle.basic_eval.specs.declared.exits.Exit.{Exit}
-use Rattle.basic_interpreter.specs.Meaning.{Came, Means}
 use Rattle.session_model.specs.Talk as talk
-use Rattle.session_model.specs.Talk.{Step, SessionEnd, outlives, with_job}
+use Rattle.session_model.specs.Talk.{Step, SessionEnd}
 use Rattle.session_model.proofs.Ends.{Ends}
 use Rattle.command_level.specs.declared.session.Session.{Session}
 use Rattle.command_level.specs.declared.session.AfterLine.{AfterLine}
@@ -62,13 +54,6 @@ ends_path holds c d m left ps (asked {reply = x} {by = by} {pairs = qs} p) h = e
 ends_path holds c d m left ps (quiet {rest = t} e p) h = ends_path holds _ d t left ps p h.1
 ends_path holds c d m left ps (tick {rest = t} {pairs = qs} e g p) h = ends_path holds _ d t left qs p h.1
 ends_path holds c d m left ps (gone {e = i} {s = s} {pairs = qs} e g p) h = ends_path holds i d (Breaks Gone s) left qs p h.0
-
-path_outlives : {R A : Type 0} (during : Break (program.Leaving R) → Job R → talk.Session R) (s : talk.Session R) (c d : Clock) (m left : program.Deed R A) (ps : List Pair) → Path c m ps d left → Path c (outlives during s m) ps d (outlives during s left)
-path_outlives during s c d m left ps here = here
-path_outlives during s c d m left ps (asked {reply = x} {by = by} {pairs = qs} p) = asked (path_outlives during s c d (by x) left qs p)
-path_outlives during s c d m left ps (quiet {rest = t} h p) = quiet h (path_outlives during s _ d t left ps p)
-path_outlives during s c d m left ps (tick {rest = t} {pairs = qs} h g p) = tick h g (path_outlives during s _ d t left qs p)
-path_outlives during s c d m left ps (gone {e = i} {s = j} {pairs = qs} h g p) = gone h g (path_outlives during s i d (Breaks Gone j) left qs p)
 
 -- WHAT IS LEFT
 
@@ -142,41 +127,3 @@ module _ {P W : Type 0} {who : P → W} {log : P → List Pair} where
   serves_rest {p} {q} {c} prog session (Err none) m f h =
       let u = path_under (λ way. way) (low_session prog) c f.reaches.0 m f.pairs f.reaches.1 f.reaches.2 in
       record { left = None; leaves = refl; follows = record { pairs = f.pairs; grew = f.grew; bound = 0; reaches = λ most le. (f.reaches.0, u.left, u.path) } }
-
-  -- RUNS
-
-  -- A program was run, and what its end leads to was done. `ends` is that in the code, `during` in the meaning.
-  pub serves_run : {p q : P} {c d : Clock} (prog : Program) (low_way : program.Leaving Position → program.Leaving Spot) (meaning : ℕ → Doing Coming) (after : Job Spot) (end : Result (Unit {0}) (Trouble Exit))
-      (s : talk.Session Position) (during : Break (program.Leaving Position) → Job Position → talk.Session Position)
-      (ends : Option (Step Spot)) (session : Session) (result : Result AfterLine NoMemory)
-      → Means who log p q c d low_way (lowered prog) meaning after end
-      → ((left : Option (Doing Coming)) → Came low_way (lowered prog) end after left → ends ≡ option_map (λ m. lows prog (outlives during s m)) left)
-      → IfOk result (λ on. ends ≡ Some (goes on (seen session)))
-      → ((m : Doing Coming) → Fit prog (outlives during s m))
-      → Serves who log p q c d (λ most. outlives during s (meaning most)) session result
-  serves_run {p} {q} {c} {d} prog low_way meaning after end s during ends session (Err none) means came told fits = forgets means.left means.reaches
-    where
-      forgets : (left : Option (Doing Coming)) → ((most : ℕ) → means.bound ≤ most → Reaches c (meaning most) means.pairs d left) → Serves who log p q c d (λ most. outlives during s (meaning most)) session (Err none)
-      forgets (Some m) reaches = record { left = None; leaves = refl; follows = record { pairs = means.pairs; grew = means.grew; bound = means.bound; reaches = λ most le. (d, outlives during s m, path_outlives during s c d (meaning most) m means.pairs (reaches most le)) } }
-      forgets None reaches = record { left = None; leaves = refl; follows = record { pairs = means.pairs; grew = means.grew; bound = means.bound; reaches = λ most le. let r = reaches most le in (r.0, outlives during s r.1, path_outlives during s c r.0 (meaning most) r.1 means.pairs r.2) } }
-  serves_run {p} {q} {c} {d} prog low_way meaning after end s during ends session (Ok on) means came told fits = goes_on means.left (came means.left means.came) means.reaches
-    where
-      goes_on : (left : Option (Doing Coming)) → ends ≡ option_map (λ m. lows prog (outlives during s m)) left → ((most : ℕ) → means.bound ≤ most → Reaches c (meaning most) means.pairs d left) → Serves who log p q c d (λ most. outlives during s (meaning most)) session (Ok on)
-      goes_on None e reaches = absurd (no_step (sym e ∙ told))
-        where
-          no_step : None ≡ Some (goes on (seen session)) → ⊥
-          no_step f = cc
-      goes_on (Some m) e reaches =
-          let out = outlives during s m in
-          record {
-            left = Some (λ most. out);
-            leaves = leaves_by prog session (Ok on) out (step_of (sym e ∙ told)) (fits m);
-            follows = record { pairs = means.pairs; grew = means.grew; bound = means.bound; reaches = λ most le. path_outlives during s c d (meaning most) m means.pairs (reaches most le) };
-          }
-        where
-          step_or : Step Spot → Option (Step Spot) → Step Spot
-          step_or t (Some m) = m
-          step_or t None = t
-
-          step_of : Some (lows prog (outlives during s m)) ≡ Some (goes on (seen session)) → lows prog (outlives during s m) ≡ goes on (seen session)
-          step_of f = ap (step_or (goes on (seen session))) f

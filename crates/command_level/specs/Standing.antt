@@ -12,10 +12,8 @@ use Rattle.basic_tree.specs.StatementViews.{line_of}
 use Rattle.basic_tree.specs.Trees.{LineTree}
 use Rattle.grammar_machine.specs.MachineJudge.{judge_of}
 use Rattle.monitor_calls.specs.Pairs.{Pair}
-use Rattle.job_model.specs.Act.{Gives, Left}
 use Rattle.job_model.specs.Play.{Clock}
 use Rattle.program_model.specs.Program.{Program, Position}
-use Rattle.program_model.specs.Job as program
 use Rattle.program_model.specs.Soundness.{refusal_of}
 use Rattle.polish_code.specs.Walk.{Spot}
 use Rattle.polish_code.specs.Lowered.{lowered, low_leaving}
@@ -67,16 +65,14 @@ abbrev pub is_gone : Exit → Bool
 is_gone exit.Gone = true
 is_gone other = false
 
--- what the end of a run leads to, in the state that it left
-abbrev pub run_ends : Result (Unit {0}) (Trouble Exit) → talk.Session Spot → Option (Step Spot)
-run_ends (Ok done) s = Some (Gives tt (run_is_over s (Left program.Ended) s.job))
-run_ends (Err (trouble.Refused exit)) s = Some (outlived (run_is_over s) s (break_of exit) s.job)
-run_ends (Err trouble.NoMemory) s = None
+-- what the end of a run leads to, in the state that it left; where memory ran out nothing is told
+abbrev pub run_ends : Trouble Exit → talk.Session Spot → Option (Step Spot)
+run_ends (trouble.Refused why) s = Some (outlived (run_is_over s) s (break_of why) s.job)
+run_ends trouble.NoMemory s = None
 
-abbrev pub line_ends : Result (Unit {0}) (Trouble Exit) → talk.Session Spot → Option (Step Spot)
-line_ends (Ok done) s = Some (Gives tt (reported s (Left program.Ended) s.job))
-line_ends (Err (trouble.Refused exit)) s = Some (outlived (reported s) s (break_of exit) s.job)
-line_ends (Err trouble.NoMemory) s = None
+abbrev pub line_ends : Trouble Exit → talk.Session Spot → Option (Step Spot)
+line_ends (trouble.Refused why) s = Some (outlived (reported s) s (break_of why) s.job)
+line_ends trouble.NoMemory s = None
 
 -- LINES
 

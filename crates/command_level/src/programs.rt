@@ -1,23 +1,26 @@
 //! RUN, CONT, and lines of immediate mode.
 
-ghost use Rattle.std.specs.Prelude.{◌≡◌, ◌≤◌, length, IfOk, OnOk, Some};
+ghost use Rattle.std.specs.Prelude.{◌≡◌, ◌≤◌, ℕ, length, IfOk, OnOk, Some, None};
 ghost use Rattle.grammar_machine.specs.MachineJudge.{judge_of};
 ghost use Rattle.basic_tree.specs.StatementViews.{line_of};
-ghost use Rattle.program_model.specs.Program.{Position, loops_of};
+ghost use Rattle.polish_code.specs.KeptCode.{code_kept};
+ghost use Rattle.polish_code.specs.Lowered.{coded};
+ghost use Rattle.program_model.specs.Program.{Program, Position};
+ghost use Rattle.program_model.specs.Soundness.{can_begin, refusal_of};
 ghost use Rattle.session_model.specs.Talk as talk;
-ghost use Rattle.std.specs.Option.{option_map};
 ghost use Rattle.basic_eval.specs.Acting.{break_of};
-ghost use Rattle.basic_interpreter.specs.Stopping.{leaving_of};
-ghost use Rattle.session_model.specs.Talk.{answered, begun, does_line, goes_on, headed, immediate};
-ghost use Rattle.session_model.specs.Talk.{program_by, outlived, reads_and_runs, reported};
-ghost use Rattle.session_model.specs.Talk.{run_is_over, runs, runs_file, runs_loaded, runs_shut, stop_by};
+ghost use Rattle.session_model.specs.Talk.{answered, begun, chains, does_line, goes_on, headed};
+ghost use Rattle.session_model.specs.Talk.{immediate, no_line, program_by, reads_and_runs, reported};
+ghost use Rattle.session_model.specs.Talk.{runs, runs_all, runs_file, runs_loaded, runs_shut};
+ghost use Rattle.session_model.specs.Talk.{runs_there};
 ghost use Rattle.session_model.specs.ProgramFiles.{program_on};
 ghost use Rattle.session_model.specs.Texts.{lowering_text};
 ghost use Rattle.command_level.specs.AfterLines.{goes};
+ghost use Rattle.command_level.specs.Chaining.{ServesRun, Spent};
 ghost use Rattle.command_level.specs.Seen.{seen};
-ghost use Rattle.command_level.specs.Standing.{Serves, Stands, is_gone, line_ends, low_session};
-ghost use Rattle.command_level.specs.Standing.{run_ends};
+ghost use Rattle.command_level.specs.Standing.{Serves, Stands, low_session};
 
+use crate::chains::{Reached, none_ran, ran_to};
 use crate::filing::{is_blank_text, program_on, spec_read};
 use crate::judging::{cause_text, refusal_text, tree_of};
 use crate::session::{AfterLine, ILLEGAL_COMMAND, NOT_IN_STAGE, Session};
@@ -33,7 +36,8 @@ use lowering::{loops_in_line, loops_in_program, lower, lower_now};
 use monitor_calls::{Account, Page, Port, Short};
 use polish_code::Code;
 use program_files::read_pages;
-use program_model::LowerRefusal;
+use program_model::{LowerCause, LowerRefusal};
+use program_soundness::can_begin;
 use stage_forms::is_in_stage;
 use std::alloc::Global;
 
@@ -51,35 +55,79 @@ impl Session {
     ) -> Result<AfterLine, NoMemory>
         ensures { (s : talk.Session Position) → Stands self.old s
             → Serves P.who P.log port.old port.new clock.old clock.new
-            (λ most. runs (program_by judge_of s.lines) most (headed with_name s)) self.new result }
+            (λ most. runs_all judge_of (program_by judge_of s.lines) most (headed with_name s))
+            self.new result }
     {
         self.write_name(with_name)?;
+        let reached = self.start(alloc, None, clock, port)?;
+        self.follow_chains(alloc, reached, clock, port)
+    }
+
+    /// The program in memory begins, at the line that is wanted or at its first, behind the closing
+    /// of all channels.
+    pub(crate) fn start<P: Port>(
+        &mut self,
+        alloc: Global,
+        line: Option<u16>,
+        clock: &mut Clock,
+        port: &mut P,
+    ) -> Result<Reached, NoMemory>
+        ensures path { (count : ℕ → ℕ) (s : talk.Session Position) → Stands self.old s
+            → ServesRun P.who P.log port.old port.new clock.old clock.new count
+            (λ most. runs (chains judge_of most (count most)) (program_by judge_of s.lines) most
+            line s) self.new result }
+        ensures units { IfOk result (Spent clock.old clock.new) }
+    {
         match self.running.storage.shut_all(alloc, port) {
-            Ok(()) => self.run_shut(alloc, clock, port),
-            Err(stop) => self.break_off(stop),
+            Ok(()) => self.start_shut(alloc, line, clock, port),
+            Err(stop) => none_ran(self.break_off(stop)),
         }
     }
 
-    /// The same, behind its name and the closing of all channels.
-    fn run_shut<P: Port>(
+    /// The same, behind the closing.
+    fn start_shut<P: Port>(
         &mut self,
         alloc: Global,
+        line: Option<u16>,
         clock: &mut Clock,
         port: &mut P,
-    ) -> Result<AfterLine, NoMemory>
-        ensures { (s : talk.Session Position) → Stands self.old s
-            → Serves P.who P.log port.old port.new clock.old clock.new
-            (λ most. runs_shut (program_by judge_of s.lines) most s) self.new result }
+    ) -> Result<Reached, NoMemory>
+        ensures path { (count : ℕ → ℕ) (s : talk.Session Position) → Stands self.old s
+            → ServesRun P.who P.log port.old port.new clock.old clock.new count
+            (λ most. runs_shut (chains judge_of most (count most)) (program_by judge_of s.lines)
+            most line s) self.new result }
+        ensures units { IfOk result (Spent clock.old clock.new) }
     {
         self.begin_run(alloc)?;
         match lower(alloc, self.text.program()) {
-            Ok(code) => {
-                let end = run_program(self.text.program(), &code, &mut self.running, clock, port);
-                self.end_run(end)
-            }
-            Err(Trouble::Refused(refusal)) => self.refuse(refusal),
+            Ok(code) => self.start_code(alloc, &code, line, clock, port),
+            Err(Trouble::Refused(refusal)) => none_ran(self.refuse(refusal)),
             Err(Trouble::NoMemory) => Err(NoMemory),
         }
+    }
+
+    /// It is not refused, and begins where it can.
+    fn start_code<P: Port>(
+        &mut self,
+        alloc: Global,
+        code: &Code,
+        line: Option<u16>,
+        clock: &mut Clock,
+        port: &mut P,
+    ) -> Result<Reached, NoMemory>
+        ensures path { (count : ℕ → ℕ) (p : Program) (s : talk.Session Position)
+            → low_session p s ≡ seen self.old → p ≡ program_by judge_of s.lines
+            → refusal_of p ≡ None → s.stop ≡ None → code_kept code.now ≡ coded p
+            → ServesRun P.who P.log port.old port.new clock.old clock.new count
+            (λ most. runs_there (chains judge_of most (count most)) p most line (can_begin p line)
+            s) self.new result }
+        ensures units { (p : Program) → code_kept code.now ≡ coded p
+            → IfOk result (Spent clock.old clock.new) }
+    {
+        if !can_begin(alloc, self.text.program(), line)? {
+            return none_ran(self.refuse(no_line(line)));
+        }
+        ran_to(run_program(self.text.program(), code, line, &mut self.running, clock, port))
     }
 
     /// What a program finds that begins.
@@ -166,7 +214,8 @@ impl Session {
     ) -> Result<AfterLine, NoMemory>
         ensures { (s : talk.Session Position) → Stands self.old s
             → Serves P.who P.log port.old port.new clock.old clock.new
-            (λ most. goes_on (program_by judge_of s.lines) most s.stop s) self.new result }
+            (λ most. goes_on judge_of (program_by judge_of s.lines) most s.stop s)
+            self.new result }
     {
         match self.stop {
             None => self.answer(CANT_CONTINUE),
@@ -185,12 +234,14 @@ impl Session {
         requires { self.old.stop ≡ Some stop }
         ensures { (s : talk.Session Position) → Stands self.old s
             → Serves P.who P.log port.old port.new clock.old clock.new
-            (λ most. goes_on (program_by judge_of s.lines) most s.stop s) self.new result }
+            (λ most. goes_on judge_of (program_by judge_of s.lines) most s.stop s)
+            self.new result }
     {
         match lower(alloc, self.text.program()) {
             Ok(code) => {
                 let end = continue_program(&code, stop, &mut self.running, clock, port);
-                self.end_run(end)
+                let reached = ran_to(end)?;
+                self.follow_chains(alloc, reached, clock, port)
             }
             Err(Trouble::Refused(refusal)) => self.refuse(refusal),
             Err(Trouble::NoMemory) => Err(NoMemory),
@@ -208,7 +259,7 @@ impl Session {
         requires { length statement.now ≤ LINE_LENGTH }
         ensures { (s : talk.Session Position) → Stands self.old s
             → Serves P.who P.log port.old port.new clock.old clock.new
-            (λ most. immediate (judge_of statement.now) most s) self.new result }
+            (λ most. immediate judge_of (judge_of statement.now) most s) self.new result }
     {
         match tree_of(alloc, statement) {
             Ok(line) => self.do_line(alloc, &line, clock, port),
@@ -227,7 +278,7 @@ impl Session {
     ) -> Result<AfterLine, NoMemory>
         ensures { (s : talk.Session Position) → Stands self.old s
             → Serves P.who P.log port.old port.new clock.old clock.new
-            (λ most. does_line (line_of line.now) most s) self.new result }
+            (λ most. does_line judge_of (line_of line.now) most s) self.new result }
     {
         if !is_in_stage(line) {
             return self.answer(NOT_IN_STAGE);
@@ -236,71 +287,15 @@ impl Session {
         match lower_now(alloc, line) {
             Ok(code) => {
                 let end = run_line(&code, loops, &mut self.running, clock, port);
-                self.end_line(end)
+                self.end_line(alloc, end, clock, port)
             }
             Err(Trouble::Refused(refusal)) => self.refuse(refusal),
             Err(Trouble::NoMemory) => Err(NoMemory),
         }
     }
 
-    /// The end of a program that ran. Where it left the body of a function that was not called,
-    /// that is an end as any other.
-    fn end_run(&mut self, end: Result<(), Trouble<Exit>>) -> Result<AfterLine, NoMemory>
-        ensures { IfOk result (λ onward.
-            run_ends end (seen self.old) ≡ Some (goes onward (seen self.new))) }
-    {
-        match end {
-            Ok(()) => self.end_run_by(Exit::Ended),
-            Err(Trouble::Refused(why)) => self.end_run_by(why),
-            Err(Trouble::NoMemory) => Err(NoMemory),
-        }
-    }
-
-    /// Its report, the STOP for CONT, and Ready.
-    #[tactic(auto, using(crate::proofs::Lows::outlived))]
-    fn end_run_by(&mut self, why: Exit) -> Result<AfterLine, NoMemory>
-        ensures { IfOk result (λ onward.
-            outlived (run_is_over (seen self.old)) (seen self.old) (break_of why)
-            (seen self.old).job
-            ≡ goes onward (seen self.new)) }
-    {
-        if is_gone(&why) {
-            return Ok(AfterLine::Expired);
-        }
-        let stop = stop_by(&why);
-        self.report(why)?;
-        self.stop = stop;
-        Ok(AfterLine::Next)
-    }
-
-    /// The end of a line of immediate mode.
-    fn end_line(&mut self, end: Result<(), Trouble<Exit>>) -> Result<AfterLine, NoMemory>
-        ensures { IfOk result (λ onward.
-            line_ends end (seen self.old) ≡ Some (goes onward (seen self.new))) }
-    {
-        match end {
-            Ok(()) => self.end_line_by(Exit::Ended),
-            Err(Trouble::Refused(why)) => self.end_line_by(why),
-            Err(Trouble::NoMemory) => Err(NoMemory),
-        }
-    }
-
-    /// Its report, and Ready.
-    #[tactic(auto, using(crate::proofs::Lows::outlived))]
-    fn end_line_by(&mut self, why: Exit) -> Result<AfterLine, NoMemory>
-        ensures { IfOk result (λ onward.
-            outlived (reported (seen self.old)) (seen self.old) (break_of why) (seen self.old).job
-            ≡ goes onward (seen self.new)) }
-    {
-        if is_gone(&why) {
-            return Ok(AfterLine::Expired);
-        }
-        self.report(why)?;
-        Ok(AfterLine::Next)
-    }
-
     /// What is written at an end, and Ready.
-    fn report(&mut self, why: Exit) -> Result<(), NoMemory>
+    pub(crate) fn report(&mut self, why: Exit) -> Result<(), NoMemory>
         ensures { OnOk result (seen self.new
             ≡ reported (seen self.old) (break_of why) (seen self.old).job) }
     {
@@ -309,7 +304,7 @@ impl Session {
     }
 
     /// A program or a line that is refused before it runs.
-    fn refuse(&mut self, refusal: LowerRefusal) -> Result<AfterLine, NoMemory>
+    pub(crate) fn refuse(&mut self, refusal: LowerRefusal) -> Result<AfterLine, NoMemory>
         ensures { IfOk result (λ onward.
             answered (lowering_text refusal) (seen self.old) ≡ goes onward (seen self.new)) }
     {
@@ -318,24 +313,13 @@ impl Session {
     }
 }
 
-/// Whether the job's calls are used up.
-fn is_gone(why: &Exit) -> bool
-    ensures { result ≡ is_gone why.now }
+/// The refusal of a line at which the program cannot begin.
+fn no_line(line: Option<u16>) -> LowerRefusal
+    ensures { result ≡ no_line line }
 {
-    match why {
-        Exit::Gone => true,
-        _ => false,
-    }
-}
-
-/// Where CONT goes on: behind a STOP, and behind no other end.
-fn stop_by(why: &Exit) -> Option<Stop>
-    ensures { option_map leaving_of result ≡ stop_by (break_of why.now) }
-{
-    match why {
-        Exit::Stopped(spot) => Some(Stop::At(*spot)),
-        Exit::StoppedInside(home) => Some(Stop::Inside(*home)),
-        _ => None,
+    LowerRefusal {
+        line: line.unwrap_or(0),
+        cause: LowerCause::NoLine,
     }
 }
 

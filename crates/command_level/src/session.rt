@@ -26,12 +26,12 @@ ghost use Rattle.std.specs.Option.{option_map};
 use crate::commands::{Command, command_of};
 use crate::logins::LoginForm;
 use basic_interpreter::{Clock, Exit, Running, Stack, Stop, Storage};
-use basic_values::{KeyLine, LINE_LENGTH, NoMemory, Trouble};
+use basic_values::{KeyLine, LINE_LENGTH, NoMemory, Text, Trouble};
 use error_trap::Trap;
 use job_model::is_error;
 use line_editor::ProgramText;
 use monitor_calls::{Account, Port, Reply, Request, Short};
-use program_model::Home;
+use program_model::{Destination, Home};
 use record_fields::Buffers;
 use std::alloc::Global;
 use terminal_line::{Keys, Screen};
@@ -134,6 +134,10 @@ fn at_rest(alloc: Global, keys: &[KeyLine]) -> Result<Running, NoMemory>
             line: 0,
         },
         frames: Stack::new(alloc),
+        destination: Destination {
+            name: Text::empty(alloc),
+            line: None,
+        },
         exit: Trouble::Refused(Exit::Ended),
     })
 }

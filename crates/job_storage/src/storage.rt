@@ -66,6 +66,13 @@ impl Storage {
         }
     }
 
+    /// For whom the job acts.
+    pub fn account(&self) -> Account
+        ensures { result ≡ self.now.account }
+    {
+        self.account
+    }
+
     /// The job acts for this account.
     pub fn act_for(&mut self, account: Account)
         ensures { self.new ≡ record self.old { account = account } }

@@ -8,5 +8,5 @@ use Rattle.command_level.proofs.session.Session.continue_program.Goals as goal
 
 pub returns-in-None : goal.returns-in-None
 returns-in-None g c s st =
-    serves_from (λ most. ap (λ stop. goes_on (program_by judge_of s.lines) most stop s) (no_stop c.args.self.now s st c.in-None.is))
+    serves_from (λ most. ap (λ stop. goes_on judge_of (program_by judge_of s.lines) most stop s) (no_stop c.args.self.now s st c.in-None.is))
     (serves_answer c.args.self.now c.answer.new.self s st cant_continue c.answer.result c.answer.ensures)

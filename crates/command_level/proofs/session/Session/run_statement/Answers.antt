@@ -16,13 +16,13 @@ use Rattle.command_level.proofs.session.Session.run_statement.Goals as goal
 pub returns-in-Ok : goal.returns-in-Ok
 returns-in-Ok g c s st =
     let read = c.in-Ok.ensures in
-    serves_from (λ most. ap (λ (v : grammar.Verdict). immediate v most s) read.1 ∙ ap (λ ss. does_line ss most s) (sym read.2)) (c.do_line.ensures s st)
+    serves_from (λ most. ap (λ (v : grammar.Verdict). immediate judge_of v most s) read.1 ∙ ap (λ ss. does_line judge_of ss most s) (sym read.2)) (c.do_line.ensures s st)
 
 pub returns-in-Err-Refused : goal.returns-in-Err-Refused
 returns-in-Err-Refused g c s st =
     let refused : judge_of c.args.statement.now ≡ grammar.RefusedFor c.in-Err-Refused.cause = subst (λ (e : Trouble Cause). HasVerdict (judge_of c.args.statement.now) (Err e)) c.in-Err-Refused.field-0-is c.in-Err-Refused.ensures in
     let told : IfOk c.answer.result (λ onward. answered (refusal_text c.in-Err-Refused.cause) (seen c.args.self.now) ≡ goes onward (seen c.answer.new.self)) = search rules in
-    serves_from (λ most. ap (λ (v : grammar.Verdict). immediate v most s) refused)
+    serves_from (λ most. ap (λ (v : grammar.Verdict). immediate judge_of v most s) refused)
     (serves_answer c.args.self.now c.answer.new.self s st (refusal_text c.in-Err-Refused.cause) c.answer.result told)
 
 pub returns-in-Err-NoMemory : goal.returns-in-Err-NoMemory
