@@ -30,7 +30,7 @@ use Rattle.basic_interpreter.specs.Meaning.{Came, went, left_a_body, no_memory, 
 use Rattle.basic_interpreter.specs.Units.{units_left, SpendsAtChain}
 use Rattle.session_model.specs.Serving.{FollowsSession}
 use Rattle.session_model.specs.Talk as talk
-use Rattle.session_model.specs.Talk.{Step, Runs, with_job, outlived, run_is_over, reported, in_session, chains, ended, line_ended, chains_to, unread, follows_chain, reads_program, program_by}
+use Rattle.session_model.specs.Talk.{Step, Runner, with_job, outlived, run_is_over, reported, in_session, runs_chained, ends_run, line_ended, chains_to, unread, follows_chain, reads_program, program_by}
 use Rattle.command_level.specs.declared.session.Session.{Session}
 use Rattle.command_level.specs.declared.session.AfterLine.{AfterLine}
 use Rattle.command_level.specs.declared.chains.Reached.{Reached}
@@ -47,7 +47,7 @@ use Rattle.command_level.proofs.SessionLemmas.{session_on}
 -- ENDS
 
 -- where a job is gone, so is its session
-ended_dies : (most count : ℕ) (p : Program) (s : talk.Session Position) (j : Job Position) → ended judge_of most count p s Gone j ≡ Breaks Gone (with_job j s)
+ended_dies : (most count : ℕ) (p : Program) (s : talk.Session Position) (j : Job Position) → ends_run judge_of most count p s Gone j ≡ Breaks Gone (with_job j s)
 ended_dies most zero p s j = refl
 ended_dies most (suc count) p s j = refl
 
@@ -64,7 +64,7 @@ not_chained p b why way nay is = by_way why (ap (break_over (low_leaving p)) (sy
     by_way (exit.Stopped spot) e nay = cc
     by_way (exit.StoppedInside home) e nay = cc
 
-outlived_there : (most count : ℕ) (p : Program) (s : talk.Session Position) (b : Break (program.Leaving Position)) (j : Job Position) → (b ≡ Left program.Chained → ⊥) → ended judge_of most count p s b j ≡ outlived (run_is_over s) s b j
+outlived_there : (most count : ℕ) (p : Program) (s : talk.Session Position) (b : Break (program.Leaving Position)) (j : Job Position) → (b ≡ Left program.Chained → ⊥) → ends_run judge_of most count p s b j ≡ outlived (run_is_over s) s b j
 outlived_there most zero p s b j nay = refl
 outlived_there most (suc count) p s (Left program.Chained) j nay = absurd (nay refl)
 outlived_there most (suc count) p s (Left program.Ended) j nay = refl
@@ -202,25 +202,25 @@ module _ {P W : Type 0} {who : P → W} {log : P → List Pair} where
       → IfOk result (IsReached end) → OnErr result (end ≡ Err trouble.NoMemory)
       → seen session ≡ with_job (acting.seen session.running) (low_session prog s) → prog ≡ program_by judge_of s.lines → refusal_of prog ≡ None → StopFits prog s
       → Means who log p q c d (low_leaving prog) (lowered prog) meaning (acting.seen session.running) end
-      → ServesRun who log p q c d count (λ most. chains judge_of most (count most) prog s (meaning most)) session result
+      → ServesRun who log p q c d count (λ most. runs_chained judge_of most (count most) prog s (meaning most)) session result
   run_reached {p} {q} {c} {d} count prog s meaning session end result ok memory rest same sound fits means =
-      by_end end result means.left means.came ok memory (in_session_follows (λ most. ended judge_of most (count most) prog s) s meaning means.left means.pairs means.bound (λ most j. ended_dies most (count most) prog s j) means.grew means.reaches)
+      by_end end result means.left means.came ok memory (in_session_follows (λ most. ends_run judge_of most (count most) prog s) s meaning means.left means.pairs means.bound (λ most j. ended_dies most (count most) prog s j) means.grew means.reaches)
     where
       abbrev To : Option (Doing Coming) → Type 0
-      To left = FollowsSession who log p q c d (λ most. chains judge_of most (count most) prog s (meaning most)) (option_map (λ (m : Doing Coming) most. chains judge_of most (count most) prog s m) left)
+      To left = FollowsSession who log p q c d (λ most. runs_chained judge_of most (count most) prog s (meaning most)) (option_map (λ (m : Doing Coming) most. runs_chained judge_of most (count most) prog s m) left)
 
       ran : (j : Job Position) → lowered prog j ≡ acting.seen session.running → RanIn session prog s j
       ran j low = record { low = ap (λ (k : Job Spot). with_job k (low_session prog s)) low ∙ sym rest; here = same; sound = sound; fits = fits }
 
       to : (at : Reached) (why : Exit) (b : Break (program.Leaving Position)) (j : Job Position) → at ≡ reached.End why → RanIn session prog s j → break_over (low_leaving prog) b ≡ break_of why
-          → FollowsSession who log p q c d (λ most. chains judge_of most (count most) prog s (meaning most)) (Some (λ most. ended judge_of most (count most) prog s b j))
-          → ServesRun who log p q c d count (λ most. chains judge_of most (count most) prog s (meaning most)) session (Ok at)
+          → FollowsSession who log p q c d (λ most. runs_chained judge_of most (count most) prog s (meaning most)) (Some (λ most. ends_run judge_of most (count most) prog s b j))
+          → ServesRun who log p q c d count (λ most. runs_chained judge_of most (count most) prog s (meaning most)) session (Ok at)
       to at why b j is ran way f =
-          subst (λ (at : Reached). ServesRun who log p q c d count (λ most. chains judge_of most (count most) prog s (meaning most)) session (Ok at)) (sym is)
-          (record { left = Some (λ most. ended judge_of most (count most) prog s b j); leaves = (prog, s, b, j, record { ran = ran; way = way }, refl); follows = f })
+          subst (λ (at : Reached). ServesRun who log p q c d count (λ most. runs_chained judge_of most (count most) prog s (meaning most)) session (Ok at)) (sym is)
+          (record { left = Some (λ most. ends_run judge_of most (count most) prog s b j); leaves = (prog, s, b, j, record { ran = ran; way = way }, refl); follows = f })
 
       by_end : (end : Result (Unit {0}) (Trouble Exit)) (result : Result Reached NoMemory) (left : Option (Doing Coming)) → Came (low_leaving prog) (lowered prog) end (acting.seen session.running) left
-          → IfOk result (IsReached end) → OnErr result (end ≡ Err trouble.NoMemory) → To left → ServesRun who log p q c d count (λ most. chains judge_of most (count most) prog s (meaning most)) session result
+          → IfOk result (IsReached end) → OnErr result (end ≡ Err trouble.NoMemory) → To left → ServesRun who log p q c d count (λ most. runs_chained judge_of most (count most) prog s (meaning most)) session result
       by_end end (Ok at) left (went {why = b} {j = j} {exit = reason} way low) ok memory f = to at reason b j ok (ran j low) way f
       by_end end (Ok at) left (left_a_body {coming = coming} {j = j} low) ok memory f = to at exit.Ended (Left program.Ended) j ok (ran j low) refl f
       by_end end (Ok at) left no_memory ok memory f = absurd ok
@@ -237,7 +237,7 @@ module _ {P W : Type 0} {who : P → W} {log : P → List Pair} where
   -- THE READING
 
   -- what was read, or why it was not, is what a chain goes on with
-  pub chain_follows : {p q : P} {c d : Clock} (run : ℕ → Runs) (faulted : ℕ → ℕ → Job Position → Step Position) (over : Break (program.Leaving Position) → Job Position → talk.Session Position) (s : talk.Session Position) (j : Job Position) (left : Option (Act ⊥ Unit (List ℕ × Lines)))
+  pub chain_follows : {p q : P} {c d : Clock} (run : ℕ → Runner) (faulted : ℕ → ℕ → Job Position → Step Position) (over : Break (program.Leaving Position) → Job Position → talk.Session Position) (s : talk.Session Position) (j : Job Position) (left : Option (Act ⊥ Unit (List ℕ × Lines)))
       → Follows who log p q c d (reads_program judge_of j.account j.destination.name) left
       → FollowsSession who log p q c d (λ most. follows_chain judge_of (run most) (faulted most) most over s j)
       (option_map (λ (t : Act ⊥ Unit (List ℕ × Lines)) most. at_ends (λ _. with_job j s) (λ read _. chains_to judge_of (run most) most read (with_job j s)) (λ why _. unread (faulted most) over why s j) t) left)
@@ -271,7 +271,7 @@ module _ {P W : Type 0} {who : P → W} {log : P → List Pair} where
   -- one chain
   abbrev pub Chains : P → P → Clock → Clock → Session → Session → Result Reached NoMemory → Type 0
   Chains old new c d before behind result = (count : ℕ → ℕ) (p : Program) (s : talk.Session Position) (j : Job Position) → RanIn before p s j
-      → ServesRun who log old new c d count (λ most. ended judge_of most (suc (count most)) p s (Left program.Chained) j) behind result
+      → ServesRun who log old new c d count (λ most. ends_run judge_of most (suc (count most)) p s (Left program.Chained) j) behind result
 
   pub comes_first : {p : P} {c : Clock} (session : Session) (at : Reached) (left : ℕ → Step Position) → LeftRun (λ most. most) session (Ok at) (Some left) → Comes p p c c left session at
   comes_first {p} {c} session at left h = record {
@@ -308,7 +308,7 @@ module _ {P W : Type 0} {who : P → W} {log : P → List Pair} where
           let first = subst (λ (left : Option (ℕ → Step Position)). FollowsSession who log p q c d step left) l.5 run.follows in
           record {
             left = g.left; leaves = g.leaves;
-            follows = session_on first (above (suc f.turns) (λ most le. ap (λ (n : ℕ). ended judge_of most n l.0 l.1 l.2 l.3) (one_less most le) ∙ ap (λ (b : Break (program.Leaving Position)). ended judge_of most (suc (most - suc f.turns)) l.0 l.1 b l.3) (chain_way l.0 l.2 l.4.way)) g.follows);
+            follows = session_on first (above (suc f.turns) (λ most le. ap (λ (n : ℕ). ends_run judge_of most n l.0 l.1 l.2 l.3) (one_less most le) ∙ ap (λ (b : Break (program.Leaving Position)). ends_run judge_of most (suc (most - suc f.turns)) l.0 l.1 b l.3) (chain_way l.0 l.2 l.4.way)) g.follows);
           }
 
   pub comes_on : {p q r : P} {c d e : Clock} {step : ℕ → Step Position} (old new : Session) (at on : Reached) → is_chain at ≡ true → Comes p q c d step old at → Chains q r d e old new (Ok on) → Comes p r c e step new on

@@ -29,7 +29,7 @@ use Rattle.polish_code.specs.Walk.{Spot}
 use Rattle.polish_code.specs.Lowered.{low_leaving}
 use Rattle.basic_eval.specs.Acting as acting
 use Rattle.session_model.specs.Talk as talk
-use Rattle.session_model.specs.Talk.{Step, Runs, says, with_job, with_storage, shut_down, headed, begun, no_line, runs_shut, runs_there, runs_unless, answered, program_by, acts, visitor_acts, user_acts, line_acts, rests}
+use Rattle.session_model.specs.Talk.{Step, Runner, says, with_job, with_storage, shut_down, headed, begun, no_line, runs_shut, runs_there, runs_unless, answered, program_by, acts, visitor_acts, user_acts, line_acts, rests}
 use Rattle.session_model.specs.Texts.{lowering_text}
 use Rattle.basic_interpreter.specs.declared.stops.Stop.{Stop}
 use Rattle.basic_interpreter.specs.Stopping.{leaving_of}
@@ -106,7 +106,7 @@ module _ {P W : Type 0} {who : P → W} {log : P → List Pair} where
       record { left = run.left; leaves = run.leaves; follows = tried_follows (with_storage s) (λ most _ s. next most s) tt t (shut_from mid s st f) run.follows }
 
   -- a program that is refused
-  pub serves_refused : {p : P} {c : Clock} (prog : Program) (run : ℕ → Runs) (line : Option ℕ) (s : talk.Session Position) (mid new : Session) (refusal : LowerRefusal) (result : Result AfterLine NoMemory)
+  pub serves_refused : {p : P} {c : Clock} (prog : Program) (run : ℕ → Runner) (line : Option ℕ) (s : talk.Session Position) (mid new : Session) (refusal : LowerRefusal) (result : Result AfterLine NoMemory)
       → low_session prog (begun prog s) ≡ seen mid → refusal_of prog ≡ Some refusal
       → IfOk result (λ on. answered (lowering_text refusal) (seen mid) ≡ goes on (seen new))
       → Serves who log p p c c (λ most. runs_shut (run most) prog most line s) new result
@@ -115,7 +115,7 @@ module _ {P W : Type 0} {who : P → W} {log : P → List Pair} where
       (serves_same prog new result (answered (lowering_text refusal) (begun prog s)) (ok_map result (λ on same. ap (answered (lowering_text refusal)) low ∙ same) told) tt)
 
   -- one that cannot begin at a line
-  pub serves_nowhere : {p : P} {c : Clock} (prog : Program) (run : ℕ → Runs) (line : Option ℕ) (can : Bool) (s : talk.Session Position) (mid new : Session) (refusal : LowerRefusal) (result : Result AfterLine NoMemory)
+  pub serves_nowhere : {p : P} {c : Clock} (prog : Program) (run : ℕ → Runner) (line : Option ℕ) (can : Bool) (s : talk.Session Position) (mid new : Session) (refusal : LowerRefusal) (result : Result AfterLine NoMemory)
       → low_session prog s ≡ seen mid → s.stop ≡ None → can ≡ false → refusal ≡ no_line line
       → IfOk result (λ on. answered (lowering_text refusal) (seen mid) ≡ goes on (seen new))
       → Serves who log p p c c (λ most. runs_there (run most) prog most line can s) new result

@@ -18,7 +18,7 @@ use Rattle.basic_eval.specs.Acting.{break_of}
 use Rattle.basic_interpreter.specs.Units.{units_left}
 use Rattle.session_model.specs.Serving.{FollowsSession}
 use Rattle.session_model.specs.Talk as talk
-use Rattle.session_model.specs.Talk.{Step, with_job, ended, program_by}
+use Rattle.session_model.specs.Talk.{Step, with_job, ends_run, program_by}
 use Rattle.command_level.specs.declared.session.Session.{Session}
 use Rattle.command_level.specs.declared.session.AfterLine.{AfterLine}
 use Rattle.command_level.specs.declared.chains.Reached.{Reached}
@@ -58,7 +58,7 @@ pub record AtEnd (session : Session) (why : Exit) (p : Program) (s : talk.Sessio
 abbrev pub LeftRun : (ℕ → ℕ) → Session → Result Reached NoMemory → Option (ℕ → Step Position) → Type 0
 LeftRun count session (Ok (reached.End why)) left =
     (p : Program) × (s : talk.Session Position) × (b : Break (program.Leaving Position)) × (j : Job Position)
-    × AtEnd session why p s b j × (left ≡ Some (λ most. ended judge_of most (count most) p s b j))
+    × AtEnd session why p s b j × (left ≡ Some (λ most. ends_run judge_of most (count most) p s b j))
 LeftRun count session (Ok (reached.Over onward)) left = LeftBy session (Ok onward) left
 LeftRun count session (Err e) left = left ≡ None
 

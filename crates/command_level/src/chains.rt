@@ -18,7 +18,7 @@ ghost use Rattle.program_model.specs.Job.{Job};
 ghost use Rattle.program_model.specs.Program.{Program, Position};
 ghost use Rattle.program_model.specs.Running.{Coming, raises};
 ghost use Rattle.session_model.specs.Talk as talk;
-ghost use Rattle.session_model.specs.Talk.{Step, chains, chains_to, ended, follows_chain, in_session};
+ghost use Rattle.session_model.specs.Talk.{Step, runs_chained, chains_to, ends_run, follows_chain, in_session};
 ghost use Rattle.session_model.specs.Talk.{line_ended, outlived, reads_file, reads_program, reported};
 ghost use Rattle.session_model.specs.Talk.{run_is_over, stop_by, with_job};
 ghost use Rattle.command_level.specs.AfterLines.{goes};
@@ -84,7 +84,7 @@ impl Session {
         ensures path { (count : ℕ → ℕ) (p : Program) (s : talk.Session Position)
             (j : Job Position) → RanIn self.old p s j
             → ServesRun P.who P.log port.old port.new clock.old clock.new count
-            (λ most. ended judge_of most (suc (count most)) p s (Left program.Chained) j)
+            (λ most. ends_run judge_of most (suc (count most)) p s (Left program.Chained) j)
             self.new result }
         ensures units { IfOk result (Spent clock.old clock.new) }
     {
@@ -109,7 +109,7 @@ impl Session {
         ensures path { (count : ℕ → ℕ) (p : Program) (s : talk.Session Position)
             → low_session p s ≡ seen self.old
             → ServesRun P.who P.log port.old port.new clock.old clock.new count
-            (λ most. chains_to judge_of (chains judge_of most (count most)) most read s)
+            (λ most. chains_to judge_of (runs_chained judge_of most (count most)) most read s)
             self.new result }
         ensures units { IfOk result (Spent clock.old clock.new) }
     {
@@ -130,7 +130,7 @@ impl Session {
         ensures path { (count : ℕ → ℕ) (p : Program) (s : talk.Session Position)
             (j : Job Position) → RanIn self.old p s j
             → ServesRun P.who P.log port.old port.new clock.old clock.new count
-            (λ most. chains judge_of most (count most) p s (raises p most fault j))
+            (λ most. runs_chained judge_of most (count most) p s (raises p most fault j))
             self.new result }
         ensures units { IfOk result (Spent clock.old clock.new) }
     {

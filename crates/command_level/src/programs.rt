@@ -9,7 +9,7 @@ ghost use Rattle.program_model.specs.Program.{Program, Position};
 ghost use Rattle.program_model.specs.Soundness.{can_begin, refusal_of};
 ghost use Rattle.session_model.specs.Talk as talk;
 ghost use Rattle.basic_eval.specs.Acting.{break_of};
-ghost use Rattle.session_model.specs.Talk.{answered, begun, chains, does_line, goes_on, headed};
+ghost use Rattle.session_model.specs.Talk.{answered, begun, runs_chained, does_line, goes_on, headed};
 ghost use Rattle.session_model.specs.Talk.{immediate, no_line, program_by, reads_and_runs, reported};
 ghost use Rattle.session_model.specs.Talk.{runs, runs_all, runs_file, runs_loaded, runs_shut};
 ghost use Rattle.session_model.specs.Talk.{runs_there};
@@ -74,7 +74,7 @@ impl Session {
     ) -> Result<Reached, NoMemory>
         ensures path { (count : ℕ → ℕ) (s : talk.Session Position) → Stands self.old s
             → ServesRun P.who P.log port.old port.new clock.old clock.new count
-            (λ most. runs (chains judge_of most (count most)) (program_by judge_of s.lines) most
+            (λ most. runs (runs_chained judge_of most (count most)) (program_by judge_of s.lines) most
             line s) self.new result }
         ensures units { IfOk result (Spent clock.old clock.new) }
     {
@@ -94,7 +94,7 @@ impl Session {
     ) -> Result<Reached, NoMemory>
         ensures path { (count : ℕ → ℕ) (s : talk.Session Position) → Stands self.old s
             → ServesRun P.who P.log port.old port.new clock.old clock.new count
-            (λ most. runs_shut (chains judge_of most (count most)) (program_by judge_of s.lines)
+            (λ most. runs_shut (runs_chained judge_of most (count most)) (program_by judge_of s.lines)
             most line s) self.new result }
         ensures units { IfOk result (Spent clock.old clock.new) }
     {
@@ -119,7 +119,7 @@ impl Session {
             → low_session p s ≡ seen self.old → p ≡ program_by judge_of s.lines
             → refusal_of p ≡ None → s.stop ≡ None → code_kept code.now ≡ coded p
             → ServesRun P.who P.log port.old port.new clock.old clock.new count
-            (λ most. runs_there (chains judge_of most (count most)) p most line (can_begin p line)
+            (λ most. runs_there (runs_chained judge_of most (count most)) p most line (can_begin p line)
             s) self.new result }
         ensures units { (p : Program) → code_kept code.now ≡ coded p
             → IfOk result (Spent clock.old clock.new) }

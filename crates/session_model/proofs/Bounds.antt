@@ -30,7 +30,7 @@ use Rattle.program_files.specs.Programs.{reads_pages}
 use Rattle.session_model.specs.ProgramFiles.{spec_read, is_blank_text, program_on}
 use Rattle.session_model.specs.Commands.{Command, Run, RunFile, Continue, Immediate, command_of}
 use Rattle.session_model.specs.Texts.{not_in_stage, illegal_command}
-use Rattle.session_model.specs.Talk.{Session, Step, answered, says, keys_are, outlived, with_job, reported, run_is_over, Runs, in_session, runs_there, runs_unless, begun, runs, with_storage, chains_to, unread, reads_program, follows_chain, behind_end, run_to, ended, chains, runs_all, goes_on, line_ended, line_unless, immediate, program_by, headed, tried, by_name, loaded, runs_loaded, reads_and_runs, user_acts, acts, line_acts, with_next, session}
+use Rattle.session_model.specs.Talk.{Session, Step, answered, says, keys_are, outlived, with_job, reported, run_is_over, Runner, in_session, runs_there, runs_unless, begun, runs, with_storage, chains_to, unread, reads_program, follows_chain, behind_end, run_to, ends_run, runs_chained, runs_all, goes_on, line_ended, line_unless, immediate, program_by, headed, tried, by_name, loaded, runs_loaded, reads_and_runs, user_acts, acts, line_acts, with_next, session}
 
 in_session_alike : {R A : Type 0} (n : ℕ) (ended other : Break (program.Leaving R) → Job R → Step R) (s : Session R) (m m' : program.Deed R A) → ((k : ℕ) (why : Break (program.Leaving R)) (j : Job R) → k ≤ n → Alike k (ended why j) (other why j)) → Alike n m m' → Alike n (in_session ended s m) (in_session other s m')
 in_session_alike n ended other s m m' f (gives {n = i} {s = j}) = f n (Left program.Ended) j (omega arith)
@@ -85,7 +85,7 @@ at_ends_alike (suc n) put given given' broken broken' (Takes p rest) f g = takes
 -- CHAINS
 
 -- how a program begins, and what a chain leads to, where runs are alike
-module _ (n most more : ℕ) (run other : Runs)
+module _ (n most more : ℕ) (run other : Runner)
     (run_alike : (k : ℕ) (p : Program) (line : Option ℕ) (s : Session Position) → k ≤ n → Alike k (run p s (runs_cleared p most line s.job)) (other p s (runs_cleared p more line s.job))) where
   there_alike : (k : ℕ) (p : Program) (line : Option ℕ) (b : Bool) (s : Session Position) → k ≤ n → Alike k (runs_there run p most line b s) (runs_there other p more line b s)
   there_alike k p line true s le = run_alike k p line s le
@@ -125,12 +125,12 @@ module _ (n most more : ℕ) (run other : Runs)
 
 module _ (judge : Judge) (most more : ℕ) where
   -- an end that is no chain
-  last_alike : (count count' k : ℕ) (p : Program) (s : Session Position) (why : Break (program.Leaving Position)) (j : Job Position) → ¬ (IsChain why) → Alike k (ended judge most count p s why j) (ended judge more count' p s why j)
+  last_alike : (count count' k : ℕ) (p : Program) (s : Session Position) (why : Break (program.Leaving Position)) (j : Job Position) → ¬ (IsChain why) → Alike k (ends_run judge most count p s why j) (ends_run judge more count' p s why j)
   last_alike count count' k p s why j nay =
-      subst (λ (m : Step Position). Alike k m (ended judge more count' p s why j)) (sym (is_last most count why nay))
+      subst (λ (m : Step Position). Alike k m (ends_run judge more count' p s why j)) (sym (is_last most count why nay))
       (subst (λ (m : Step Position). Alike k (outlived (run_is_over s) s why j) m) (sym (is_last more count' why nay)) (same k _))
     where
-      is_last : (most count : ℕ) (why : Break (program.Leaving Position)) → ¬ (IsChain why) → ended judge most count p s why j ≡ outlived (run_is_over s) s why j
+      is_last : (most count : ℕ) (why : Break (program.Leaving Position)) → ¬ (IsChain why) → ends_run judge most count p s why j ≡ outlived (run_is_over s) s why j
       is_last most zero why nay = refl
       is_last most (suc count) (Left program.Chained) nay = absurd (nay tt)
       is_last most (suc count) (Left program.Ended) nay = refl
@@ -141,33 +141,33 @@ module _ (judge : Judge) (most more : ℕ) where
       is_last most (suc count) Gone nay = refl
 
   -- a run that takes a unit before it chains
-  after_alike : (count count' n : ℕ) (p : Program) (s : Session Position) (m m' : program.Deed Position Coming) → ((k : ℕ) (why : Break (program.Leaving Position)) (j : Job Position) → k < n → Alike k (ended judge most count p s why j) (ended judge more count' p s why j)) → SpendsFirst m → Alike n m m'
-      → Alike n (run_to (ended judge most count) p s m) (run_to (ended judge more count') p s m')
+  after_alike : (count count' n : ℕ) (p : Program) (s : Session Position) (m m' : program.Deed Position Coming) → ((k : ℕ) (why : Break (program.Leaving Position)) (j : Job Position) → k < n → Alike k (ends_run judge most count p s why j) (ends_run judge more count' p s why j)) → SpendsFirst m → Alike n m m'
+      → Alike n (run_to (ends_run judge most count) p s m) (run_to (ends_run judge more count') p s m')
   after_alike count count' n p s m m' f spends e =
-      spends_alike n (ended judge most count p s) (ended judge more count' p s) s m m' (λ k why j nay. last_alike count count' k p s why j nay) f spends e
+      spends_alike n (ends_run judge most count p s) (ends_run judge more count' p s) s m m' (λ k why j nay. last_alike count count' k p s why j nay) f spends e
 
   -- as long as chains and statements are more than units
-  ended_alike : (count count' k : ℕ) (p : Program) (s : Session Position) (why : Break (program.Leaving Position)) (j : Job Position) → k < most → k < more → k < count → k < count' → Alike k (ended judge most count p s why j) (ended judge more count' p s why j)
+  ended_alike : (count count' k : ℕ) (p : Program) (s : Session Position) (why : Break (program.Leaving Position)) (j : Job Position) → k < most → k < more → k < count → k < count' → Alike k (ends_run judge most count p s why j) (ends_run judge more count' p s why j)
   ended_alike zero count' k p s why j lt lt' few few' = absurd (omega (arith, few))
   ended_alike (suc count) zero k p s why j lt lt' few few' = absurd (omega (arith, few'))
   ended_alike (suc count) (suc count') k p s why j lt lt' few few' =
-      behind_alike k most more (run_to (ended judge most count)) (run_to (ended judge more count'))
+      behind_alike k most more (run_to (ends_run judge most count)) (run_to (ends_run judge more count'))
       (λ l p line s le. after_alike count count' l p s _ _ (λ i why j less. ended_alike count count' i p s why j (omega (arith, lt, le, less)) (omega (arith, lt', le, less)) (omega (arith, few, le, less)) (omega (arith, few', le, less)))
       (cleared_spends p most line s.job) (cleared_enough p most more l line s.job (omega (arith, lt, le)) (omega (arith, lt', le))))
-      judge (λ number j. run_to (ended judge most count) p s (raises p most number j)) (λ number j. run_to (ended judge more count') p s (raises p more number j)) (run_is_over s)
+      judge (λ number j. run_to (ends_run judge most count) p s (raises p most number j)) (λ number j. run_to (ends_run judge more count') p s (raises p more number j)) (run_is_over s)
       (λ l number j le. after_alike count count' l p s _ _ (λ i why j less. ended_alike count count' i p s why j (omega (arith, lt, le, less)) (omega (arith, lt', le, less)) (omega (arith, few, le, less)) (omega (arith, few', le, less)))
       (raises_spend p most number j) (raises_enough p most more l number j (omega (arith, lt, le)) (omega (arith, lt', le))))
       k s why j (omega arith)
 
-  chains_alike : (n : ℕ) (p : Program) (s : Session Position) (m m' : program.Deed Position Coming) → n < most → n < more → Alike n m m' → Alike n (chains judge most most p s m) (chains judge more more p s m')
-  chains_alike n p s m m' lt lt' e = in_session_alike n (ended judge most most p s) (ended judge more more p s) s m m' (λ k why j le. ended_alike most more k p s why j (omega (arith, lt, le)) (omega (arith, lt', le)) (omega (arith, lt, le)) (omega (arith, lt', le))) e
+  chains_alike : (n : ℕ) (p : Program) (s : Session Position) (m m' : program.Deed Position Coming) → n < most → n < more → Alike n m m' → Alike n (runs_chained judge most most p s m) (runs_chained judge more more p s m')
+  chains_alike n p s m m' lt lt' e = in_session_alike n (ends_run judge most most p s) (ends_run judge more more p s) s m m' (λ k why j le. ended_alike most more k p s why j (omega (arith, lt, le)) (omega (arith, lt', le)) (omega (arith, lt, le)) (omega (arith, lt', le))) e
 
-  first_alike : (n : ℕ) (p : Program) (line : Option ℕ) (s : Session Position) → n < most → n < more → Alike n (chains judge most most p s (runs_cleared p most line s.job)) (chains judge more more p s (runs_cleared p more line s.job))
+  first_alike : (n : ℕ) (p : Program) (line : Option ℕ) (s : Session Position) → n < most → n < more → Alike n (runs_chained judge most most p s (runs_cleared p most line s.job)) (runs_chained judge more more p s (runs_cleared p more line s.job))
   first_alike n p line s lt lt' = chains_alike n p s _ _ lt lt' (cleared_enough p most more n line s.job lt lt')
 
   line_ended_alike : (n : ℕ) (s : Session Position) (why : Break (program.Leaving Position)) (j : Job Position) → n < most → n < more → Alike n (line_ended judge most s why j) (line_ended judge more s why j)
   line_ended_alike n s why j lt lt' =
-      behind_alike n most more (chains judge most most) (chains judge more more) (λ k p line s le. first_alike k p line s (omega (arith, lt, le)) (omega (arith, lt', le)))
+      behind_alike n most more (runs_chained judge most most) (runs_chained judge more more) (λ k p line s le. first_alike k p line s (omega (arith, lt, le)) (omega (arith, lt', le)))
       judge (λ number j. Gives tt (reported s (Faulted number) j)) (λ number j. Gives tt (reported s (Faulted number) j)) (reported s) (λ k number j le. same k _)
       n s why j (omega arith)
 
@@ -175,7 +175,7 @@ module _ (judge : Judge) (most more : ℕ) where
 
 module _ (judge : Judge) (n most more : ℕ) (less : n < most) (less' : n < more) where
   all_alike : (p : Program) (s : Session Position) → Alike n (runs_all judge p most s) (runs_all judge p more s)
-  all_alike p s = runs_alike n most more (chains judge most most) (chains judge more more) (λ k p line s le. first_alike judge most more k p line s (omega (arith, le, less)) (omega (arith, le, less'))) n p None s (omega arith)
+  all_alike p s = runs_alike n most more (runs_chained judge most most) (runs_chained judge more more) (λ k p line s le. first_alike judge most more k p line s (omega (arith, le, less)) (omega (arith, le, less'))) n p None s (omega arith)
 
   open_alike : (p : Program) (way : program.Leaving Position) (j : Job Position) → Alike n (continues_open p most way j) (continues_open p more way j)
   open_alike p program.Ended j = same n _

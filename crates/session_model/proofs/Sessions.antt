@@ -31,7 +31,7 @@ use Rattle.session_model.specs.Commands.{Login, Naming, Nameless, Named, Misname
 use Rattle.session_model.specs.Editing.{Edited, Accepted, Refused, edited}
 use Rattle.session_model.specs.ProgramFiles.{spec_read, spec_or_own, is_blank_text, saved_pages, program_on}
 use Rattle.session_model.specs.Texts.{not_in_stage}
-use Rattle.session_model.specs.Talk.{Session, Step, answered, says, keys_are, entered, hello, leave, no_name, named, emptied, begins_new, renames, headed, lists, deletes, takes_edit, broken_off, tried, with_storage, shut_down, by_name, with_name_of, loaded, loads, reads_old, old, saves_as, saves, kills_file, unsaves, with_screen, catalogs_of, catalogs, rests, runs_loaded, reads_and_runs, runs_file, program_by, outlived, with_job, reported, Runs, in_session, run_is_over, runs_there, runs_unless, runs_shut, begun, runs, chains_to, unread, reads_program, follows_chain, behind_end, run_to, ended, chains, runs_all, goes_on, line_ended, line_unless, immediate, visitor_acts, user_acts, acts, line_acts, with_next, session, opening}
+use Rattle.session_model.specs.Talk.{Session, Step, answered, says, keys_are, entered, hello, leave, no_name, named, emptied, begins_new, renames, headed, lists, deletes, takes_edit, broken_off, tried, with_storage, shut_down, by_name, with_name_of, loaded, loads, reads_old, old, saves_as, saves, kills_file, unsaves, with_screen, catalogs_of, catalogs, rests, runs_loaded, reads_and_runs, runs_file, program_by, outlived, with_job, reported, Runner, in_session, run_is_over, runs_there, runs_unless, runs_shut, begun, runs, chains_to, unread, reads_program, follows_chain, behind_end, run_to, ends_run, runs_chained, runs_all, goes_on, line_ended, line_unless, immediate, visitor_acts, user_acts, acts, line_acts, with_next, session, opening}
 use Rattle.job_model.specs.Texts.{line_end}
 use Rattle.job_model.specs.Follow.{Path, here, asked, quiet, tick, gone}
 use Rattle.job_model.specs.Play.{Clock}
@@ -174,7 +174,7 @@ module _ {R : Type 0} (n : ℕ) where
   ends_keep put given broken f g (Takes p rest) = ends_keep put given broken f g rest
 
 -- how a program begins, and what a chain leads to
-module _ (n : ℕ) (run : Runs) (run_keeps : (p : Program) (s : Session Position) (m : program.Deed Position Coming) → Few n m → Keeps n (run p s m)) where
+module _ (n : ℕ) (run : Runner) (run_keeps : (p : Program) (s : Session Position) (m : program.Deed Position Coming) → Few n m → Keeps n (run p s m)) where
   there_keeps : (p : Program) (most : ℕ) (line : Option ℕ) (b : Bool) (s : Session Position) → Fewer n s.job → Keeps n (runs_there run p most line b s)
   there_keeps p most line true s h = run_keeps p s _ (cleared_few n p most line s.job h)
   there_keeps p most line false s h = h
@@ -211,19 +211,19 @@ module _ (n : ℕ) (run : Runs) (run_keeps : (p : Program) (s : Session Position
     behind_keeps s Gone j h = tt
 
 module _ (n : ℕ) (judge : Judge) where
-  ended_keeps : (count most : ℕ) (p : Program) (s : Session Position) (why : Break (program.Leaving Position)) (j : Job Position) → Fewer n j → Keeps n (ended judge most count p s why j)
+  ended_keeps : (count most : ℕ) (p : Program) (s : Session Position) (why : Break (program.Leaving Position)) (j : Job Position) → Fewer n j → Keeps n (ends_run judge most count p s why j)
   ended_keeps zero most p s why j h = outlived_keeps n (run_is_over s) s (λ why j g. g) why j h
   ended_keeps (suc count) most p s why j h =
-      behind_keeps n (run_to (ended judge most count)) (λ p s m few. in_session_keeps n (ended judge most count p s) s (λ why j g. ended_keeps count most p s why j g) m few)
-      judge (λ number j. run_to (ended judge most count) p s (raises p most number j)) most (run_is_over s)
-      (λ number j g. in_session_keeps n (ended judge most count p s) s (λ why j g. ended_keeps count most p s why j g) _ (raises_few n p most number j g))
+      behind_keeps n (run_to (ends_run judge most count)) (λ p s m few. in_session_keeps n (ends_run judge most count p s) s (λ why j g. ended_keeps count most p s why j g) m few)
+      judge (λ number j. run_to (ends_run judge most count) p s (raises p most number j)) most (run_is_over s)
+      (λ number j g. in_session_keeps n (ends_run judge most count p s) s (λ why j g. ended_keeps count most p s why j g) _ (raises_few n p most number j g))
       (λ why j g. g) s why j h
 
-  chains_keep : (most : ℕ) (p : Program) (s : Session Position) (m : program.Deed Position Coming) → Few n m → Keeps n (chains judge most most p s m)
-  chains_keep most p s m few = in_session_keeps n (ended judge most most p s) s (λ why j g. ended_keeps most most p s why j g) m few
+  chains_keep : (most : ℕ) (p : Program) (s : Session Position) (m : program.Deed Position Coming) → Few n m → Keeps n (runs_chained judge most most p s m)
+  chains_keep most p s m few = in_session_keeps n (ends_run judge most most p s) s (λ why j g. ended_keeps most most p s why j g) m few
 
   all_keep : (p : Program) (most : ℕ) (s : Session Position) → Fewer n s.job → Keeps n (runs_all judge p most s)
-  all_keep p most s h = runs_keeps n (chains judge most most) (λ p s m few. chains_keep most p s m few) p most None s h
+  all_keep p most s h = runs_keeps n (runs_chained judge most most) (λ p s m few. chains_keep most p s m few) p most None s h
 
   on_keeps : (p : Program) (most : ℕ) (stop : Option (program.Leaving Position)) (s : Session Position) → Fewer n s.job → Keeps n (goes_on judge p most stop s)
   on_keeps p most None s h = h
@@ -231,7 +231,7 @@ module _ (n : ℕ) (judge : Judge) where
 
   line_ended_keeps : (most : ℕ) (s : Session Position) (why : Break (program.Leaving Position)) (j : Job Position) → Fewer n j → Keeps n (line_ended judge most s why j)
   line_ended_keeps most s why j h =
-      behind_keeps n (chains judge most most) (λ p s m few. chains_keep most p s m few)
+      behind_keeps n (runs_chained judge most most) (λ p s m few. chains_keep most p s m few)
       judge (λ number j. Gives tt (reported s (Faulted number) j)) most (reported s) (λ number j g. g) (λ why j g. g) s why j h
 
   now_keeps : (o : Option LowerRefusal) (statements : List StatementTree) (most : ℕ) (s : Session Position) → Fewer n s.job → Keeps n (line_unless judge o statements most s)

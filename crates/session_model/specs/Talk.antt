@@ -289,8 +289,8 @@ run_is_over s why j = record (reported s why j) { stop = stop_by why }
 -- HOW A PROGRAM BEGINS, at a line that is wanted or at its first
 
 -- how the run of a program is done in a session
-abbrev pub Runs : Type 0
-Runs = Program → Session Position → Doing Coming → Step Position
+abbrev pub Runner : Type 0
+Runner = Program → Session Position → Doing Coming → Step Position
 
 abbrev pub begun : Program → Session Position → Session Position
 begun program s = record s { job = cleared program s.job; stop = None }
@@ -298,20 +298,20 @@ begun program s = record s { job = cleared program s.job; stop = None }
 abbrev pub no_line : Option ℕ → LowerRefusal
 no_line line = record { line = unwrap_or line 0; cause = NoLine }
 
-abbrev pub runs_there : Runs → Program → ℕ → Option ℕ → Bool → Session Position → Step Position
+abbrev pub runs_there : Runner → Program → ℕ → Option ℕ → Bool → Session Position → Step Position
 runs_there run p most line true s = run p s (runs_cleared p most line s.job)
 runs_there run p most line false s = answered (lowering_text (no_line line)) s
 
 -- what is refused before it runs leaves the memory cleared, and so does a line at which it cannot begin
-abbrev pub runs_unless : Runs → Option LowerRefusal → Program → ℕ → Option ℕ → Session Position → Step Position
+abbrev pub runs_unless : Runner → Option LowerRefusal → Program → ℕ → Option ℕ → Session Position → Step Position
 runs_unless run (Some refusal) p most line s = answered (lowering_text refusal) s
 runs_unless run None p most line s = runs_there run p most line (can_begin p line) s
 
 -- behind the closing
-abbrev pub runs_shut : Runs → Program → ℕ → Option ℕ → Session Position → Step Position
+abbrev pub runs_shut : Runner → Program → ℕ → Option ℕ → Session Position → Step Position
 runs_shut run p most line s = runs_unless run (refusal_of p) p most line (begun p s)
 
-abbrev pub runs : Runs → Program → ℕ → Option ℕ → Session Position → Step Position
+abbrev pub runs : Runner → Program → ℕ → Option ℕ → Session Position → Step Position
 runs run p most line s = shut_down (runs_shut run p most line) s
 
 -- CHAIN
@@ -332,7 +332,7 @@ abbrev pub reads_program : Judge → Account → List ℕ → FileAct (List ℕ 
 reads_program judge own text = reads_by judge (spec_read own text)
 
 -- the program that was read is in memory, and begins
-abbrev pub chains_to : Judge → Runs → ℕ → List ℕ × Lines → Session Position → Step Position
+abbrev pub chains_to : Judge → Runner → ℕ → List ℕ × Lines → Session Position → Step Position
 chains_to judge run most (name, lines) s =
     runs run (program_by judge lines) most s.job.destination.line (loaded name lines s)
 
@@ -343,34 +343,34 @@ unread faulted over (Halted halt) s j = Gives tt (over (Halted halt) j)
 unread faulted over Gone s j = Breaks Gone (with_job j s)
 unread faulted over (Left none) s j = absurd none
 
-abbrev pub follows_chain : Judge → Runs → (ℕ → Job Position → Step Position) → ℕ → (Break (program.Leaving Position) → Job Position → Session Position) → Session Position → Job Position → Step Position
+abbrev pub follows_chain : Judge → Runner → (ℕ → Job Position → Step Position) → ℕ → (Break (program.Leaving Position) → Job Position → Session Position) → Session Position → Job Position → Step Position
 follows_chain judge run faulted most over s j =
     at_ends (λ _. with_job j s) (λ read _. chains_to judge run most read (with_job j s)) (λ why _. unread faulted over why s j)
     (reads_program judge j.account j.destination.name)
 
 -- at a CHAIN the next program follows; every other end is outlived
-abbrev pub behind_end : Judge → Runs → (ℕ → Job Position → Step Position) → ℕ → (Break (program.Leaving Position) → Job Position → Session Position) → Session Position → Break (program.Leaving Position) → Job Position → Step Position
+abbrev pub behind_end : Judge → Runner → (ℕ → Job Position → Step Position) → ℕ → (Break (program.Leaving Position) → Job Position → Session Position) → Session Position → Break (program.Leaving Position) → Job Position → Step Position
 behind_end judge run faulted most over s (Left program.Chained) j = follows_chain judge run faulted most over s j
 behind_end judge run faulted most over s why j = outlived over s why j
 
 -- a run with this at its end
-abbrev pub run_to : (Program → Session Position → Break (program.Leaving Position) → Job Position → Step Position) → Runs
+abbrev pub run_to : (Program → Session Position → Break (program.Leaving Position) → Job Position → Step Position) → Runner
 run_to ended p s act = in_session (ended p s) s act
 
 -- At the end of a program, behind which so many more may chain: an error of its CHAIN goes on in it. Each chain takes a unit, so more than units are taken are enough.
-abbrev pub ended : Judge → ℕ → ℕ → Program → Session Position → Break (program.Leaving Position) → Job Position → Step Position
-ended judge most zero p s why j = outlived (run_is_over s) s why j
-ended judge most (suc count) p s why j =
-    behind_end judge (run_to (ended judge most count)) (λ number j. run_to (ended judge most count) p s (raises p most number j))
+abbrev pub ends_run : Judge → ℕ → ℕ → Program → Session Position → Break (program.Leaving Position) → Job Position → Step Position
+ends_run judge most zero p s why j = outlived (run_is_over s) s why j
+ends_run judge most (suc count) p s why j =
+    behind_end judge (run_to (ends_run judge most count)) (λ number j. run_to (ends_run judge most count) p s (raises p most number j))
     most (run_is_over s) s why j
 
 -- a run of a program, and of those to which it chains
-abbrev pub chains : Judge → ℕ → ℕ → Runs
-chains judge most count = run_to (ended judge most count)
+abbrev pub runs_chained : Judge → ℕ → ℕ → Runner
+runs_chained judge most count = run_to (ends_run judge most count)
 
 -- RUN
 abbrev pub runs_all : Judge → Program → ℕ → Session Position → Step Position
-runs_all judge p most s = runs (chains judge most most) p most None s
+runs_all judge p most s = runs (runs_chained judge most most) p most None s
 
 -- RUN with a name: the program is read as OLD reads it, and runs
 abbrev pub runs_loaded : Judge → ℕ → List ℕ → Option Lines → Session Position → Step Position
@@ -387,12 +387,12 @@ runs_file judge most own tail s = with_name_of own tail (reads_and_runs judge mo
 -- CONT
 abbrev pub goes_on : Judge → Program → ℕ → Option (program.Leaving Position) → Session Position → Step Position
 goes_on judge p most None s = answered cant_continue s
-goes_on judge p most (Some stop) s = chains judge most most p s (continues p most stop s.job)
+goes_on judge p most (Some stop) s = runs_chained judge most most p s (continues p most stop s.job)
 
 -- A line of immediate mode, which may be refused before it runs, and leaves a STOP as it is. An error of its CHAIN is reported.
 abbrev pub line_ended : Judge → ℕ → Session Position → Break (program.Leaving Position) → Job Position → Step Position
 line_ended judge most s why j =
-    behind_end judge (chains judge most most) (λ number j. Gives tt (reported s (Faulted number) j)) most (reported s) s why j
+    behind_end judge (runs_chained judge most most) (λ number j. Gives tt (reported s (Faulted number) j)) most (reported s) s why j
 
 abbrev pub line_unless : Judge → Option LowerRefusal → List StatementTree → ℕ → Session Position → Step Position
 line_unless judge (Some refusal) statements most s = answered (lowering_text refusal) s

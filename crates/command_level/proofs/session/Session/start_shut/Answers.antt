@@ -7,7 +7,7 @@ use Rattle.program_model.specs.InMemory.{program_of}
 use Rattle.program_model.specs.Soundness.{refusal_of}
 use Rattle.std.specs.Prelude.{Option}
 use Rattle.polish_code.specs.Lowered.{coded}
-use Rattle.session_model.specs.Talk.{begun, chains, program_by, runs_unless}
+use Rattle.session_model.specs.Talk.{begun, runs_chained, program_by, runs_unless}
 use Rattle.command_level.proofs.Chained.{run_from, run_lost, run_nothing, run_over, over_spent}
 use Rattle.command_level.proofs.Runs.{serves_refused, here_behind}
 use Rattle.command_level.proofs.session.Session.start_shut.Goals as goal
@@ -21,7 +21,7 @@ returns-in-Ok-clause-path g c count s st =
     let low = c.in_ok-begin_run.ensures s st in
     let here = here_behind c.begin_run.new.self s prog c.program.result.now.lines.entries low c.program.ensures.trees in
     let sound = sym (ap refusal_of here) ∙ c.in-Ok.ensures.0 in
-    run_from (λ most. ap (λ (o : Option LowerRefusal). runs_unless (chains judge_of most (count most)) o prog most c.args.line (begun prog s)) sound)
+    run_from (λ most. ap (λ (o : Option LowerRefusal). runs_unless (runs_chained judge_of most (count most)) o prog most c.args.line (begun prog s)) sound)
     (c.start_code.ensures.path count prog (begun prog s) low refl sound refl (c.in-Ok.ensures.1 ∙ ap coded here))
 
 pub returns-in-Err-Refused-clause-path : goal.returns-in-Err-Refused-clause-path
@@ -32,7 +32,7 @@ returns-in-Err-Refused-clause-path g c count s st =
     let here = here_behind mid s prog c.program.result.now.lines.entries low c.program.ensures.trees in
     let refused = subst (λ (e : Trouble LowerRefusal). Lowers (program_of c.program.result.now.lines.entries) (Err e)) c.in-Err-Refused.field-0-is c.in-Err-Refused.ensures in
     run_over count c.refuse.new.self c.refuse.result c.none_ran.result c.none_ran.ensures
-    (serves_refused prog (λ most. chains judge_of most (count most)) c.args.line s mid c.refuse.new.self c.in-Err-Refused.refusal c.refuse.result low (sym (ap refusal_of here) ∙ refused) c.refuse.ensures)
+    (serves_refused prog (λ most. runs_chained judge_of most (count most)) c.args.line s mid c.refuse.new.self c.in-Err-Refused.refusal c.refuse.result low (sym (ap refusal_of here) ∙ refused) c.refuse.ensures)
 
 pub returns-in-Err-NoMemory-clause-path : goal.returns-in-Err-NoMemory-clause-path
 returns-in-Err-NoMemory-clause-path g c count s st = run_nothing _
