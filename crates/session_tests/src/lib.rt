@@ -8,7 +8,7 @@ mod catalogs;
 #[cfg(test)]
 mod chains;
 #[cfg(test)]
-mod channels;
+mod channel_talks;
 #[cfg(test)]
 mod files;
 #[cfg(test)]
