@@ -235,7 +235,7 @@ fn place_of(memory: &Memory, letter: u8) -> Told {
 
 fn own_length(memory: &Memory, letter: u8) -> Told {
     match memory.own_length(text_name(letter)) {
-        Some(length) => Told::Is(length as i16),
+        Some(length) => i16::try_from(length).map_or(Told::Other, Told::Is),
         None => Told::Empty,
     }
 }
