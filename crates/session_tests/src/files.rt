@@ -202,7 +202,7 @@ static RUN: Talk = (
         Answer::Block("STOP\n"),
         Answer::Done,
         Answer::Opened(1),
-        Answer::Block("10 CHAIN 'A'\n"),
+        Answer::Block("10 MAT A%=ZER\n"),
         Answer::Done,
         Answer::Opened(1),
         Answer::Block("10 GOTO 20\n"),
