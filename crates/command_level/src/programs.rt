@@ -127,7 +127,14 @@ impl Session {
         if !can_begin(alloc, self.text.program(), line)? {
             return none_ran(self.refuse(no_line(line)));
         }
-        ran_to(run_program(self.text.program(), code, line, &mut self.running, clock, port))
+        ran_to(run_program(
+            self.text.program(),
+            code,
+            line,
+            &mut self.running,
+            clock,
+            port,
+        ))
     }
 
     /// What a program finds that begins.

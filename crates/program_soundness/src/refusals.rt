@@ -164,11 +164,7 @@ fn has_line(program: &Program, number: u16) -> bool
 
 /// Whether a program can begin at a line, where one is wanted: it is there, and stands for a
 /// statement at main level.
-pub fn can_begin(
-    alloc: Global,
-    program: &Program,
-    line: Option<u16>,
-) -> Result<bool, NoMemory>
+pub fn can_begin(alloc: Global, program: &Program, line: Option<u16>) -> Result<bool, NoMemory>
     ensures { IfOk result (λ can. can
         ≡ can_begin (program_of program.now.lines.entries) line) }
 {
