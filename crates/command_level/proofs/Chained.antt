@@ -1,16 +1,19 @@
 -- Where runs have come, and what is done behind chains.
-use Rattle.std.proofs.Common.{◌≡◌, ℕ, zero, suc, ◌+◌, ◌-◌, ◌<◌, ◌≤◌, List, [], Bool, true, false, Option, Some, None, Result, Ok, Err, refl, sym, ap, subst, ◌∙◌, arith, append-nil}
+use Rattle.std.proofs.Common.{◌≡◌, ℕ, zero, suc, ◌+◌, ◌-◌, ◌<◌, ◌≤◌, List, [], true, false, Option, Some, None, Result, Ok, Err, refl, sym, ap, subst, ◌∙◌, arith, append-nil}
 use Rattle.std.specs.Prelude.{IfOk, OnErr}
 use Rattle.std.specs.Option.{option_map}
 use Rattle.std.specs.Result.{IsErrAnd}
 use Rattle.basic_values.specs.declared.failures.NoMemory.{NoMemory}
+use Rattle.basic_values.specs.declared.failures.Stop.{Stop}
+use Rattle.basic_values.specs.declared.failures.Stop.TheVariants as stop
 use Rattle.basic_values.specs.declared.failures.Trouble.{Trouble}
 use Rattle.basic_values.specs.declared.failures.Trouble.TheVariants as trouble
 use Rattle.grammar_machine.specs.MachineJudge.{judge_of}
+use Rattle.monitor_calls.specs.declared.names.Account.{Account}
 use Rattle.monitor_calls.specs.Pairs.{Pair, Grew}
 use Rattle.job_model.specs.Act.{Act, Gives, Breaks, Break, Faulted, Halted, Gone, Left, break_over}
 use Rattle.job_model.specs.Play.{Clock}
-use Rattle.job_model.specs.Follow.{here, Reaches, Follows}
+use Rattle.job_model.specs.Follow.{here, Reaches, Follows, answered_by}
 use Rattle.job_model.specs.Ends.{at_ends}
 use Rattle.job_model.proofs.Ends.{reaches_ends}
 use Rattle.basic_tree.specs.ProgramLines.{Lines}
@@ -26,6 +29,7 @@ use Rattle.basic_eval.specs.declared.exits.Exit.{Exit}
 use Rattle.basic_eval.specs.declared.exits.Exit.TheVariants as exit
 use Rattle.basic_eval.specs.Acting as acting
 use Rattle.basic_eval.specs.Acting.{break_of}
+use Rattle.basic_eval.specs.Keeping.{exit_at}
 use Rattle.basic_interpreter.specs.Meaning.{Came, went, left_a_body, no_memory, Means}
 use Rattle.basic_interpreter.specs.Units.{units_left, SpendsAtChain}
 use Rattle.session_model.specs.Serving.{FollowsSession}
@@ -37,8 +41,8 @@ use Rattle.command_level.specs.declared.chains.Reached.{Reached}
 use Rattle.command_level.specs.declared.chains.Reached.TheVariants as reached
 use Rattle.command_level.specs.AfterLines.{goes}
 use Rattle.command_level.specs.Seen.{seen}
-use Rattle.command_level.specs.Standing.{low_session, StopFits, LeftBy, Serves, run_ends, line_ends}
-use Rattle.command_level.specs.Chaining.{IsReached, IsOver, is_chain, RanIn, AtEnd, LeftRun, ServesRun, Spent}
+use Rattle.command_level.specs.Standing.{low_session, StopFits, Serves, run_ends, line_ends}
+use Rattle.command_level.specs.Chaining.{IsReached, IsOver, is_chain, RanIn, LeftRun, ServesRun, Spent}
 use Rattle.command_level.proofs.Ends.{ok_map}
 use Rattle.command_level.proofs.Lows.{lows, end_low, line_low, end_fits, line_fits}
 use Rattle.command_level.proofs.Serving.{serves_same}
@@ -63,6 +67,15 @@ not_chained p b why way nay is = by_way why (ap (break_over (low_leaving p)) (sy
     by_way exit.Ended e nay = cc
     by_way (exit.Stopped spot) e nay = cc
     by_way (exit.StoppedInside home) e nay = cc
+
+pub not_the_chain : (why : Exit) → (why ≡ exit.Chained → ⊥) → is_chain (reached.End why) ≡ false
+not_the_chain exit.Chained nay = absurd (nay refl)
+not_the_chain (exit.Fault fault) nay = refl
+not_the_chain (exit.Halt halt) nay = refl
+not_the_chain exit.Gone nay = refl
+not_the_chain exit.Ended nay = refl
+not_the_chain (exit.Stopped spot) nay = refl
+not_the_chain (exit.StoppedInside home) nay = refl
 
 outlived_there : (most count : ℕ) (p : Program) (s : talk.Session Position) (b : Break (program.Leaving Position)) (j : Job Position) → (b ≡ Left program.Chained → ⊥) → ends_run judge_of most count p s b j ≡ outlived (run_is_over s) s b j
 outlived_there most zero p s b j nay = refl
@@ -161,6 +174,31 @@ over_spent c d (Err e) (Err f) is = tt
 over_spent c d (Ok onward) (Err f) is = absurd is
 over_spent c d (Err e) (Ok at) is = absurd is
 
+-- A run has come there behind so many chains.
+pub record Comes {P W : Type 0} (who : P → W) (log : P → List Pair) (old new : P) (c d : Clock) (step : ℕ → Step Position) (session : Session) (at : Reached) : Type 0 where
+  pub turns : ℕ
+  pub run : ServesRun who log old new c d (λ most. most - turns) step session (Ok at)
+
+-- one chain
+abbrev pub ChainServes : {P W : Type 0} → (P → W) → (P → List Pair) → P → P → Clock → Clock → Session → Session → Result Reached NoMemory → Type 0
+ChainServes who log old new c d before behind result = (count : ℕ → ℕ) (p : Program) (s : talk.Session Position) (j : Job Position) → RanIn before p s j
+    → ServesRun who log old new c d count (λ most. ends_run judge_of most (suc (count most)) p s (Left program.Chained) j) behind result
+
+-- A line of immediate mode has come to this end.
+pub record LineAt {P W : Type 0} (who : P → W) (log : P → List Pair) (old new : P) (c d : Clock) (line p : Program) (s : talk.Session Position) (meaning : ℕ → Doing Coming) (session : Session) (why : Exit) : Type 0 where
+  pub b : Break (program.Leaving Position)
+  pub j : Job Position
+  pub low : low_session p (with_job j s) ≡ seen session
+  pub way : break_over (low_leaving line) b ≡ break_of why
+  pub follows : FollowsSession who log old new c d (λ most. in_session (line_ended judge_of most s) s (meaning most)) (Some (λ most. line_ended judge_of most s b j))
+
+abbrev step_or : Step Spot → Option (Step Spot) → Step Spot
+step_or t (Some m) = m
+step_or t None = t
+
+same_step : (m t : Step Spot) → Some m ≡ Some t → m ≡ t
+same_step m t e = ap (step_or t) e
+
 -- WHERE A RUN HAS COME
 
 module _ {P W : Type 0} {who : P → W} {log : P → List Pair} where
@@ -188,7 +226,9 @@ module _ {P W : Type 0} {who : P → W} {log : P → List Pair} where
       → ((most : ℕ) (j : Job Position) → E most Gone j ≡ Breaks Gone (with_job j s)) → Grew who log p q pairs → ((most : ℕ) → bound ≤ most → Reaches c (meaning most) pairs d left)
       → FollowsSession who log p q c d (λ most. in_session (E most) s (meaning most)) (option_map (λ (m : Doing Coming) most. in_session (E most) s m) left)
   in_session_follows {p} {q} {c} {d} E s meaning left pairs bound dies grew reaches = record {
-    pairs = pairs; grew = grew; bound = bound;
+    pairs = pairs;
+    grew = grew;
+    bound = bound;
     reaches = λ most le. by_left left most (reaches_ends (λ j. with_job j s) (λ value j. E most (Left program.Ended) j) (E most) (dies most) c d (meaning most) pairs left (reaches most le));
   }
     where
@@ -206,9 +246,6 @@ module _ {P W : Type 0} {who : P → W} {log : P → List Pair} where
   run_reached {p} {q} {c} {d} count prog s meaning session end result ok memory rest same sound fits means =
       by_end end result means.left means.came ok memory (in_session_follows (λ most. ends_run judge_of most (count most) prog s) s meaning means.left means.pairs means.bound (λ most j. ended_dies most (count most) prog s j) means.grew means.reaches)
     where
-      abbrev To : Option (Doing Coming) → Type 0
-      To left = FollowsSession who log p q c d (λ most. runs_chained judge_of most (count most) prog s (meaning most)) (option_map (λ (m : Doing Coming) most. runs_chained judge_of most (count most) prog s m) left)
-
       ran : (j : Job Position) → lowered prog j ≡ acting.seen session.running → RanIn session prog s j
       ran j low = record { low = ap (λ (k : Job Spot). with_job k (low_session prog s)) low ∙ sym rest; here = same; sound = sound; fits = fits }
 
@@ -220,7 +257,7 @@ module _ {P W : Type 0} {who : P → W} {log : P → List Pair} where
           (record { left = Some (λ most. ends_run judge_of most (count most) prog s b j); leaves = (prog, s, b, j, record { ran = ran; way = way }, refl); follows = f })
 
       by_end : (end : Result (Unit {0}) (Trouble Exit)) (result : Result Reached NoMemory) (left : Option (Doing Coming)) → Came (low_leaving prog) (lowered prog) end (acting.seen session.running) left
-          → IfOk result (IsReached end) → OnErr result (end ≡ Err trouble.NoMemory) → To left → ServesRun who log p q c d count (λ most. runs_chained judge_of most (count most) prog s (meaning most)) session result
+          → IfOk result (IsReached end) → OnErr result (end ≡ Err trouble.NoMemory) → FollowsSession who log p q c d (λ most. runs_chained judge_of most (count most) prog s (meaning most)) (option_map (λ (m : Doing Coming) most. runs_chained judge_of most (count most) prog s m) left) → ServesRun who log p q c d count (λ most. runs_chained judge_of most (count most) prog s (meaning most)) session result
       by_end end (Ok at) left (went {why = b} {j = j} {exit = reason} way low) ok memory f = to at reason b j ok (ran j low) way f
       by_end end (Ok at) left (left_a_body {coming = coming} {j = j} low) ok memory f = to at exit.Ended (Left program.Ended) j ok (ran j low) refl f
       by_end end (Ok at) left no_memory ok memory f = absurd ok
@@ -242,15 +279,14 @@ module _ {P W : Type 0} {who : P → W} {log : P → List Pair} where
       → FollowsSession who log p q c d (λ most. follows_chain judge_of (run most) (faulted most) most over s j)
       (option_map (λ (t : Act ⊥ Unit (List ℕ × Lines)) most. at_ends (λ _. with_job j s) (λ read _. chains_to judge_of (run most) most read (with_job j s)) (λ why _. unread (faulted most) over why s j) t) left)
   chain_follows {p} {q} {c} {d} run faulted over s j left f = record {
-    pairs = f.pairs; grew = f.grew; bound = 0;
+    pairs = f.pairs;
+    grew = f.grew;
+    bound = 0;
     reaches = λ most le. by_left left most (reaches_ends (λ (_ : Unit {0}). with_job j s) (λ read _. chains_to judge_of (run most) most read (with_job j s)) (λ why _. unread (faulted most) over why s j) (λ _. refl) c d (reads_program judge_of j.account j.destination.name) f.pairs left f.reaches);
   }
     where
-      abbrev after : ℕ → Act ⊥ Unit (List ℕ × Lines) → Step Position
-      after most t = at_ends (λ _. with_job j s) (λ read _. chains_to judge_of (run most) most read (with_job j s)) (λ why _. unread (faulted most) over why s j) t
-
-      by_left : (left : Option (Act ⊥ Unit (List ℕ × Lines))) (most : ℕ) → Reaches c (follows_chain judge_of (run most) (faulted most) most over s j) f.pairs d (option_map (after most) left)
-          → Reaches c (follows_chain judge_of (run most) (faulted most) most over s j) f.pairs d (option_map (λ (t : ℕ → Step Position). t most) (option_map (λ t most. after most t) left))
+      by_left : (left : Option (Act ⊥ Unit (List ℕ × Lines))) (most : ℕ) → Reaches c (follows_chain judge_of (run most) (faulted most) most over s j) f.pairs d (option_map (λ (t : Act ⊥ Unit (List ℕ × Lines)). at_ends (λ (_ : Unit {0}). with_job j s) (λ read _. chains_to judge_of (run most) most read (with_job j s)) (λ why _. unread (faulted most) over why s j) t) left)
+          → Reaches c (follows_chain judge_of (run most) (faulted most) most over s j) f.pairs d (option_map (λ (t : ℕ → Step Position). t most) (option_map (λ (t : Act ⊥ Unit (List ℕ × Lines)) most. at_ends (λ (_ : Unit {0}). with_job j s) (λ read _. chains_to judge_of (run most) most read (with_job j s)) (λ why _. unread (faulted most) over why s j) t) left))
       by_left (Some t) most r = r
       by_left None most r = r
 
@@ -263,17 +299,7 @@ module _ {P W : Type 0} {who : P → W} {log : P → List Pair} where
 
   -- THE LOOP
 
-  -- A run has come there behind so many chains.
-  pub record Comes (old new : P) (c d : Clock) (step : ℕ → Step Position) (session : Session) (at : Reached) : Type 0 where
-    pub turns : ℕ
-    pub run : ServesRun who log old new c d (λ most. most - turns) step session (Ok at)
-
-  -- one chain
-  abbrev pub Chains : P → P → Clock → Clock → Session → Session → Result Reached NoMemory → Type 0
-  Chains old new c d before behind result = (count : ℕ → ℕ) (p : Program) (s : talk.Session Position) (j : Job Position) → RanIn before p s j
-      → ServesRun who log old new c d count (λ most. ends_run judge_of most (suc (count most)) p s (Left program.Chained) j) behind result
-
-  pub comes_first : {p : P} {c : Clock} (session : Session) (at : Reached) (left : ℕ → Step Position) → LeftRun (λ most. most) session (Ok at) (Some left) → Comes p p c c left session at
+  pub comes_first : {p : P} {c : Clock} (session : Session) (at : Reached) (left : ℕ → Step Position) → LeftRun (λ most. most) session (Ok at) (Some left) → Comes who log p p c c left session at
   comes_first {p} {c} session at left h = record {
     turns = 0;
     run = record {
@@ -289,12 +315,14 @@ module _ {P W : Type 0} {who : P → W} {log : P → List Pair} where
   -- the same with bounds above one
   above : {p q : P} {c d : Clock} {step step' : ℕ → Step Position} {left : Option (ℕ → Step Position)} (n : ℕ) → ((most : ℕ) → n ≤ most → step most ≡ step' most) → FollowsSession who log p q c d step' left → FollowsSession who log p q c d step left
   above {p} {q} {c} {d} {step} {step'} {left} n same f = record {
-    pairs = f.pairs; grew = f.grew; bound = f.bound + n;
+    pairs = f.pairs;
+    grew = f.grew;
+    bound = f.bound + n;
     reaches = λ most le. subst (λ (m : Step Position). Reaches c m f.pairs d (option_map (λ (left : ℕ → Step Position). left most) left)) (sym (same most (omega (arith, le)))) (f.reaches most (omega (arith, le)));
   }
 
   -- behind one more
-  comes_run : {p q r : P} {c d e : Clock} {step : ℕ → Step Position} (old new : Session) (at : Reached) (result : Result Reached NoMemory) → is_chain at ≡ true → (f : Comes p q c d step old at) → Chains q r d e old new result
+  comes_run : {p q r : P} {c d e : Clock} {step : ℕ → Step Position} (old new : Session) (at : Reached) (result : Result Reached NoMemory) → is_chain at ≡ true → (f : Comes who log p q c d step old at) → ChainServes who log q r d e old new result
       → ServesRun who log p r c e (λ most. most - suc f.turns) step new result
   comes_run {p} {q} {r} {c} {d} {e} {step} old new at result is f chain = go (subst (λ (at : Reached). ServesRun who log p q c d (λ most. most - f.turns) step old (Ok at)) (is_chained at is) f.run)
     where
@@ -307,20 +335,21 @@ module _ {P W : Type 0} {who : P → W} {log : P → List Pair} where
           let g = chain (λ most. most - suc f.turns) l.0 l.1 l.3 l.4.ran in
           let first = subst (λ (left : Option (ℕ → Step Position)). FollowsSession who log p q c d step left) l.5 run.follows in
           record {
-            left = g.left; leaves = g.leaves;
+            left = g.left;
+            leaves = g.leaves;
             follows = session_on first (above (suc f.turns) (λ most le. ap (λ (n : ℕ). ends_run judge_of most n l.0 l.1 l.2 l.3) (one_less most le) ∙ ap (λ (b : Break (program.Leaving Position)). ends_run judge_of most (suc (most - suc f.turns)) l.0 l.1 b l.3) (chain_way l.0 l.2 l.4.way)) g.follows);
           }
 
-  pub comes_on : {p q r : P} {c d e : Clock} {step : ℕ → Step Position} (old new : Session) (at on : Reached) → is_chain at ≡ true → Comes p q c d step old at → Chains q r d e old new (Ok on) → Comes p r c e step new on
+  pub comes_on : {p q r : P} {c d e : Clock} {step : ℕ → Step Position} (old new : Session) (at on : Reached) → is_chain at ≡ true → Comes who log p q c d step old at → ChainServes who log q r d e old new (Ok on) → Comes who log p r c e step new on
   comes_on old new at on is f chain = record { turns = suc f.turns; run = comes_run old new at (Ok on) is f chain }
 
   -- memory ran out behind one
-  pub comes_lost : {p q r : P} {c d e : Clock} {step : ℕ → Step Position} (old new session : Session) (at : Reached) (none : NoMemory) (result : Result AfterLine NoMemory) (IsIt : NoMemory → Type 0) → IsErrAnd result IsIt → is_chain at ≡ true → Comes p q c d step old at → Chains q r d e old new (Err none) → Serves who log p r c e step session result
+  pub comes_lost : {p q r : P} {c d e : Clock} {step : ℕ → Step Position} (old new session : Session) (at : Reached) (none : NoMemory) (result : Result AfterLine NoMemory) (IsIt : NoMemory → Type 0) → IsErrAnd result IsIt → is_chain at ≡ true → Comes who log p q c d step old at → ChainServes who log q r d e old new (Err none) → Serves who log p r c e step session result
   comes_lost old new session at none (Ok on) IsIt was is f chain = absurd was
   comes_lost old new session at none (Err other) IsIt was is f chain = let g = comes_run old new at (Err none) is f chain in record { left = g.left; leaves = g.leaves; follows = g.follows }
 
   -- the last one
-  pub comes_end : {p q : P} {c d : Clock} {step : ℕ → Step Position} (old new : Session) (at : Reached) (why : Exit) (result : Result AfterLine NoMemory) → at ≡ reached.End why → is_chain at ≡ false → Comes p q c d step old at
+  pub comes_end : {p q : P} {c d : Clock} {step : ℕ → Step Position} (old new : Session) (at : Reached) (why : Exit) (result : Result AfterLine NoMemory) → at ≡ reached.End why → is_chain at ≡ false → Comes who log p q c d step old at
       → IfOk result (λ on. outlived (run_is_over (seen old)) (seen old) (break_of why) (seen old).job ≡ goes on (seen new)) → Serves who log p q c d step new result
   comes_end {p} {q} {c} {d} {step} old new at why result is nay f told = go (subst (λ (at : Reached). ServesRun who log p q c d (λ most. most - f.turns) step old (Ok at)) is f.run)
     where
@@ -336,7 +365,7 @@ module _ {P W : Type 0} {who : P → W} {log : P → List Pair} where
           let first = subst (λ (left : Option (ℕ → Step Position)). FollowsSession who log p q c d step left) (l.5 ∙ ap Some (λ i most. outlived_there most (most - f.turns) prog s b j alone i)) run.follows in
           serves_behind first (serves_same prog new result (outlived (run_is_over s) s b j) (ok_map result (λ on same. told_low old why prog s b j ran.low l.4.way ∙ same) told) (end_fits prog s b j ran.here ran.sound ran.fits))
 
-  pub comes_over : {p q : P} {c d : Clock} {step : ℕ → Step Position} (old : Session) (at : Reached) (onward : AfterLine) → at ≡ reached.Over onward → Comes p q c d step old at → Serves who log p q c d step old (Ok onward)
+  pub comes_over : {p q : P} {c d : Clock} {step : ℕ → Step Position} (old : Session) (at : Reached) (onward : AfterLine) → at ≡ reached.Over onward → Comes who log p q c d step old at → Serves who log p q c d step old (Ok onward)
   comes_over {p} {q} {c} {d} {step} old at onward is f = go (subst (λ (at : Reached). ServesRun who log p q c d (λ most. most - f.turns) step old (Ok at)) is f.run)
     where
       go : ServesRun who log p q c d (λ most. most - f.turns) step old (Ok (reached.Over onward)) → Serves who log p q c d step old (Ok onward)
@@ -368,14 +397,6 @@ module _ {P W : Type 0} {who : P → W} {log : P → List Pair} where
 
   -- LINES OF IMMEDIATE MODE
 
-  -- A line has come to this end.
-  pub record LineAt (old new : P) (c d : Clock) (line p : Program) (s : talk.Session Position) (meaning : ℕ → Doing Coming) (session : Session) (why : Exit) : Type 0 where
-    pub b : Break (program.Leaving Position)
-    pub j : Job Position
-    pub low : low_session p (with_job j s) ≡ seen session
-    pub way : break_over (low_leaving line) b ≡ break_of why
-    pub follows : FollowsSession who log old new c d (λ most. in_session (line_ended judge_of most s) s (meaning most)) (Some (λ most. line_ended judge_of most s b j))
-
   line_follows : {p q : P} {c d : Clock} (s : talk.Session Position) (meaning : ℕ → Doing Coming) (left : Option (Doing Coming)) (pairs : List Pair) (bound : ℕ) → Grew who log p q pairs → ((most : ℕ) → bound ≤ most → Reaches c (meaning most) pairs d left)
       → FollowsSession who log p q c d (λ most. in_session (line_ended judge_of most s) s (meaning most)) (option_map (λ (m : Doing Coming) most. in_session (line_ended judge_of most s) s m) left)
   line_follows s meaning left pairs bound grew reaches = in_session_follows (λ most. line_ended judge_of most s) s meaning left pairs bound (λ most j. refl) grew reaches
@@ -383,7 +404,7 @@ module _ {P W : Type 0} {who : P → W} {log : P → List Pair} where
   pub line_at : {p q : P} {c d : Clock} (line prog : Program) (s : talk.Session Position) (meaning : ℕ → Doing Coming) (session : Session) (end : Result (Unit {0}) (Trouble Exit)) (why : Exit) → IsReached end (reached.End why)
       → seen session ≡ with_job (acting.seen session.running) (low_session prog s)
       → Means who log p q c d (low_leaving line) (lowered prog) meaning (acting.seen session.running) end
-      → LineAt p q c d line prog s meaning session why
+      → LineAt who log p q c d line prog s meaning session why
   line_at {p} {q} {c} {d} line prog s meaning session end why is rest means = by_end end means.left means.came is (line_follows s meaning means.left means.pairs means.bound means.grew means.reaches)
     where
       low_at : (j : Job Position) → lowered prog j ≡ acting.seen session.running → low_session prog (with_job j s) ≡ seen session
@@ -394,7 +415,7 @@ module _ {P W : Type 0} {who : P → W} {log : P → List Pair} where
       exit_in w (reached.Over onward) = w
 
       by_end : (end : Result (Unit {0}) (Trouble Exit)) (left : Option (Doing Coming)) → Came (low_leaving line) (lowered prog) end (acting.seen session.running) left → IsReached end (reached.End why)
-          → FollowsSession who log p q c d (λ most. in_session (line_ended judge_of most s) s (meaning most)) (option_map (λ (m : Doing Coming) most. in_session (line_ended judge_of most s) s m) left) → LineAt p q c d line prog s meaning session why
+          → FollowsSession who log p q c d (λ most. in_session (line_ended judge_of most s) s (meaning most)) (option_map (λ (m : Doing Coming) most. in_session (line_ended judge_of most s) s m) left) → LineAt who log p q c d line prog s meaning session why
       by_end end left (went {why = b} {j = j} {exit = reason} way low) is f = record { b = b; j = j; low = low_at j low; way = way ∙ ap break_of (sym (ap (exit_in why) is)); follows = f }
       by_end end left (left_a_body {coming = coming} {j = j} low) is f = record { b = Left program.Ended; j = j; low = low_at j low; way = ap break_of (sym (ap (exit_in why) is)); follows = f }
       by_end end left no_memory is f = absurd is
@@ -402,7 +423,7 @@ module _ {P W : Type 0} {who : P → W} {log : P → List Pair} where
   -- an end that is no chain is told
   pub line_over : {p q : P} {c d : Clock} (line prog : Program) (s : talk.Session Position) (meaning : ℕ → Doing Coming) (old new : Session) (why : Exit) (result : Result AfterLine NoMemory) → is_chain (reached.End why) ≡ false → StopFits prog s
       → IfOk result (λ on. outlived (reported (seen old)) (seen old) (break_of why) (seen old).job ≡ goes on (seen new))
-      → LineAt p q c d line prog s meaning old why → Serves who log p q c d (λ most. in_session (line_ended judge_of most s) s (meaning most)) new result
+      → LineAt who log p q c d line prog s meaning old why → Serves who log p q c d (λ most. in_session (line_ended judge_of most s) s (meaning most)) new result
   line_over {p} {q} {c} {d} line prog s meaning old new why result nay fits told f =
       let alone = not_chained line f.b why f.way nay in
       let first = subst (λ (left : Option (ℕ → Step Position)). FollowsSession who log p q c d (λ most. in_session (line_ended judge_of most s) s (meaning most)) left) (ap Some (λ i most. outlived_line most s f.b f.j alone i)) f.follows in
@@ -411,7 +432,7 @@ module _ {P W : Type 0} {who : P → W} {log : P → List Pair} where
   -- a chain goes on
   pub line_chains : {p q r : P} {c d e : Clock} (line prog : Program) (s : talk.Session Position) (meaning : ℕ → Doing Coming) (old new : Session) (why : Exit) (result : Result AfterLine NoMemory) → why ≡ exit.Chained
       → ((j : Job Position) → low_session prog (with_job j s) ≡ seen old → Serves who log q r d e (λ most. line_ended judge_of most s (Left program.Chained) j) new result)
-      → LineAt p q c d line prog s meaning old why → Serves who log p r c e (λ most. in_session (line_ended judge_of most s) s (meaning most)) new result
+      → LineAt who log p q c d line prog s meaning old why → Serves who log p r c e (λ most. in_session (line_ended judge_of most s) s (meaning most)) new result
   line_chains {p} {q} {r} {c} {d} {e} line prog s meaning old new why result is chains f =
       let first = subst (λ (b : Break (program.Leaving Position)). FollowsSession who log p q c d (λ most. in_session (line_ended judge_of most s) s (meaning most)) (Some (λ most. line_ended judge_of most s b f.j))) (chain_way line f.b (f.way ∙ ap break_of is)) f.follows in
       serves_behind first (chains f.j f.low)
@@ -432,3 +453,55 @@ module _ {P W : Type 0} {who : P → W} {log : P → List Pair} where
           no_body : ◌≡◌ {A = Result (Unit {0}) (Trouble Exit)} (Ok tt) (Err trouble.NoMemory) → ⊥
           no_body h = cc
       by_end end left no_memory is f = record { left = None; leaves = refl; follows = f }
+
+  -- WHERE NO PROGRAM WAS READ
+
+  -- memory ran out there
+  unread_lost : {p q : P} {c : Clock} {step : ℕ → Step Position} (new : Session) (done : Result AfterLine NoMemory) → FollowsSession who log p q c c step None → IfOk done (λ on. None ≡ Some (goes on (seen new))) → Serves who log p q c c step new done
+  unread_lost new (Ok on) f told = absurd (no_step told)
+    where
+      no_step : {t : Step Spot} → None ≡ Some t → ⊥
+      no_step e = cc
+  unread_lost new (Err e) f told = record { left = None; leaves = refl; follows = f }
+
+  -- a program has no error of its own there
+  pub chain_broke : {p q : P} {c : Clock} (run : ℕ → Runner) (faulted : ℕ → ℕ → Job Position → Step Position) (old new : Session) (prog : Program) (s : talk.Session Position) (j : Job Position) (e : Stop) (done : Result AfterLine NoMemory) → RanIn old prog s j → ((fault : ℕ) → e ≡ stop.Fault fault → ⊥)
+      → Follows who log p q c c (reads_program judge_of j.account j.destination.name) (answered_by (Err e) tt) → IfOk done (λ on. run_ends (exit_at e) (seen old) ≡ Some (goes on (seen new)))
+      → Serves who log p q c c (λ most. follows_chain judge_of (run most) (faulted most) most (run_is_over s) s j) new done
+  chain_broke run faulted old new prog s j (stop.Fault fault) done ran nay f told = absurd (nay fault refl)
+  chain_broke run faulted old new prog s j (stop.Halt halt) done ran nay f told =
+      serves_behind (chain_follows run faulted (run_is_over s) s j (Some (Breaks (Halted halt) tt)) f)
+      (serves_same prog new done (outlived (run_is_over s) s (Halted halt) j) (ok_map done (λ on e. told_low old (exit.Halt halt) prog s (Halted halt) j ran.low refl ∙ same_step _ _ e) told) (end_fits prog s (Halted halt) j ran.here ran.sound ran.fits))
+  chain_broke run faulted old new prog s j stop.Expired done ran nay f told =
+      serves_behind (chain_follows run faulted (run_is_over s) s j (Some (Breaks Gone tt)) f)
+      (serves_same prog new done (outlived (run_is_over s) s Gone j) (ok_map done (λ on e. told_low old exit.Gone prog s Gone j ran.low refl ∙ same_step _ _ e) told) (end_fits prog s Gone j ran.here ran.sound ran.fits))
+  chain_broke run faulted old new prog s j stop.NoMemory done ran nay f told = unread_lost new done (chain_follows run faulted (run_is_over s) s j None f) told
+
+  -- a line reports it
+  pub line_broke : {p q : P} {c : Clock} (old new : Session) (prog : Program) (s : talk.Session Position) (j : Job Position) (e : Stop) (done : Result AfterLine NoMemory) → low_session prog (with_job j s) ≡ seen old → StopFits prog s
+      → Follows who log p q c c (reads_program judge_of j.account j.destination.name) (answered_by (Err e) tt) → IfOk done (λ on. line_ends (exit_at e) (seen old) ≡ Some (goes on (seen new)))
+      → Serves who log p q c c (λ most. line_ended judge_of most s (Left program.Chained) j) new done
+  line_broke {p} {q} {c} old new prog s j e done low fits f told = by_stop e f told
+    where
+      run : ℕ → Runner
+      run most = runs_chained judge_of most most
+
+      faulted : ℕ → ℕ → Job Position → Step Position
+      faulted most number j = Gives tt (reported s (Faulted number) j)
+
+      shown : (why : Exit) (b : Break (program.Leaving Position)) → break_over (low_leaving prog) b ≡ break_of why → IfOk done (λ on. Some (outlived (reported (seen old)) (seen old) (break_of why) (seen old).job) ≡ Some (goes on (seen new)))
+          → Serves who log q q c c (λ most. outlived (reported s) s b j) new done
+      shown why b way told = serves_same prog new done (outlived (reported s) s b j) (ok_map done (λ on e. told_line old why prog prog s b j low way ∙ same_step _ _ e) told) (line_fits prog s b j fits)
+
+      by_stop : (e : Stop) → Follows who log p q c c (reads_program judge_of j.account j.destination.name) (answered_by (Err e) tt) → IfOk done (λ on. line_ends (exit_at e) (seen old) ≡ Some (goes on (seen new))) → Serves who log p q c c (λ most. line_ended judge_of most s (Left program.Chained) j) new done
+      by_stop (stop.Fault fault) f told = serves_behind (chain_follows run faulted (reported s) s j (Some (Breaks (Faulted fault) tt)) f) (shown (exit.Fault fault) (Faulted fault) refl told)
+      by_stop (stop.Halt halt) f told = serves_behind (chain_follows run faulted (reported s) s j (Some (Breaks (Halted halt) tt)) f) (shown (exit.Halt halt) (Halted halt) refl told)
+      by_stop stop.Expired f told = serves_behind (chain_follows run faulted (reported s) s j (Some (Breaks Gone tt)) f) (shown exit.Gone Gone refl told)
+      by_stop stop.NoMemory f told = unread_lost new done (chain_follows run faulted (reported s) s j None f) told
+
+-- the program that the code names is the one that the session names
+pub named_there : (self : Session) (p : Program) (s : talk.Session Position) (j : Job Position) (own : Account) (bytes : List ℕ) → low_session p (with_job j s) ≡ seen self → own ≡ self.running.storage.account → bytes ≡ self.running.destination.name → reads_program judge_of j.account j.destination.name ≡ reads_program judge_of own bytes
+named_there self p s j own bytes low account name =
+    ap (λ (u : talk.Session Spot). reads_program judge_of u.job.account u.job.destination.name) low
+    ∙ ap (λ (account : Account). reads_program judge_of account self.running.destination.name) (sym account)
+    ∙ ap (reads_program judge_of own) (sym name)

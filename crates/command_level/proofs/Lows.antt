@@ -1,8 +1,6 @@
 -- A session with the places of a program's code does the same, where it runs no program; and so it does at the end of one.
-use Rattle.std.proofs.Common.{◌≡◌, ℕ, List, [], ◌∷◌, ◌++◌, Option, Some, None, Result, Ok, Err, refl, sym, ap, ◌∙◌, Bool, true, false}
+use Rattle.std.proofs.Common.{◌≡◌, ℕ, List, [], ◌∷◌, ◌++◌, Option, Some, None, Result, Ok, Err, refl, sym, ap, Bool, true, false}
 use Rattle.std.specs.Prelude.{if◌then◌else◌}
-use Rattle.std.specs.Option.{option_map}
-use Rattle.basic_values.specs.declared.failures.Trouble.{Trouble}
 use Rattle.grammar_machine.specs.MachineJudge.{judge_of}
 use Rattle.basic_tree.specs.Trees.{StatementTree}
 use Rattle.error_trap.specs.Trapping.{untouched}
@@ -37,7 +35,6 @@ use Rattle.session_model.specs.ProgramFiles.{spec_read, spec_or_own, is_blank_te
 use Rattle.session_model.specs.Talk.{Session, Step, SessionEnd, with_job, says, with_lines, named, no_name, answered, entered, hello, leave, log_out, emptied, begins_new, renames, headed, lists, deletes, takes_edit, broken_off, tried, with_storage, shut_down, by_name, loaded, loads, reads_old, old, saves_as, saves, kills_file, unsaves, with_screen, catalogs_of, catalogs, rests, visitor_acts, program_by, reported, run_is_over}
 use Rattle.session_model.specs.Talk as talk
 use Rattle.basic_tree.specs.ProgramLines.{Lines}
-use Rattle.session_model.specs.Texts.{illegal_file_name}
 use Rattle.session_model.proofs.Ends.{Ends}
 use Rattle.command_level.specs.Standing.{is_gone, low_session, StopFits}
 

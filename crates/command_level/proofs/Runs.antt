@@ -27,7 +27,6 @@ use Rattle.program_model.specs.Running.{cleared}
 use Rattle.program_model.specs.Soundness.{refusal_of}
 use Rattle.polish_code.specs.Walk.{Spot}
 use Rattle.polish_code.specs.Lowered.{low_leaving}
-use Rattle.basic_eval.specs.Acting as acting
 use Rattle.session_model.specs.Talk as talk
 use Rattle.session_model.specs.Talk.{Step, Runner, says, with_job, with_storage, shut_down, headed, begun, no_line, runs_shut, runs_there, runs_unless, answered, program_by, acts, visitor_acts, user_acts, line_acts, rests}
 use Rattle.session_model.specs.Texts.{lowering_text}

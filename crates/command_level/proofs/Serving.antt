@@ -1,5 +1,5 @@
 -- From what a call does of the code's session to what it does of the session for which that stands.
-use Rattle.std.proofs.Common.{◌≡◌, ℕ, ◌≤◌, List, [], ◌∷◌, Option, Some, None, Ok, Err, Result, refl, sym, ap, subst, ◌∙◌, append-nil}
+use Rattle.std.proofs.Common.{◌≡◌, ℕ, List, [], ◌∷◌, Some, None, Ok, Err, Result, refl, sym, ap, subst, append-nil}
 use Rattle.std.specs.Prelude.{IfOk}
 use Rattle.std.specs.Option.{option_map}
 use Rattle.basic_values.specs.declared.failures.NoMemory.{NoMemory}
@@ -7,7 +7,7 @@ use Rattle.monitor_calls.specs.Pairs.{Pair}
 use Rattle.monitor_calls.specs.declared.calls.Request.TheVariants.{Tick}
 use Rattle.job_model.specs.Act.{Act, Gives, Breaks, Asks, Takes, Break, Gone, Left, over}
 use Rattle.job_model.specs.Play.{Clock, counted, ticked}
-use Rattle.job_model.specs.Follow.{Path, here, asked, quiet, tick, gone, Reaches, Follows, unless_memory}
+use Rattle.job_model.specs.Follow.{Path, here, asked, quiet, tick, gone, Follows, unless_memory}
 use Rattle.program_model.specs.Program.{Program, Position}
 use Rattle.polish_code.specs.Walk.{Spot}
 use Rattle.session_model.specs.Talk as talk

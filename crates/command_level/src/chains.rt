@@ -189,10 +189,11 @@ impl Session {
     {
         match end {
             Ok(()) => self.end_line_by(Exit::Ended),
-            Err(trouble) => match trouble {
-                Trouble::Refused(Exit::Chained) => self.chain_from_line(alloc, clock, port),
-                _ => self.end_line_at(trouble),
+            Err(Trouble::Refused(why)) => match why {
+                Exit::Chained => self.chain_from_line(alloc, clock, port),
+                _ => self.end_line_by(why),
             },
+            Err(Trouble::NoMemory) => Err(NoMemory),
         }
     }
 

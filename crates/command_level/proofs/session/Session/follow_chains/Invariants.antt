@@ -9,7 +9,7 @@ use Rattle.command_level.proofs.session.Session.follow_chains.Given as goal
 abbrev pub invariant-loop-at : goal.invariant-loop-at
 invariant-loop-at g l =
     (left : ℕ → Step Position) → LeftRun (λ most. most) l.fn.self (Ok l.fn.reached) (Some left)
-    → Comes {who = g.P.Port.who} {log = g.P.Port.log} l.fn.port l.port l.fn.clock l.clock left l.self l.at
+    → Comes g.P.Port.who g.P.Port.log l.fn.port l.port l.fn.clock l.clock left l.self l.at
 
 abbrev pub decreases-loop-at : goal.decreases-loop-at
 decreases-loop-at g l = turns_left l.at l.clock

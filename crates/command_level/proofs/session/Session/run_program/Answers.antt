@@ -15,13 +15,13 @@ pub returns-in_err-reached : goal.returns-in_err-reached
 returns-in_err-reached g c s st =
     let t = headed c.args.with_name s in
     serves_from (λ most. ap (λ (lines : Lines). runs_all judge_of (program_by judge_of lines) most t) (sym (headed_lines c.args.with_name s)))
-    (run_lost_on c.start.new.self _ c.in_err-reached.field-0 _ _ c.from_residual-in_err-reached.ensures.1
+    (run_lost_on c.start.new.self _ c.in_err-reached.field-0.0 _ _ c.from_residual-in_err-reached.ensures.1
     (c.in_err-reached.ensures.path (λ most. most) t (stands_headed c.args.self.now c.write_name.new.self s c.args.with_name st c.in_ok-write_name.ensures)))
 
 pub returns : goal.returns
 returns g c s st =
     let t = headed c.args.with_name s in
     serves_from (λ most. ap (λ (lines : Lines). runs_all judge_of (program_by judge_of lines) most t) (sym (headed_lines c.args.with_name s)))
-    (run_on c.start.new.self c.follow_chains.new.self c.in_ok-reached.field-0 c.follow_chains.result
+    (run_on c.start.new.self c.follow_chains.new.self c.in_ok-reached.reached c.follow_chains.result
     (c.in_ok-reached.ensures.path (λ most. most) t (stands_headed c.args.self.now c.write_name.new.self s c.args.with_name st c.in_ok-write_name.ensures))
     c.follow_chains.ensures)

@@ -1,4 +1,4 @@
-use Rattle.std.proofs.Common.{List, refl}
+use Rattle.std.proofs.Common.{refl}
 use Rattle.grammar_machine.specs.MachineJudge.{judge_of}
 use Rattle.session_model.specs.Talk.{runs_chained, program_by, runs_shut, with_storage}
 use Rattle.command_level.proofs.Chained.{run_over, over_spent}

@@ -32,13 +32,13 @@ returns-in-Err-Refused-clause-path g c count s st =
     let here = here_behind mid s prog c.program.result.now.lines.entries low c.program.ensures.trees in
     let refused = subst (λ (e : Trouble LowerRefusal). Lowers (program_of c.program.result.now.lines.entries) (Err e)) c.in-Err-Refused.field-0-is c.in-Err-Refused.ensures in
     run_over count c.refuse.new.self c.refuse.result c.none_ran.result c.none_ran.ensures
-    (serves_refused prog (λ most. runs_chained judge_of most (count most)) c.args.line s mid c.refuse.new.self c.in-Err-Refused.refusal c.refuse.result low (sym (ap refusal_of here) ∙ refused) c.refuse.ensures)
+    (serves_refused prog (λ most. runs_chained judge_of most (count most)) c.args.line s mid c.refuse.new.self c.in-Err-Refused.refusal c.refuse.result low (sym (ap refusal_of here) ∙ refused) (rw c.in-Err-Refused.field-0-is at c.refuse.ensures))
 
 pub returns-in-Err-NoMemory-clause-path : goal.returns-in-Err-NoMemory-clause-path
 returns-in-Err-NoMemory-clause-path g c count s st = run_nothing _
 
 pub returns-in-Ok-clause-units : goal.returns-in-Ok-clause-units
-returns-in-Ok-clause-units g c = c.start_code.ensures.units _ c.in-Ok.ensures.1
+returns-in-Ok-clause-units g c = c.start_code.ensures.units (program_of c.program.result.now.lines.entries) c.in-Ok.ensures.1
 
 pub returns-in-Err-Refused-clause-units : goal.returns-in-Err-Refused-clause-units
 returns-in-Err-Refused-clause-units g c = over_spent c.args.clock.now c.args.clock.now c.refuse.result c.none_ran.result c.none_ran.ensures
