@@ -1,7 +1,9 @@
 -- What the words behind the program's name ask for.
-use Rattle.std.specs.Prelude.{ℕ, Bool, true, false, ◌==◌, List, [], ◌∷◌, Option, Some, None, if◌then◌else◌, bytes_eq, codes}
+use Rattle.std.specs.Prelude.{ℕ, ◌≤◌, Bool, true, false, not, ◌&&◌, ◌==◌, List, [], ◌∷◌, Option, Some, None, if◌then◌else◌, bytes_eq, codes}
 use Rattle.program_words.specs.declared.words.Asked.{Asked}
-use Rattle.program_words.specs.declared.words.Asked.TheVariants.{Run, Check, Nothing}
+use Rattle.program_words.specs.declared.words.Asked.TheVariants.{Run, Check, Drill, Nothing}
+use Rattle.program_words.specs.declared.words.TheConstants.{MOST_DRILL_JOBS}
+use Rattle.basic_values.specs.Decimals.{number_between}
 
 -- a word that begins with a minus and goes on behind it is a flag
 abbrev pub is_flag : List ℕ → Bool
@@ -47,19 +49,28 @@ said_in [] plain = said_with false plain
 said_in (flag ∷ []) plain = if bytes_eq flag (codes "--history") then said_with true plain else None
 said_in (flag ∷ second ∷ flags) plain = None
 
--- run, with the history or without, and check, without; neither with a count
+-- run, with the history or without, and check, without
 abbrev pub asked_alone : List ℕ → Bool → Asked
 asked_alone action history =
     if bytes_eq action (codes "run") then Run history
-    else if history then Nothing
-    else if bytes_eq action (codes "check") then Check else Nothing
+    else if bytes_eq action (codes "check") && not history then Check else Nothing
+
+abbrev pub drill_by : Option ℕ → Asked
+drill_by None = Nothing
+drill_by (Some jobs) = Drill jobs
+
+-- drill, with a number from 1 to 16 in digits without a leading zero
+abbrev pub asked_counting : List ℕ → Bool → List ℕ → Asked
+asked_counting action history count =
+    if bytes_eq action (codes "drill") && not history
+    then drill_by (number_between 1 MOST_DRILL_JOBS count) else Nothing
+
+abbrev pub asked_with : Option (List ℕ) → List ℕ → Bool → Asked
+asked_with None action history = asked_alone action history
+asked_with (Some count) action history = asked_counting action history count
 
 abbrev pub asked_plainly : Said → Asked
 asked_plainly said = asked_with said.count said.action said.history
-  where
-    asked_with : Option (List ℕ) → List ℕ → Bool → Asked
-    asked_with None action history = asked_alone action history
-    asked_with (Some count) action history = Nothing
 
 abbrev pub asked_where : Option Said → Asked
 asked_where None = Nothing
@@ -70,3 +81,8 @@ said words = said_in (sorted words).flags (sorted words).plain
 
 abbrev pub asked : List (List ℕ) → Asked
 asked words = asked_where (said words)
+
+-- a drill has from 1 to 16 terminals
+abbrev pub IsFew : Asked → Type 0
+IsFew (Drill jobs) = (1 ≤ jobs) × (jobs ≤ MOST_DRILL_JOBS)
+IsFew asked = Unit {0}

@@ -9,7 +9,7 @@
 mod command;
 mod words;
 
-pub use words::{Asked, asked_by};
+pub use words::{Asked, MOST_DRILL_JOBS, asked_by};
 
 #[cfg(test)]
 mod tests;

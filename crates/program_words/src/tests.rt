@@ -5,7 +5,7 @@ use std::test::Fail;
 /// Words, and what they ask for.
 type Row = (&'static [&'static str], Asked);
 
-static ROWS: [Row; 26] = [
+static ROWS: [Row; 36] = [
     (&["run"], Asked::Run(false)),
     (&["run", "--history"], Asked::Run(true)),
     (&["--history", "run"], Asked::Run(true)),
@@ -14,6 +14,16 @@ static ROWS: [Row; 26] = [
     (&["--history", "--", "run"], Asked::Run(true)),
     (&["check"], Asked::Check),
     (&["--", "check"], Asked::Check),
+    (&["drill", "1"], Asked::Drill(1)),
+    (&["drill", "16"], Asked::Drill(16)),
+    (&["drill", "--", "4"], Asked::Drill(4)),
+    (&["drill"], Asked::Nothing),
+    (&["drill", "0"], Asked::Nothing),
+    (&["drill", "17"], Asked::Nothing),
+    (&["drill", "04"], Asked::Nothing),
+    (&["drill", "+4"], Asked::Nothing),
+    (&["drill", "4", "--history"], Asked::Nothing),
+    (&["drill", "4", "4"], Asked::Nothing),
     (&[], Asked::Nothing),
     (&[""], Asked::Nothing),
     (&["--"], Asked::Nothing),

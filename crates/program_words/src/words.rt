@@ -1,12 +1,16 @@
 //! What the program does by its words.
 
 ghost use Rattle.std.specs.Prelude.{◌≡◌, IfOk, map, string_bytes};
-ghost use Rattle.program_words.specs.Words.{asked, asked_plainly};
+ghost use Rattle.basic_values.specs.Decimals.{number_between};
+ghost use Rattle.program_words.specs.Words.{asked, asked_plainly, drill_by, IsFew};
 ghost use Rattle.program_words.specs.CommandLine.{said_seen};
 
 use crate::command::{Said, said_by};
-use basic_values::NoMemory;
+use basic_values::{NoMemory, number_between};
 use std::alloc::Global;
+
+/// The most terminals of a drill.
+pub const MOST_DRILL_JOBS: u32 = 16;
 
 /// What the words ask for.
 #[derive(Clone, Copy, Debug, PartialEq, Eq)]
@@ -14,12 +18,15 @@ pub enum Asked {
     /// A run, with the text of its history or without.
     Run(bool),
     Check,
+    /// A drill with so many terminals, from 1 to `MOST_DRILL_JOBS`.
+    Drill(u32),
     Nothing,
 }
 
 /// What the words ask for, as one flat command takes them.
 pub fn asked_by(alloc: Global, words: &[String]) -> Result<Asked, NoMemory>
-    ensures { IfOk result (λ told. told ≡ asked (map string_bytes words.now)) }
+    ensures asked { IfOk result (λ told. told ≡ asked (map string_bytes words.now)) }
+    ensures few { IfOk result (λ told. IsFew told) }
 {
     match said_by(alloc, words)? {
         Some(said) => Ok(asked_of(said)),
@@ -29,13 +36,24 @@ pub fn asked_by(alloc: Global, words: &[String]) -> Result<Asked, NoMemory>
 
 /// What an action asks for, with what stands beside it.
 fn asked_of(said: Said<'_>) -> Asked
-    ensures { result ≡ asked_plainly (said_seen said.entry) }
+    ensures asked { result ≡ asked_plainly (said_seen said.entry) }
+    ensures few { IsFew result }
 {
-    let run = said.action == "run";
-    let check = said.action == "check";
     match said.count {
-        None if run => Asked::Run(said.history),
-        None if check && !said.history => Asked::Check,
+        None if said.action == "run" => Asked::Run(said.history),
+        None if said.action == "check" && !said.history => Asked::Check,
+        Some(count) if said.action == "drill" && !said.history => drill_of(count.as_bytes()),
         _ => Asked::Nothing,
+    }
+}
+
+/// A drill with so many terminals as the text spells.
+fn drill_of(count: &[u8]) -> Asked
+    ensures asked { result ≡ drill_by (number_between 1 MOST_DRILL_JOBS count.now) }
+    ensures few { IsFew result }
+{
+    match number_between(1, MOST_DRILL_JOBS, count) {
+        Some(jobs) => Asked::Drill(jobs),
+        None => Asked::Nothing,
     }
 }

@@ -18,10 +18,11 @@ use Rattle.rsts.specs.declared.systems.Stopped.TheVariants as stopped
 use Rattle.deck_reader.specs.Seen.{terminal_of, deck_of}
 use Rattle.report_texts.specs.Names.{names_of}
 use Rattle.program_words.specs.declared.words.Asked.{Asked}
-use Rattle.program_words.specs.declared.words.Asked.TheVariants.{Run, Check, Nothing}
+use Rattle.program_words.specs.declared.words.Asked.TheVariants.{Run, Check, Drill, Nothing}
 use Rattle.rsts.specs.Headline as headline
 use Rattle.rsts.specs.Headline.{Ends, NothingGiven, SourceFailed, InputTooLong, SinkFailed, WantedMemory, Answers, IsReport, HasRan, IsGoodLine, HasChecked, FoundDeck, SpellsNone, Does}
-use Rattle.rsts.specs.Outcomes.{IfRan, OnChecked, OnUsage, OnReadFault, OnTooLong, IfDeck, OnWriteFault, OnNoMemory}
+use Rattle.rsts.specs.declared.outcomes.Drill.{Drill as DrillEnd}
+use Rattle.rsts.specs.Outcomes.{IfRan, IfDrilled, OnChecked, OnUsage, OnReadFault, OnTooLong, IfDeck, OnWriteFault, OnNoMemory}
 use Rattle.rsts.specs.SourceEnds.{outcome_of, WhyStopped, MustStop, MustFind, MustRefuse}
 use Rattle.rsts.specs.Streams.{AreAll, IsOverLimit, BrokeOff}
 
@@ -93,12 +94,12 @@ stopped_answers IsOutput Succeeds why before after cause given stop find refuse 
   completes = λ fair. ⊎_elim (λ ok. absurd (not_ok why ok)) (λ e. inr (outcome_is why stopped.NoMemory e)) (find fair.source);
 }
 
--- where no deck was found nothing was run and nothing was checked
-pub stopped_neither : (why : Stopped) (P : List Entry → Type 0) (Q : Type 0) → IfRan (outcome_of why) P × OnChecked (outcome_of why) Q
-stopped_neither stopped.ReadFault P Q = (tt, tt)
-stopped_neither stopped.TooLong P Q = (tt, tt)
-stopped_neither (stopped.Deck fault) P Q = (tt, tt)
-stopped_neither stopped.NoMemory P Q = (tt, tt)
+-- where no deck was found nothing was run, nothing was checked, and there was no drill
+pub stopped_neither : (why : Stopped) (P : List Entry → Type 0) (Q : Type 0) (D : DrillEnd → Type 0) → IfRan (outcome_of why) P × OnChecked (outcome_of why) Q × IfDrilled (outcome_of why) D
+stopped_neither stopped.ReadFault P Q D = (tt, tt, tt)
+stopped_neither stopped.TooLong P Q D = (tt, tt, tt)
+stopped_neither (stopped.Deck fault) P Q D = (tt, tt, tt)
+stopped_neither stopped.NoMemory P Q D = (tt, tt, tt)
 
 -- where a deck was found, and all was written of it
 module _ (deck : Deck) (before after : Ends) (stop : MustStop (Ok deck) before.source after.source) (refuse : MustRefuse (Ok deck) before.source after.source) where
@@ -165,6 +166,21 @@ wanted_answers IsOutput Succeeds e = record {
 }
 
 pub wanted : (asked : Asked) (e : Ends) → Does asked e e outcome.NoMemory
-wanted (Run history) e = record { ran = tt; not_checked = tt; answers = wanted_answers (IsReport history) HasRan e }
-wanted Check e = record { checked = tt; not_ran = tt; answers = wanted_answers IsGoodLine HasChecked e }
+wanted (Run history) e = record { ran = tt; not_checked = tt; not_drilled = tt; answers = wanted_answers (IsReport history) HasRan e }
+wanted Check e = record { checked = tt; not_ran = tt; not_drilled = tt; answers = wanted_answers IsGoodLine HasChecked e }
+wanted (Drill jobs) e = record {
+  source = refl;
+  answers = record {
+    drilled = tt;
+    not_ran = tt;
+    not_checked = tt;
+    not_usage = tt;
+    not_read_fault = tt;
+    not_too_long = tt;
+    not_deck = tt;
+    write_fault = tt;
+    no_memory = refl;
+    completes = λ stays. inr refl;
+  };
+}
 wanted Nothing e = record { usage = inr refl; untouched = refl }

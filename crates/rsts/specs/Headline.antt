@@ -13,13 +13,16 @@ use Rattle.deck_model.specs.Refusals as refusals
 use Rattle.deck_model.specs.Report.{report, good_line}
 use Rattle.deck_model.specs.Histories.{history_text}
 use Rattle.program_words.specs.declared.words.Asked.{Asked}
-use Rattle.program_words.specs.declared.words.Asked.TheVariants.{Run, Check, Nothing}
+use Rattle.program_words.specs.declared.words.Asked.TheVariants.{Run, Check, Drill, Nothing}
 use Rattle.rsts_io.specs.Ends.{SourceState, SinkState, Rose}
 use Rattle.deck_model.specs.declared.faults.DeckFault.{DeckFault}
 use Rattle.rsts.specs.declared.outcomes.Outcome.{Outcome}
 use Rattle.rsts.specs.declared.outcomes.Outcome.TheVariants as outcome
 use Rattle.rsts.specs.declared.streams.TheConstants.{INPUT_LIMIT}
-use Rattle.rsts.specs.Outcomes.{IfRan, OnChecked, OnUsage, IfDeck, OnReadFault, OnTooLong, OnWriteFault, OnNoMemory}
+use Rattle.drill_deck.specs.DrillDeck.{drill_deck}
+use Rattle.drill_deck.specs.Tallies.{puts_in, sum_in, drill_line}
+use Rattle.rsts.specs.declared.outcomes.Drill.{Drill as DrillEnd}
+use Rattle.rsts.specs.Outcomes.{IfRan, IfDrilled, OnChecked, OnUsage, IfDeck, OnReadFault, OnTooLong, OnWriteFault, OnNoMemory}
 use Rattle.rsts.specs.Streams.{IsInput, IsOverLimit, IsTooMuch, Written, BrokeOff}
 
 -- THE TWO ENDS
@@ -196,6 +199,47 @@ HasRan result = (history : List Entry) × (result ≡ outcome.Ok history)
 abbrev pub HasChecked : Outcome → Type 0
 HasChecked result = result ≡ outcome.Checked
 
+-- A DRILL
+-- It reads nothing: what is run is the deck of terminals that count in one block.
+
+-- a run of that deck, how many Puts were done in it, and the number that the last of them wrote
+pub record IsDrill (jobs : ℕ) (drill : DrillEnd) : Type 0 where
+  pub screens : List (List ℕ)
+  pub run : IsRun (drill_deck jobs) drill.history screens
+  pub as_many : drill.jobs ≡ jobs
+  pub puts : drill.puts ≡ puts_in drill.history
+  pub sum : drill.sum ≡ sum_in drill.history
+
+abbrev pub line_of_drill : DrillEnd → List ℕ
+line_of_drill drill = drill_line drill.jobs drill.puts drill.sum
+
+-- what was written is the line of the drill
+pub record Drilled (jobs : ℕ) (before after : SinkState) (drill : DrillEnd) : Type 0 where
+  pub drill_is : IsDrill jobs drill
+  pub written : Written (line_of_drill drill) before after
+
+-- the sink failed once, before it had all of the line of a drill
+pub record DrillBroke (jobs : ℕ) (before after : SinkState) : Type 0 where
+  pub drill : DrillEnd
+  pub drill_is : IsDrill jobs drill
+  pub broke_off : BrokeOff (line_of_drill drill) before after
+
+abbrev pub HasDrilled : Outcome → Type 0
+HasDrilled result = (drill : DrillEnd) × (result ≡ outcome.Drilled drill)
+
+-- what a drill answers, and what it does to the sink
+pub record DrillEnds (jobs : ℕ) (before after : SinkState) (result : Outcome) : Type 0 where
+  pub drilled : IfDrilled result (Drilled jobs before after)
+  pub not_ran : IfRan result (λ history. ⊥)
+  pub not_checked : OnChecked result ⊥
+  pub not_usage : OnUsage result ⊥
+  pub not_read_fault : OnReadFault result ⊥
+  pub not_too_long : OnTooLong result ⊥
+  pub not_deck : IfDeck result (λ fault. ⊥)
+  pub write_fault : OnWriteFault result (DrillBroke jobs before after)
+  pub no_memory : OnNoMemory result (after ≡ before)
+  pub completes : (Rose before.faults after.faults → ⊥) → HasDrilled result ⊎ (result ≡ outcome.NoMemory)
+
 -- WHAT THE PROGRAM DOES
 
 -- what a run and a check have in common: what they may write, how they succeed, the cause of every
@@ -215,21 +259,28 @@ pub record Answers (IsOutput : Deck → List ℕ → Type 0) (Succeeds : Outcome
 pub record Runs (wanted : Bool) (before after : Ends) (result : Outcome) : Type 0 where
   pub ran : IfRan result (Headline wanted before after)
   pub not_checked : OnChecked result ⊥
+  pub not_drilled : IfDrilled result (λ drill. ⊥)
   pub answers : Answers (IsReport wanted) HasRan before after result
 
 pub record Checks (before after : Ends) (result : Outcome) : Type 0 where
   pub checked : OnChecked result (Checked before after)
   pub not_ran : IfRan result (λ history. ⊥)
+  pub not_drilled : IfDrilled result (λ drill. ⊥)
   pub answers : Answers IsGoodLine HasChecked before after result
+
+pub record Drills (jobs : ℕ) (before after : Ends) (result : Outcome) : Type 0 where
+  pub source : after.source ≡ before.source
+  pub answers : DrillEnds jobs before.sink after.sink result
 
 -- unless memory runs out, the usage is told; nothing was read and nothing was written
 pub record TellsUsage (before after : Ends) (result : Outcome) : Type 0 where
   pub usage : (result ≡ outcome.Usage) ⊎ (result ≡ outcome.NoMemory)
   pub untouched : after ≡ before
 
--- as the words ask, a deck is run, with the text of its history or without, or checked, or the usage
--- is told
+-- as the words ask, a deck is run, with the text of its history or without, or checked, or a drill is
+-- run, or the usage is told
 abbrev pub Does : Asked → Ends → Ends → Outcome → Type 0
 Does (Run wanted) before after result = Runs wanted before after result
 Does Check before after result = Checks before after result
+Does (Drill jobs) before after result = Drills jobs before after result
 Does Nothing before after result = TellsUsage before after result

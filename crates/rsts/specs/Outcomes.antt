@@ -2,6 +2,7 @@
 use Rattle.std.specs.Prelude.{List}
 use Rattle.monitor_calls.specs.declared.calls.Entry.{Entry}
 use Rattle.deck_model.specs.declared.faults.DeckFault.{DeckFault}
+use Rattle.rsts.specs.declared.outcomes.Drill.{Drill}
 use Rattle.rsts.specs.declared.outcomes.Outcome.{Outcome}
 use Rattle.rsts.specs.declared.outcomes.Outcome.TheVariants as outcome
 
@@ -13,6 +14,11 @@ IfRan _ P = Unit {0}
 abbrev pub OnChecked : Outcome → Type 0 → Type 0
 OnChecked outcome.Checked P = P
 OnChecked _ P = Unit {0}
+
+-- a drill that ended
+abbrev pub IfDrilled : Outcome → (Drill → Type 0) → Type 0
+IfDrilled (outcome.Drilled drill) P = P drill
+IfDrilled _ P = Unit {0}
 
 abbrev pub OnUsage : Outcome → Type 0 → Type 0
 OnUsage outcome.Usage P = P

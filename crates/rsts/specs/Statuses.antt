@@ -5,11 +5,12 @@ use Rattle.deck_model.specs.declared.faults.DeckCause.{DeckCause}
 use Rattle.deck_model.specs.declared.faults.DeckCause.TheVariants.{Cut, Version, Shape, Range, Double, Owner, Space}
 use Rattle.deck_model.specs.declared.faults.DeckFault.{DeckFault}
 use Rattle.rsts.specs.declared.outcomes.Outcome.{Outcome}
-use Rattle.rsts.specs.declared.outcomes.Outcome.TheVariants.{Ok, Checked, Usage, Deck, ReadFault, TooLong, WriteFault, NoMemory}
+use Rattle.rsts.specs.declared.outcomes.Outcome.TheVariants.{Ok, Checked, Drilled, Usage, Deck, ReadFault, TooLong, WriteFault, NoMemory}
 
 abbrev pub status_of : Outcome → ℕ
 status_of (Ok record_) = 0
 status_of Checked = 0
+status_of (Drilled drill) = 0
 status_of Usage = 1
 status_of (Deck fault) = 2
 status_of ReadFault = 3
@@ -32,6 +33,7 @@ fault_line fault = codes "deck line " ++ decimal fault.line ++ codes ": " ++ cau
 abbrev pub line_of : Outcome → List ℕ
 line_of (Ok record_) = codes ""
 line_of Checked = codes ""
+line_of (Drilled drill) = codes ""
 line_of Usage = codes "usage: rsts run [--history] | check | drill N"
 line_of (Deck fault) = fault_line fault
 line_of ReadFault = codes "read fault"

@@ -2,12 +2,13 @@
 //!
 //! `top::rsts_main` carries the program's promise: its one clause is `Does` of `specs/Headline`.
 //! `streams` reads a source and gives to a sink, `runs` runs the terminals of a deck,
-//! `systems` puts these together, and `outcomes` tells the status. It stands on `program_words`, for
+//! `systems` and `drills` put these together, and `outcomes` tells the status. It stands on `program_words`, for
 //! what is asked, on `deck_reader`, for decks, on `report_texts`, for what is written, on `command_level`, for the
 //! session of a terminal, on `terminal_runner`, for the threads, and on `rsts_io`, for the ends;
 //! what they mean stands in `deck_model`, `job_model` and `monitor_model`.
 #![tactic(auto)]
 
+mod drills;
 mod outcomes;
 mod runs;
 mod streams;
@@ -29,7 +30,7 @@ fn main(rt: HostRuntime) -> ExitCode {
     let outcome = match words_of(&rt) {
         Ok(words) => match begin(rt.alloc(), &words, &mut source, &mut sink) {
             Step::Ended(outcome) => outcome,
-            Step::Runs(_) => {
+            Step::Runs(_) | Step::Drills(_) => {
                 let alloc = rt.alloc();
                 rsts_main(&rt, alloc, &words, &mut source, &mut sink, &IdlePacer)
             }

@@ -8,6 +8,16 @@ use deck_model::{DeckCause, DeckFault};
 use itoa::Buffer;
 use monitor_calls::RunRecord;
 
+/// A drill that ended: its history, how many jobs it had, how many Puts were done, and the number
+/// that the last of them wrote.
+#[derive(Drop)]
+pub struct Drill {
+    pub history: RunRecord,
+    pub jobs: u32,
+    pub puts: u64,
+    pub sum: u32,
+}
+
 /// How a call of the program ends.
 #[derive(Drop)]
 pub enum Outcome {
@@ -15,6 +25,8 @@ pub enum Outcome {
     Ok(RunRecord),
     /// The deck is good, and a line that says so was written.
     Checked,
+    /// The drill was run, and a line that says what it came to was written.
+    Drilled(Drill),
     /// The words ask for nothing that the program does.
     Usage,
     /// The input spells no deck: the first line that no deck can have there, and why.
@@ -34,7 +46,7 @@ impl Outcome {
         ensures { result ≡ status_of self.now }
     {
         match self {
-            Outcome::Ok(_) | Outcome::Checked => 0,
+            Outcome::Ok(_) | Outcome::Checked | Outcome::Drilled(_) => 0,
             Outcome::Usage => 1,
             Outcome::Deck(_) => 2,
             Outcome::ReadFault => 3,
@@ -49,7 +61,7 @@ impl Outcome {
         ensures { result.items ≡ line_of self.now }
     {
         match self {
-            Outcome::Ok(_) | Outcome::Checked => words(b""),
+            Outcome::Ok(_) | Outcome::Checked | Outcome::Drilled(_) => words(b""),
             Outcome::Usage => words(b"usage: rsts run [--history] | check | drill N"),
             Outcome::Deck(fault) => fault_line(*fault),
             Outcome::ReadFault => words(b"read fault"),

@@ -5,6 +5,7 @@ ghost use Rattle.program_words.specs.Words.{asked};
 ghost use Rattle.rsts.specs.Headline.{ends, Does};
 ghost use Rattle.rsts.specs.Steps.{Begins};
 
+use crate::drills::run_drill;
 use crate::outcomes::Outcome;
 use crate::systems::{check_system, run_system};
 use basic_values::NoMemory;
@@ -21,6 +22,8 @@ pub enum Step {
     Ended(Outcome),
     /// A deck is to be run, with the text of its history or without; nothing was read yet.
     Runs(bool),
+    /// A drill is to be run, with so many terminals.
+    Drills(u32),
 }
 
 /// Does what the words ask where that waits for nobody, as a check and the usage do.
@@ -38,6 +41,7 @@ pub fn begin<S: Source, K: Sink>(
     match asked_by(alloc, words) {
         Ok(Asked::Run(history)) => Step::Runs(history),
         Ok(Asked::Check) => Step::Ended(check_system(alloc, source, sink)),
+        Ok(Asked::Drill(jobs)) => Step::Drills(jobs),
         Ok(Asked::Nothing) => Step::Ended(Outcome::Usage),
         Err(NoMemory) => Step::Ended(Outcome::NoMemory),
     }
@@ -45,7 +49,7 @@ pub fn begin<S: Source, K: Sink>(
 
 /// Reads a deck from the source, runs its terminals, each in a thread of its own, and writes the
 /// report to the sink, and behind it the text of the history; or reads a deck and writes whether it
-/// is good; as the words ask.
+/// is good; or runs the drill's deck and writes what it came to; as the words ask.
 pub fn rsts_main<R: Threads + Wait + Sync, S: Source, K: Sink, P: Pacer + Sync>(
     rt: &R,
     alloc: Global,
@@ -61,11 +65,14 @@ pub fn rsts_main<R: Threads + Wait + Sync, S: Source, K: Sink, P: Pacer + Sync>(
     match begin(alloc, words, source, sink) {
         Step::Ended(outcome) => outcome,
         Step::Runs(history) => run_system(rt, alloc, history, source, sink, pacer),
+        Step::Drills(jobs) => run_drill(rt, alloc, jobs, sink, pacer),
     }
 }
 
 #[cfg(test)]
 mod calls;
+#[cfg(test)]
+mod drilling;
 #[cfg(test)]
 mod ends;
 #[cfg(test)]

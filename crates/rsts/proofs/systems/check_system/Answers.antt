@@ -15,11 +15,12 @@ returns-in-Err g c =
     let before = ends (g.S.Source.state c.args.source.now) (g.K.Sink.state c.args.sink.now) in
     let after = ends (g.S.Source.state c.read_system.new.source) (g.K.Sink.state c.args.sink.now) in
     let told = c.in-Err.ensures in
-    let neither = stopped_neither c.in-Err.stopped (λ history. ⊥) (Checked before after) in
+    let neither = stopped_neither c.in-Err.stopped (λ history. ⊥) (Checked before after) (λ drill. ⊥) in
     subst (λ (result : Outcome). Checks before after result) (sym c.outcome.ensures)
     (record {
       checked = neither.1;
       not_ran = neither.0;
+      not_drilled = neither.2;
       answers = stopped_answers IsGoodLine HasChecked c.in-Err.stopped before after told.found refl told.must_stop told.must_find told.must_refuse;
     })
 
@@ -41,6 +42,7 @@ returns-in-Ok-give_all g c =
         written = subst (λ (bytes : List ℕ). Written bytes before.sink after.sink) c.as_slice.ensures.value c.in-Ok-give_all.ensures.all;
       };
       not_ran = tt;
+      not_drilled = tt;
       answers = checked_answers c.in-Ok.deck before after c.in-Ok.ensures.must_stop c.in-Ok.ensures.must_refuse;
     }
 
@@ -56,6 +58,7 @@ returns g c =
     record {
       checked = tt;
       not_ran = tt;
+      not_drilled = tt;
       answers = broke_answers c.in-Ok.deck before after c.in-Ok.ensures.must_stop c.in-Ok.ensures.must_refuse IsGoodLine HasChecked output c.in-Ok.ensures.found line
           (subst (λ (bytes : List ℕ). BrokeOff bytes before.sink after.sink) c.as_slice.ensures.value c.in-Err-give_all.ensures.front);
     }

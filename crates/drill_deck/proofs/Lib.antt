@@ -1,0 +1,2 @@
+pub mod DeckLemmas
+pub mod NameLemmas

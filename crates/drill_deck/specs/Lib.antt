@@ -1,0 +1,3 @@
+pub mod DrillDeck
+pub mod Kept
+pub mod Tallies
