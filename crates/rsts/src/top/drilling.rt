@@ -3,7 +3,7 @@
 use super::*;
 use crate::outcomes::Drill;
 use crate::top::calls::*;
-use crate::top::pacing::Ordered;
+use crate::top::pacing::{Ordered, were_held};
 use rsts_io::{MemorySink, MemorySource};
 use std::test::Fail;
 use std::time::Clock;
@@ -11,9 +11,9 @@ use std::time::Clock;
 /// The count of terminals as a word, and as a number.
 static COUNTS: [(&str, u32); 5] = [("1", 1), ("2", 2), ("4", 4), ("8", 8), ("16", 16)];
 
-/// Runs a drill between ends of which the source would fail, with each job's second call held, and
-/// tells what was written.
-fn run_drill<R: Threads + Wait + Clock + Sync>(
+/// Runs the drill between ends of which the source would fail, with each job's second call held
+/// until each has made its first, and tells what was written.
+fn drill_held<R: Threads + Wait + Clock + Sync>(
     rt: &R,
     alloc: Global,
     count: &str,
@@ -24,8 +24,11 @@ fn run_drill<R: Threads + Wait + Clock + Sync>(
     let mut sink = MemorySink::new(alloc, &[])?;
     let pacer = Ordered::together(rt, alloc, jobs)?;
     match rsts_main(rt, alloc, &words, &mut source, &mut sink, &pacer) {
-        Outcome::Drilled(drill) if !pacer.is_late() => Ok((drill, sink.bytes().to_vec(alloc)?)),
-        _ => Err("no drill was run, or a job was not held")?,
+        Outcome::Drilled(drill) if were_held(&pacer, &drill.history, jobs) => {
+            Ok((drill, sink.bytes().to_vec(alloc)?))
+        }
+        Outcome::Drilled(_) => Err("a job was not held")?,
+        _ => Err("no drill was run")?,
     }
 }
 
@@ -36,9 +39,9 @@ fn expect_drill<R: Threads + Wait + Clock + Sync>(
     count: &str,
     jobs: u32,
 ) -> Result<(), Fail> {
-    let (drill, written) = run_drill(rt, alloc, count, jobs)?;
+    let (drill, written) = drill_held(rt, alloc, count, jobs)?;
     let puts = drill.puts;
-    if puts != u64::from(drill.sum) {
+    if drill.jobs != jobs || puts != u64::from(drill.sum) {
         return Err("the counter is another number")?;
     }
     let line = format!(in alloc; "DRILL {jobs} JOBS {puts} PUTS {puts} SUM\n")?;
@@ -53,10 +56,20 @@ fn each_put_of_a_drill_counts_once(rt: HostRuntime) -> Result<(), Fail> {
     for (count, jobs) in COUNTS.iter() {
         expect_drill(&rt, rt.alloc(), count, *jobs)?;
     }
-    let (_, written) = run_drill(&rt, rt.alloc(), "1", 1)?;
-    assert_eq!(rt;
-        written.as_slice(),
-        b"DRILL 1 JOBS 20 PUTS 20 SUM\n".as_slice()
-    );
     Ok(())
+}
+
+const ONE_JOB: &[u8] = b"DRILL 1 JOBS 20 PUTS 20 SUM\n";
+
+/// A drill asks nothing of its source.
+#[test]
+fn a_drill_of_one_job_counts_to_twenty(rt: HostRuntime) -> Result<(), Fail> {
+    let ended = call(&rt, rt.alloc(), &["drill", "1"], FIRST_SUM, &[1], &[])?;
+    expect(ended, good(ONE_JOB))
+}
+
+#[test]
+fn a_drill_whose_sink_fails_writes_a_front(rt: HostRuntime) -> Result<(), Fail> {
+    let ended = call(&rt, rt.alloc(), &["drill", "1"], FIRST_SUM, &[1], &[1])?;
+    expect(ended, refused(5, "write fault"))
 }

@@ -1,5 +1,6 @@
 //! A pacer for tests: it holds calls until calls of other jobs were answered.
 
+use monitor_calls::RunRecord;
 use rsts_io::Pacer;
 use std::alloc::Global;
 use std::sync::atomic::{AtomicU64, Ordering};
@@ -123,4 +124,22 @@ impl<'a, R: Clock> Pacer for Ordered<'a, R> {
             calls.after.fetch_add(1, Ordering::SeqCst);
         }
     }
+}
+
+/// How many entries of a history are a job's.
+fn entries_of(record: &RunRecord, job: u32) -> u64 {
+    let entries = record.as_slice().iter().filter(|entry| entry.job == job);
+    entries.count() as u64
+}
+
+/// Whether the pacer held each job: it was called before and after each call, and nobody waited in
+/// vain.
+pub(crate) fn were_held<R: Clock>(pacer: &Ordered<'_, R>, record: &RunRecord, jobs: u32) -> bool {
+    for job in 0..jobs {
+        let entries = entries_of(record, job);
+        if pacer.calls_of(job) != (entries, entries) {
+            return false;
+        }
+    }
+    !pacer.is_late()
 }

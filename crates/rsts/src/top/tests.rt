@@ -6,8 +6,7 @@ ghost use Rattle.rsts.specs.Headline.{HasRan};
 use super::*;
 use crate::streams::INPUT_LIMIT;
 use crate::top::calls::*;
-use crate::top::pacing::Ordered;
-use monitor_calls::RunRecord;
+use crate::top::pacing::{Ordered, were_held};
 use rsts_io::{IdlePacer, MemorySink, MemorySource, PlainSink, PlainSource};
 use std::test::Fail;
 use std::time::Clock;
@@ -28,15 +27,22 @@ fn a_program_that_always_wants_memory_fails_these_rows(rt: HostRuntime) -> Resul
 
 const USAGE: &str = "usage: rsts run [--history] | check | drill N";
 
-static OTHER_WORDS: [&[&str]; 8] = [
+static OTHER_WORDS: [&[&str]; 15] = [
     &[""],
     &["RUN"],
     &["runs"],
     &["check "],
-    &["drill"],
     &[],
     &["run", "run"],
+    &["run", "3"],
     &["check", "--history"],
+    &["drill"],
+    &["drill", "0"],
+    &["drill", "17"],
+    &["drill", "04"],
+    &["drill", "+4"],
+    &["drill", "4", "--history"],
+    &["drill", "4", "4"],
 ];
 
 #[test]
@@ -90,24 +96,6 @@ fn run_held<R: Threads + Wait + Clock + Sync>(
         return Err("another report was written")?;
     }
     Ok(outcome)
-}
-
-/// How many entries of a history are a job's.
-fn entries_of(record: &RunRecord, job: u32) -> u64 {
-    let entries = record.as_slice().iter().filter(|entry| entry.job == job);
-    entries.count() as u64
-}
-
-/// Whether the pacer held each job: it was called before and after each call, and nobody waited in
-/// vain.
-fn were_held<R: Clock>(pacer: &Ordered<'_, R>, record: &RunRecord, jobs: u32) -> bool {
-    for job in 0..jobs {
-        let entries = entries_of(record, job);
-        if pacer.calls_of(job) != (entries, entries) {
-            return false;
-        }
-    }
-    !pacer.is_late()
 }
 
 /// Runs a deck whose jobs are held by the pacer, and fails unless each was, and this was written.
