@@ -23,13 +23,14 @@ fn drill_held<R: Threads + Wait + Clock + Sync>(
     let mut source = MemorySource::new(alloc, b"", &[1])?;
     let mut sink = MemorySink::new(alloc, &[])?;
     let pacer = Ordered::together(rt, alloc, jobs)?;
-    match rsts_main(rt, alloc, &words, &mut source, &mut sink, &pacer) {
-        Outcome::Drilled(drill) if were_held(&pacer, &drill.history, jobs) => {
-            Ok((drill, sink.bytes().to_vec(alloc)?))
-        }
-        Outcome::Drilled(_) => Err("a job was not held")?,
-        _ => Err("no drill was run")?,
+    let drill = match rsts_main(rt, alloc, &words, &mut source, &mut sink, &pacer) {
+        Outcome::Drilled(drill) => drill,
+        _ => return Err("no drill was run")?,
+    };
+    if !were_held(&pacer, &drill.history, jobs) {
+        return Err("a job was not held")?;
     }
+    Ok((drill, sink.bytes().to_vec(alloc)?))
 }
 
 /// As many Puts were done as the counter tells, and the line tells both.

@@ -107,11 +107,14 @@ fn run_together<R: Threads + Wait + Clock + Sync>(
     want: &[u8],
 ) -> Result<(), Fail> {
     let pacer = Ordered::together(rt, alloc, jobs)?;
-    match run_held(rt, alloc, deck, want, &pacer)? {
-        Outcome::Ok(record) if were_held(&pacer, &record, jobs) => Ok(()),
-        Outcome::Ok(_) => Err("a job was not held")?,
-        _ => Err("the deck was not run")?,
+    let record = match run_held(rt, alloc, deck, want, &pacer)? {
+        Outcome::Ok(record) => record,
+        _ => return Err("the deck was not run")?,
+    };
+    if !were_held(&pacer, &record, jobs) {
+        return Err("a job was not held")?;
     }
+    Ok(())
 }
 
 #[test]
