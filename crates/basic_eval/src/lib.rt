@@ -19,6 +19,7 @@ mod functions;
 mod gosub;
 mod input;
 mod loops;
+mod matrices;
 mod numbers;
 mod on_channels;
 mod printing;

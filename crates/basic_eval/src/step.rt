@@ -145,6 +145,7 @@ impl Running {
             Item::Chain => self.chain(stack),
             Item::Justify { side, name } => self.justify(*side, name, stack),
             Item::JustifyBy { side, name, by } => self.justify_by(*side, name, by),
+            Item::Matrix(act) => self.matrix(words, act, stack),
             Item::Leave => Move::Away,
         }
     }

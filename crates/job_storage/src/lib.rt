@@ -12,6 +12,7 @@ mod channel_texts;
 mod fields;
 mod file_acts;
 mod file_elements;
+mod matrices;
 mod storage;
 mod sys;
 mod values;

@@ -23,6 +23,7 @@ mod file_items;
 mod lookups;
 mod loops;
 mod lowered;
+mod matrix_items;
 mod measured;
 mod nowhere;
 mod numbers;

@@ -17,6 +17,7 @@ use crate::expressions::emit_expr;
 use crate::field_items::{emit_field, emit_justify};
 use crate::file_items::{emit_close, emit_open, emit_with_block, emit_with_one, emit_with_two};
 use crate::lookups::Lookups;
+use crate::matrix_items::{emit_mat_let, emit_mat_read};
 use crate::numbers::counted;
 use crate::sink::{Jump, Over, Sink};
 use basic_tree::{
@@ -24,7 +25,7 @@ use basic_tree::{
 };
 use basic_values::{NoMemory, Text};
 use monitor_calls::copy_of;
-use polish_code::{FileAct, Item};
+use polish_code::{FileAct, Item, MatrixAct};
 use program_soundness::named_line;
 use record_fields::Side;
 use std::alloc::Global;
@@ -188,9 +189,14 @@ pub fn emit_simple<K: Sink, L: Lookups>(
         Statement::Data(_) => Ok(()),
         Statement::Dim(_) => Ok(()),
         Statement::DimFile { .. } => Ok(()),
-        Statement::MatRead(_) => Ok(()),
-        Statement::MatPrint { .. } => Ok(()),
-        Statement::MatLet { .. } => Ok(()),
+        Statement::MatRead(matrices) => emit_mat_read(alloc, code, tables, matrices.as_slice()),
+        Statement::MatPrint { matrix, separator } => {
+            code.put(Item::Matrix(MatrixAct::Print {
+                matrix: *matrix,
+                separator: *separator,
+            }))
+        }
+        Statement::MatLet { target, value } => emit_mat_let(alloc, code, tables, *target, value),
     }
 }
 

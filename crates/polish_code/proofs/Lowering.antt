@@ -156,7 +156,7 @@ module _ (program : Program) where
       numbers (Ok n) = refl
       numbers (Err n) = refl
 
-  remembered_same : (m : Memory) (j : Job Position) → Same (remembered m (low j)) (remembered m j)
+  pub remembered_same : (m : Memory) (j : Job Position) → Same (remembered m (low j)) (remembered m j)
   remembered_same m j = if_same _ _ _ _ _ refl refl
 
   pub stored_same : (x : Name) (v : Value) (j : Job Position) → Same (stored x v (low j)) (stored x v j)

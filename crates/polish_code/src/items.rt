@@ -2,7 +2,7 @@
 
 use basic_tree::{Function, Name, Operator, Relation, Series};
 use basic_values::Text;
-use program_model::{FileAct, Home};
+use program_model::{FileAct, Home, MatrixAct};
 use record_fields::Side;
 use virtual_arrays::VirtualShape;
 
@@ -144,6 +144,8 @@ pub enum Item {
     },
     /// What a statement on files does, by the values of its operands, which it takes off the stack.
     Ask(FileAct),
+    /// What a statement of MAT does; the number that an array is multiplied with it takes off the stack.
+    Matrix(MatrixAct),
     /// Out of the body of a function.
     Leave,
 }

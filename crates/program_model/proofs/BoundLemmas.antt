@@ -3,7 +3,7 @@ use Rattle.std.proofs.Common.{ℕ, zero, suc, ◌<◌, ◌≤◌, List, [], ◌�
 use Rattle.std.specs.Prelude.{nat_lt, Bool, true, false, map, ◌++◌, ℤ, is_some}
 use Rattle.basic_values.specs.declared.failures.Halt.TheVariants.{TooDeep}
 use Rattle.basic_tree.specs.declared.names.Name.{Name}
-use Rattle.basic_tree.specs.Trees.{Tree, Literal, Quoted, Variable, Element, FunctionOf, Call, Parenthesized, Negative, Positive, Not, Operation, Comparison, Trees, NoTrees, AndTrees, PrintedTree, Value as ValueOf, Tab, PrintItemTree, ModifierTree, If, Unless, While, Until, ForModifier, StatementTree, IfThen, IfGoto, Modified, For, Def, Let, Result as ResultOf, Print, PrintUsing, Input, InputLine, Read, OnGoto, OnGosub, Chain, Field, Lset, Rset, UsingItemTree, Sleep, Open, Close, Get, Put, Unlock, Kill, Rename, CloseChannelTree}
+use Rattle.basic_tree.specs.Trees.{Tree, Literal, Quoted, Variable, Element, FunctionOf, Call, Parenthesized, Negative, Positive, Not, Operation, Comparison, Trees, NoTrees, AndTrees, PrintedTree, Value as ValueOf, Tab, PrintItemTree, ModifierTree, If, Unless, While, Until, ForModifier, StatementTree, IfThen, IfGoto, Modified, For, Def, Let, Result as ResultOf, Print, PrintUsing, Input, InputLine, Read, OnGoto, OnGosub, Chain, Field, Lset, Rset, UsingItemTree, Sleep, Open, Close, Get, Put, Unlock, Kill, Rename, MatLet, CloseChannelTree}
 use Rattle.job_model.specs.Act.{Act, Gives, Breaks, Asks, Takes, ◌then◌, Faulted, Halted}
 use Rattle.program_model.specs.Program.{Program, Position, Way, whole, statement_at, inner_at, line_start, parameters_of, def_of, items_of}
 use Rattle.record_fields.specs.declared.writing.Side.{Side}
@@ -30,6 +30,7 @@ use Rattle.program_model.specs.Storage.{stores_by}
 use Rattle.program_model.specs.FileActs.{act_by}
 use Rattle.program_model.specs.FileStatements.{or_zero, in_order, acts_by, kind_for, close_each}
 use Rattle.program_model.specs.Chaining.{line_operand}
+use Rattle.program_model.specs.Parts.{matrix_expressions}
 use Rattle.program_model.specs.Statements.{modified, file_act, does}
 use Rattle.program_model.specs.Running.{Coming, Begin, Value_of, Out, reached_behind, reached, begun, one_line, out_or_at, body_at_def, calls_of, handler, ends_closed, runs, dimension_program, begins_with, runs_open, runs_cleared, raises_open, raises}
 use Rattle.program_model.specs.Bounds.{Alike, gives, breaks, asks, spent, takes, BoundsAreEnough, BoundsAreEnoughFrom}
@@ -245,6 +246,7 @@ module _ (program : Program) (n : ℕ) (call call' : Name → List Value → Job
   does_alike k le q (Unlock e) j = file_alike k le q file.Unlock (e ∷ []) j
   does_alike k le q (Kill e) j = file_alike k le q file.Kill (e ∷ []) j
   does_alike k le q (Rename old new) j = file_alike k le q file.Rename (old ∷ new ∷ []) j
+  does_alike k le q (MatLet target value) j = and_then k _ _ _ _ (and_then k _ _ _ _ (values_alike k le (in_order (matrix_expressions value)) j) (λ l vs j less. same l _)) (λ l _ j less. gives)
   does_alike k le q _ j = same k _
 
   reached_alike : (k : ℕ) → k ≤ n → (o : Onward) (j : Job Position) → Alike k (reached c program o j) (reached c' program o j)

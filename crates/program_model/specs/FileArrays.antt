@@ -1,12 +1,11 @@
 -- The arrays in files that the DIM # statements of a program declare.
-use Rattle.std.specs.Prelude.{ℕ, ◌+◌, ◌-◌, ◌*◌, ◌/◌, min, if◌then◌else◌, List, [], ◌∷◌, find, Option, Some, None, pos}
+use Rattle.std.specs.Prelude.{ℕ, ◌+◌, ◌-◌, ◌*◌, ◌/◌, min, if◌then◌else◌, List, [], ◌∷◌, find, Option, pos}
 use Rattle.std.specs.List.{flat_map}
 use Rattle.std.specs.Option.{unwrap_or}
 use Rattle.basic_values.specs.Numbers.{wrap}
 use Rattle.basic_values.specs.declared.limits.TheConstants.{BLOCK_BYTES, MOST_BLOCKS}
 use Rattle.basic_tree.specs.declared.names.Name.{Name}
 use Rattle.basic_tree.specs.declared.parts.FileShape.{FileShape}
-use Rattle.basic_tree.specs.declared.parts.Shape.{Shape}
 use Rattle.basic_tree.specs.Trees.{StatementTree, DimFile}
 use Rattle.job_memory.specs.Names.{at_name}
 use Rattle.record_fields.specs.Bounds.{count}

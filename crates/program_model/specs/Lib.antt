@@ -21,6 +21,7 @@ pub mod Justified
 pub mod Printing
 pub mod PrintingOnChannels
 pub mod Input
+pub mod MatrixStatements
 pub mod Calls
 pub mod Traps
 pub mod Statements

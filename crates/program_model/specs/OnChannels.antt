@@ -1,5 +1,5 @@
 -- Channels as PRINT #, INPUT # and POS know them: 0 is the terminal.
-use Rattle.std.specs.Prelude.{ℕ, zero, suc, Bool, true, false, if◌then◌else◌, Option, Result, Ok, ℤ, pos, negsuc}
+use Rattle.std.specs.Prelude.{ℕ, zero, suc, Bool, true, false, if◌then◌else◌, Result, Ok, ℤ, pos, negsuc}
 use Rattle.std.specs.Option.{unwrap_or}
 use Rattle.channels.specs.Files.{shown_count, channel_column}
 use Rattle.record_fields.specs.Layouts.{natural}

@@ -1,8 +1,8 @@
 -- PRINT # and PRINT USING: each writing goes to the channel whose number stands in front, and 0 is the terminal.
-use Rattle.std.specs.Prelude.{ℕ, Bool, if◌then◌else◌, List, [], ◌∷◌, map, Option, Some, None, Result, Ok, Err, ℤ, is_some}
+use Rattle.std.specs.Prelude.{ℕ, Bool, if◌then◌else◌, List, [], ◌∷◌, map, Option, Some, None, Result, ℤ, is_some}
 use Rattle.basic_tree.specs.declared.parts.Separator.{Separator}
 use Rattle.basic_tree.specs.declared.parts.Separator.TheVariants.{Comma, Semicolon}
-use Rattle.basic_tree.specs.Trees.{Tree, Literal, Trees, PrintedTree, Value, Tab, PrintItemTree, UsingItemTree}
+use Rattle.basic_tree.specs.Trees.{Tree, Literal, PrintedTree, Value, Tab, PrintItemTree, UsingItemTree}
 use Rattle.channels.specs.TextOut.{writes_text}
 use Rattle.job_model.specs.Act.{Gives, ◌then◌, on}
 use Rattle.job_model.specs.Texts.{line_end}

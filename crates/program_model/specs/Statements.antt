@@ -24,6 +24,10 @@ use Rattle.program_model.specs.Storage.{stores_by}
 use Rattle.program_model.specs.FileActs.{shut_act}
 use Rattle.program_model.specs.FileStatements.{or_zero, acts_by, kind_for, close_each}
 use Rattle.program_model.specs.Chaining.{line_operand, chained}
+use Rattle.program_model.specs.declared.matrix_acts.MatrixAct.{MatrixAct}
+use Rattle.program_model.specs.declared.matrix_acts.MatrixAct.TheVariants as mat
+use Rattle.program_model.specs.MatrixStatements.{form_of, matrix_acts_by}
+use Rattle.program_model.specs.Parts.{matrix_expressions}
 
 abbrev pub goes_to : Onward → Job Position → Doing Onward
 goes_to o j = Gives o j
@@ -65,9 +69,9 @@ modified around program q (ForModifier variable from to step) j =
 abbrev pub file_act : Around Position → Position → FileAct → List Tree → Job Position → Doing Onward
 file_act around q act operands j = acts_by around act operands j then λ _. goes_on q
 
--- a form of a later stage leads on: no line with one runs yet
-abbrev pub of_later_stage : Position → Job Position → Doing Onward
-of_later_stage q j = goes_on q j
+-- a statement of MAT, and what it does with whole arrays
+abbrev pub on_matrices : Around Position → Program → Position → MatrixAct → List Tree → Job Position → Doing Onward
+on_matrices around program q act operands j = matrix_acts_by around (items_of program) act operands j then λ _. goes_on q
 
 -- each form has its row
 abbrev pub does : Around Position → Program → Position → StatementTree → Job Position → Doing Onward
@@ -125,6 +129,7 @@ does around program q (Lset variable e) j = justifies_by around Left variable e 
 does around program q (Rset variable e) j = justifies_by around Right variable e j then λ _ j. goes_on q j
 does around program q (Kill e) j = file_act around q file.Kill (e ∷ []) j
 does around program q (Rename old new) j = file_act around q file.Rename (old ∷ new ∷ []) j
-does around program q (MatRead matrices) j = of_later_stage q j
-does around program q (MatPrint matrix separator) j = of_later_stage q j
-does around program q (MatLet target value) j = of_later_stage q j
+does around program q (MatRead matrices) j = on_matrices around program q (mat.Read matrices) [] j
+does around program q (MatPrint matrix separator) j = on_matrices around program q (mat.Print matrix separator) [] j
+does around program q (MatLet target value) j =
+    on_matrices around program q (mat.Assign target (form_of value)) (matrix_expressions value) j

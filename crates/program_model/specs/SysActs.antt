@@ -10,7 +10,7 @@ use Rattle.sys_calls.specs.CallFronts.{call_in}
 use Rattle.sys_calls.specs.Table.{told_by_sys}
 use Rattle.sys_calls.specs.declared.calls.SysCall.{SysCall}
 use Rattle.sys_calls.specs.declared.calls.SysCall.TheVariants.{ReadCommon, WriteCommon, ErrorText, Ask}
-use Rattle.program_model.specs.Storage.{Storage, StorageAct}
+use Rattle.program_model.specs.Storage.{StorageAct}
 
 -- a refusal is a fault, an answer is told as a text
 abbrev pub text_by : Reply → ReplyAct (List ℕ)

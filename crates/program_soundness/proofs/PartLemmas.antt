@@ -2,12 +2,13 @@
 use Rattle.std.proofs.Common.{◌≡◌, Bool, true, false, ◌||◌, List, [], ◌∷◌, ◌++◌, refl, sym, ap, ◌∙◌}
 use Rattle.std.specs.List.{flat_map, list_any}
 use Rattle.basic_tree.specs.Trees.{Tree, StatementTree}
+use Rattle.program_model.specs.MatrixStatements.{matrices_by}
 use Rattle.program_model.specs.Parts.{calls_in, calls_made_in, simple_in, lines_named_by, lines_named_in}
 use Rattle.program_model.specs.Soundness.{handles_errors, is_for_programs, results_by}
 use Rattle.statement_walk.specs.Walk.{StatementPart, Simple, Expression, Loop, simple_by, expression_by, parts_in, visited}
 use Rattle.statement_walk.proofs.PartLaws.{simple_parts, expression_parts, collected}
 use Rattle.program_soundness.specs.declared.parts.Sorts.{Sorts}
-use Rattle.program_soundness.specs.Parts.{calls_by, lines_by, results_of, is_handler, is_of_programs}
+use Rattle.program_soundness.specs.Parts.{calls_by, lines_by, results_of, matrices_at, is_handler, is_of_programs}
 
 -- COLLECTED
 
@@ -39,6 +40,12 @@ results_are s =
     collected results_of [] (parts_in s)
     ∙ by_statements results_by results_of (λ s. refl) (λ e. refl) refl (parts_in s)
     ∙ ap (λ ss. flat_map results_by ss) (simple_parts s)
+
+pub matrices_are : (s : StatementTree) → visited (λ names part. names ++ matrices_at part) [] (parts_in s) ≡ flat_map matrices_by (simple_in s)
+matrices_are s =
+    collected matrices_at [] (parts_in s)
+    ∙ by_statements matrices_by matrices_at (λ s. refl) (λ e. refl) refl (parts_in s)
+    ∙ ap (λ ss. flat_map matrices_by ss) (simple_parts s)
 
 -- SORTS
 

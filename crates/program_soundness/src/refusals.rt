@@ -4,7 +4,8 @@ ghost use Rattle.std.specs.Prelude.{◌≡◌, ◌&&◌, not, is_some, map, take
 ghost use Rattle.std.specs.List.{flat_map, list_any};
 ghost use Rattle.basic_tree.specs.StatementViews.{statement_of};
 ghost use Rattle.program_model.specs.Program.{body_at, statements_of};
-ghost use Rattle.program_model.specs.Soundness.{can_begin, has_line, handles_errors, is_in_body, goes_across, is_open_for, is_stray_next, is_open_def, is_stray_fnend, is_second_def, is_body_of, results_by, has_stray_result, is_undefined, is_unfit, arrays_in, any_again, stands, stands_in, first_cause, refusal_of, is_refused_now};
+ghost use Rattle.program_model.specs.Soundness.{can_begin, has_line, handles_errors, is_in_body, goes_across, is_open_for, is_stray_next, is_open_def, is_stray_fnend, is_second_def, is_body_of, results_by, has_stray_result, is_undefined, is_unfit, arrays_in, any_again, is_file_array, stands, stands_in, first_cause, refusal_of, is_refused_now};
+ghost use Rattle.program_model.specs.MatrixStatements.{matrices_by};
 ghost use Rattle.program_model.specs.Parts.{simple_in, lines_named_in, calls_made_in};
 ghost use Rattle.program_soundness.specs.Listings.{text_of};
 ghost use Rattle.program_soundness.specs.Parts.{call_seen, calls_seen};
@@ -15,7 +16,7 @@ use crate::calls::{Called, calls_made};
 use crate::dims::{add_arrays, any_again};
 use crate::kinds::fits;
 use crate::listing::Listing;
-use crate::parts::{lines_named, results_in, sorts_of};
+use crate::parts::{lines_named, matrices_in, results_in, sorts_of};
 use crate::tables::Tables;
 use crate::texts::{further, lines_in};
 use basic_tree::{Name, Program, Statement};
@@ -24,7 +25,7 @@ use program_model::{LowerCause, LowerRefusal};
 use std::alloc::Global;
 
 /// In the order in which those of one line are told.
-const CAUSES: [LowerCause; 11] = [
+const CAUSES: [LowerCause; 12] = [
     LowerCause::NoLine,
     LowerCause::OpenFor,
     LowerCause::StrayNext,
@@ -36,6 +37,7 @@ const CAUSES: [LowerCause; 11] = [
     LowerCause::Arguments,
     LowerCause::DoubleDim,
     LowerCause::StrayResult,
+    LowerCause::MatFile,
 ];
 
 /// The least line that is refused, and its first cause.
@@ -128,6 +130,7 @@ fn stands(
         LowerCause::Arguments => calls_unfit(alloc, listing, statement),
         LowerCause::DoubleDim => dimensions_again(alloc, listing, m, statement),
         LowerCause::StrayResult => has_stray_result(alloc, listing, m, statement),
+        LowerCause::MatFile => names_file_array(alloc, tables, statement),
         LowerCause::Immediate => Ok(false),
     }
 }
@@ -401,6 +404,34 @@ fn dimensions_again(
     }
     let before = listing.arrays_before(alloc, m)?;
     Ok(any_again(&before, &names))
+}
+
+// MAT
+
+/// Whether a statement of MAT names an array in a file.
+fn names_file_array(
+    alloc: Global,
+    tables: &Tables<'_>,
+    statement: &Statement,
+) -> Result<bool, NoMemory>
+    ensures { IfOk result (λ answer. answer
+        ≡ list_any (is_file_array (text_of tables.now)) (flat_map matrices_by
+        (simple_in (statement_of statement.now)))) }
+{
+    let names = matrices_in(alloc, statement)?;
+    Ok(any_file_array(tables, &names))
+}
+
+fn any_file_array(tables: &Tables<'_>, names: &[Name]) -> bool
+    ensures { result ≡ list_any (is_file_array (text_of tables.now)) names.now }
+{
+    names.iter().any(|name| is_file_array(tables, *name))
+}
+
+fn is_file_array(tables: &Tables<'_>, name: Name) -> bool
+    ensures { result ≡ is_file_array (text_of tables.now) name }
+{
+    tables.array(name).is_some()
 }
 
 // Immediate mode
