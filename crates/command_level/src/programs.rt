@@ -23,7 +23,7 @@ ghost use Rattle.command_level.specs.Standing.{Serves, Stands, low_session};
 use crate::chains::{Reached, none_ran, ran_to};
 use crate::filing::{is_blank_text, program_on, spec_read};
 use crate::judging::{cause_text, refusal_text, tree_of};
-use crate::session::{AfterLine, ILLEGAL_COMMAND, NOT_IN_STAGE, Session};
+use crate::session::{AfterLine, ILLEGAL_COMMAND, Session};
 use basic_interpreter::{
     Clock, Exit, Stop, clear, continue_program, run_line, run_program, write_ending,
 };
@@ -38,7 +38,6 @@ use polish_code::Code;
 use program_files::read_pages;
 use program_model::{LowerCause, LowerRefusal};
 use program_soundness::can_begin;
-use stage_forms::is_in_stage;
 use std::alloc::Global;
 
 /// The answer to CONT where no STOP is kept.
@@ -287,9 +286,6 @@ impl Session {
             → Serves P.who P.log port.old port.new clock.old clock.new
             (λ most. does_line judge_of (line_of line.now) most s) self.new result }
     {
-        if !is_in_stage(line) {
-            return self.answer(NOT_IN_STAGE);
-        }
         let loops = loops_in_line(alloc, line)?;
         match lower_now(alloc, line) {
             Ok(code) => {

@@ -36,9 +36,6 @@ use record_fields::Buffers;
 use std::alloc::Global;
 use terminal_line::{Keys, Screen};
 
-/// The answer to what a later stage does.
-pub(crate) const NOT_IN_STAGE: &[u8] = b"?Not in this stage\r\n";
-
 /// The answer to a command with a wrong tail.
 pub(crate) const ILLEGAL_COMMAND: &[u8] = b"?Illegal command\r\n";
 

@@ -22,7 +22,7 @@ use Rattle.std.proofs.lemmas.List.Splits.{slice_split_at}
 use Rattle.std.proofs.lemmas.Str.Parse.{digit_at}
 use Rattle.basic_values.specs.declared.limits.TheConstants.{MOST_LINES, MOST_NUMBER}
 use Rattle.basic_tree.specs.ProgramLines.{Lines, is_within, within, listed, listing, stored}
-use Rattle.line_editor.specs.Lines.{IsNumber, IsProgramLine, IsProgram, IsOfStage}
+use Rattle.line_editor.specs.Lines.{IsNumber, IsProgramLine, IsProgram, SpellsLine}
 use Rattle.line_editor.specs.Edits.{IsStorable}
 use Rattle.basic_tree.specs.FileLines.{is_written, is_line_feed, file_text, file_lines, lines_between, without_return}
 use Rattle.line_editor.specs.Files.{IsPaged, is_plain, IsKept, kept, AreKept, IsFileOf, ArePlain}
@@ -73,11 +73,11 @@ each_passes : (p : ℕ → Bool) (text : List ℕ) → list_all p text ≡ true 
 each_passes p [] all = tt
 each_passes p (byte ∷ text) all = ((and_split (p byte) (list_all p text) all).0, each_passes p text (and_split (p byte) (list_all p text) all).1)
 
-not_first_by : (byte : ℕ) (bytes : List ℕ) (b : Bool) → is_ascii_digit byte ≡ b → IsOfStage (byte ∷ bytes) → prefix_len is_ascii_digit (byte ∷ bytes) ≡ 0
+not_first_by : (byte : ℕ) (bytes : List ℕ) (b : Bool) → is_ascii_digit byte ≡ b → SpellsLine (byte ∷ bytes) → prefix_len is_ascii_digit (byte ∷ bytes) ≡ 0
 not_first_by byte bytes true is spelled = absurd (no_digit_first byte bytes spelled.0 is spelled.1)
 not_first_by byte bytes false is spelled = rw is refl
 
-not_first : (rest : List ℕ) → IsOfStage rest → prefix_len is_ascii_digit rest ≡ 0
+not_first : (rest : List ℕ) → SpellsLine rest → prefix_len is_ascii_digit rest ≡ 0
 not_first [] spelled = refl
 not_first (byte ∷ bytes) spelled = not_first_by byte bytes (is_ascii_digit byte) refl spelled
 
@@ -93,7 +93,7 @@ take_front front back = take-append-le (length front) front back (omega arith) �
 
 count_of : (line : ℕ × List ℕ) → IsProgramLine line → digits_of (joined line) ≡ length (decimal line.0)
 count_of line is =
-    front_len is_ascii_digit (decimal line.0) line.1 (each_passes is_ascii_digit (decimal line.0) (digits_pass (decimal line.0) (decimal_is_IsNumeral line.0 (small line.0 is.number.high)).0.1)) (not_first line.1 is.of_stage)
+    front_len is_ascii_digit (decimal line.0) line.1 (each_passes is_ascii_digit (decimal line.0) (digits_pass (decimal line.0) (decimal_is_IsNumeral line.0 (small line.0 is.number.high)).0.1)) (not_first line.1 is.spelled)
 
 numbered : (line : ℕ × List ℕ) → IsProgramLine line → IsNumbered line
 numbered line is =
@@ -215,7 +215,7 @@ kept_here line front is few =
       n.some,
       subst (λ (k : ℕ). IsStorable k (rest_of (joined line)) front) (sym n.number)
           (subst (λ (r : List ℕ). IsStorable line.0 r front) (sym n.rest)
-          (record { numbered = is.number; fits = is.fits; of_stage = is.of_stage; room = inr few })),
+          (record { numbered = is.number; fits = is.fits; spelled = is.spelled; room = inr few })),
     )
 
 kept_as : (line : ℕ × List ℕ) (front : Lines) → IsProgramLine line → kept (joined line) front ≡ stored line.0 line.1 front

@@ -4,10 +4,10 @@ use Rattle.basic_values.specs.declared.failures.Trouble.{Trouble}
 use Rattle.basic_values.specs.declared.failures.Trouble.TheVariants.{Refused, NoMemory}
 use Rattle.basic_tree.specs.LineVerdicts.{Refuses}
 use Rattle.line_editor.specs.declared.text.EditRefusal.{EditRefusal}
-use Rattle.line_editor.specs.declared.text.EditRefusal.TheVariants.{Number, TooLong, Line, Later, TooMany}
+use Rattle.line_editor.specs.declared.text.EditRefusal.TheVariants.{Number, TooLong, Line, TooMany}
 use Rattle.basic_values.specs.declared.limits.TheConstants.{MOST_LINES}
 use Rattle.basic_tree.specs.ProgramLines.{Lines, line, stored, removed}
-use Rattle.line_editor.specs.Lines.{IsNumber, Fits, IsOfStage, IsLater}
+use Rattle.line_editor.specs.Lines.{IsNumber, Fits, SpellsLine}
 
 -- the line is there already, or there are few enough for one more
 abbrev pub HasRoom : ℕ → Lines → Type 0
@@ -17,7 +17,7 @@ HasRoom number lines = IsSome (line number lines) ⊎ (length lines < MOST_LINES
 pub record IsStorable (number : ℕ) (rest : List ℕ) (lines : Lines) : Type 0 where
   pub numbered : IsNumber number
   pub fits : Fits number rest
-  pub of_stage : IsOfStage rest
+  pub spelled : SpellsLine rest
   pub room : HasRoom number lines
 
 -- why it is refused: the first of these causes that there is
@@ -25,9 +25,8 @@ abbrev pub RefusesFor : ℕ → List ℕ → Lines → EditRefusal → Type 0
 RefusesFor number rest lines Number = ¬ (IsNumber number)
 RefusesFor number rest lines TooLong = IsNumber number × ¬ (Fits number rest)
 RefusesFor number rest lines (Line refusal) = IsNumber number × Fits number rest × Refuses rest refusal
-RefusesFor number rest lines Later = IsNumber number × Fits number rest × IsLater rest
 RefusesFor number rest lines TooMany =
-    IsNumber number × Fits number rest × IsOfStage rest × ¬ (HasRoom number lines)
+    IsNumber number × Fits number rest × SpellsLine rest × ¬ (HasRoom number lines)
 
 -- The line is stored exactly where it can be, and what is refused changes nothing.
 abbrev pub Keeps : ℕ → List ℕ → Lines → Lines → Result Unit (Trouble EditRefusal) → Type 0

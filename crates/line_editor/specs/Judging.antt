@@ -5,15 +5,14 @@ use Rattle.basic_values.specs.declared.failures.Trouble.TheVariants.{Refused, No
 use Rattle.basic_tree.specs.declared.programs.Line.{Line as Tree}
 use Rattle.basic_tree.specs.LineVerdicts.{Refuses}
 use Rattle.line_editor.specs.declared.text.EditRefusal.{EditRefusal}
-use Rattle.line_editor.specs.declared.text.EditRefusal.TheVariants.{Number, TooLong, Line, Later, TooMany}
-use Rattle.line_editor.specs.Lines.{IsNumber, Fits, IsOfStage, IsLater, IsTreeOf}
+use Rattle.line_editor.specs.declared.text.EditRefusal.TheVariants.{Number, TooLong, Line, TooMany}
+use Rattle.line_editor.specs.Lines.{IsNumber, Fits, SpellsLine, IsTreeOf}
 
 abbrev pub IsEditVerdict : ℕ → List ℕ → Result Tree (Trouble EditRefusal) → Type 0
 IsEditVerdict number rest (Ok tree) =
-    IsNumber number × Fits number rest × IsOfStage rest × IsTreeOf rest tree
+    IsNumber number × Fits number rest × SpellsLine rest × IsTreeOf rest tree
 IsEditVerdict number rest (Err (Refused Number)) = ¬ (IsNumber number)
 IsEditVerdict number rest (Err (Refused TooLong)) = IsNumber number × ¬ (Fits number rest)
 IsEditVerdict number rest (Err (Refused (Line refusal))) = IsNumber number × Fits number rest × Refuses rest refusal
-IsEditVerdict number rest (Err (Refused Later)) = IsNumber number × Fits number rest × IsLater rest
 IsEditVerdict number rest (Err (Refused TooMany)) = ⊥
 IsEditVerdict number rest (Err NoMemory) = Unit {0}

@@ -1,5 +1,5 @@
 -- Which lines are those of a program, and their trees.
-use Rattle.std.specs.Prelude.{◌≡◌, ℕ, ◌+◌, ◌≤◌, true, false, List, [], ◌∷◌, length}
+use Rattle.std.specs.Prelude.{◌≡◌, ℕ, ◌+◌, ◌≤◌, List, [], ◌∷◌, length}
 use Rattle.std.specs.Fmt.{decimal}
 use Rattle.std.specs.List.{AllByRecursion}
 use Rattle.std.specs.List.Sorted.{IsStrictlySortedBy}
@@ -13,7 +13,6 @@ use Rattle.basic_tree.specs.ProgramLines.{Lines}
 use Rattle.basic_tree.specs.SpellingStatements.{line_statements}
 use Rattle.basic_tree.specs.StatementViews.{line_of}
 use Rattle.basic_tree.specs.Trees.{LineTree}
-use Rattle.stage_forms.specs.Stage.{are_in_stage}
 
 -- WHICH LINES ARE A PROGRAM'S
 
@@ -25,18 +24,14 @@ pub record IsNumber (number : ℕ) : Type 0 where
 abbrev pub Fits : ℕ → List ℕ → Type 0
 Fits number rest = length (decimal number) + length rest ≤ LINE_LENGTH
 
--- what stands behind a number spells a line, and its statements are of this stage
-abbrev pub IsOfStage : List ℕ → Type 0
-IsOfStage rest = (l : LineTree) × Spells rest l × (are_in_stage (line_statements l) ≡ true)
-
--- it spells a line, and some statement is of a later stage
-abbrev pub IsLater : List ℕ → Type 0
-IsLater rest = (l : LineTree) × Spells rest l × (are_in_stage (line_statements l) ≡ false)
+-- what stands behind a number spells a line
+abbrev pub SpellsLine : List ℕ → Type 0
+SpellsLine rest = (l : LineTree) × Spells rest l
 
 pub record IsProgramLine (line : ℕ × List ℕ) : Type 0 where
   pub number : IsNumber line.0
   pub fits : Fits line.0 line.1
-  pub of_stage : IsOfStage line.1
+  pub spelled : SpellsLine line.1
 
 pub record IsProgram (lines : Lines) : Type 0 where
   pub ordered : IsStrictlySortedBy nat_cmp (keys_of lines)

@@ -3,8 +3,8 @@
 //! `ProgramText` is seen as the list of its lines in order, each with the bytes behind its number.
 //! `put_line` and `delete` carry what is changed and what is refused, `list` which bytes are
 //! listed, `program` that the trees are those that the bytes spell, `to_file` and `from_file` that
-//! a file is read as it was written. It stands on `basic_line`, which reads the lines, on
-//! `stage_forms`, which says whether they are of this stage, and on `monitor_calls` for pages.
+//! a file is read as it was written. It stands on `basic_line`, which reads the lines, and on
+//! `monitor_calls` for pages.
 #![tactic(auto)]
 
 mod files;

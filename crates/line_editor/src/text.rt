@@ -15,7 +15,6 @@ use basic_tree::{Line, Program, Refusal};
 use basic_values::limits::{MOST_LINES, MOST_NUMBER};
 use basic_values::{LINE_LENGTH, NoMemory, Text2, Trouble};
 use itoa::Buffer;
-use stage_forms::is_in_stage;
 use std::alloc::Global;
 use std::collections::BTreeMap;
 use std::marker::Model;
@@ -29,8 +28,6 @@ pub enum EditRefusal {
     TooLong,
     /// What stands behind the number spells no line. Places are counted behind it.
     Line(Refusal),
-    /// A statement in it is of a later stage.
-    Later,
     /// It is a new line beside 1,000 others.
     TooMany,
 }
@@ -201,11 +198,7 @@ fn judged(alloc: Global, number: u16, rest: &[u8]) -> Result<Line, Trouble<EditR
         return Err(Trouble::Refused(EditRefusal::TooLong));
     }
     match read_line(alloc, rest) {
-        Ok(line) => if is_in_stage(&line) {
-            Ok(line)
-        } else {
-            Err(Trouble::Refused(EditRefusal::Later))
-        },
+        Ok(line) => Ok(line),
         Err(Trouble::Refused(refusal)) => Err(Trouble::Refused(EditRefusal::Line(refusal))),
         Err(Trouble::NoMemory) => Err(Trouble::NoMemory),
     }

@@ -1,6 +1,5 @@
 //! Tests of programs by public calls alone: their text and its file, how lowering refuses a program and what code it makes,
-//! the run of items by hand over a port that plays a script, the ways into a program, and which
-//! lines are of the stage.
+//! the run of items by hand over a port that plays a script, and the ways into a program.
 #![tactic(auto)]
 
 #[cfg(test)]
@@ -15,8 +14,6 @@ mod edits;
 mod endings;
 #[cfg(test)]
 mod files;
-#[cfg(test)]
-mod forms;
 #[cfg(test)]
 mod read;
 #[cfg(test)]

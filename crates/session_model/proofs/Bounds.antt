@@ -23,13 +23,12 @@ use Rattle.program_model.specs.Running.{Coming, runs_cleared, raises, continues_
 use Rattle.program_model.specs.Soundness.{can_begin, refusal_of, refusal_now}
 use Rattle.program_model.proofs.BoundLemmas.{same, and_then, ends_closed_alike, bounds_enough_from, cleared_enough, raises_enough}
 use Rattle.program_model.proofs.ChainLemmas.{SpendsFirst, cleared_spends, raises_spend}
-use Rattle.stage_forms.specs.Stage.{are_in_stage}
 use Rattle.file_names.specs.declared.spec.Spec.{Spec}
 use Rattle.basic_tree.specs.ProgramLines.{Lines}
 use Rattle.program_files.specs.Programs.{reads_pages}
 use Rattle.session_model.specs.ProgramFiles.{spec_read, is_blank_text, program_on}
 use Rattle.session_model.specs.Commands.{Command, Run, RunFile, Continue, Immediate, command_of}
-use Rattle.session_model.specs.Texts.{not_in_stage, illegal_command}
+use Rattle.session_model.specs.Texts.{illegal_command}
 use Rattle.session_model.specs.Talk.{Session, Step, answered, says, keys_are, outlived, with_job, reported, run_is_over, Runner, in_session, runs_there, runs_unless, begun, runs, with_storage, chains_to, unread, reads_program, follows_chain, behind_end, run_to, ends_run, runs_chained, runs_all, goes_on, line_ended, line_unless, immediate, program_by, headed, tried, by_name, loaded, runs_loaded, reads_and_runs, user_acts, acts, line_acts, with_next, session}
 
 in_session_alike : {R A : Type 0} (n : ℕ) (ended other : Break (program.Leaving R) → Job R → Step R) (s : Session R) (m m' : program.Deed R A) → ((k : ℕ) (why : Break (program.Leaving R)) (j : Job R) → k ≤ n → Alike k (ended why j) (other why j)) → Alike n m m' → Alike n (in_session ended s m) (in_session other s m')
@@ -197,14 +196,9 @@ module _ (judge : Judge) (n most more : ℕ) (less : n < most) (less' : n < more
       in_session_alike n (line_ended judge most s) (line_ended judge more s) s _ _ (λ k why j le. line_ended_alike judge most more k s why j (omega (arith, le, less)) (omega (arith, le, less')))
       (over_alike n (λ way. way) (together s.job) _ _ (bounds_enough_from alone most more n (At (whole 0)) (apart alone s.job) less less'))
 
-  line_alike : (b : Bool) (statements : List StatementTree) (m : Step Position) (s : Session Position)
-      → Alike n (if b then line_unless judge (refusal_now statements) statements most s else m) (if b then line_unless judge (refusal_now statements) statements more s else m)
-  line_alike true statements m s = now_alike (refusal_now statements) statements s
-  line_alike false statements m s = same n m
-
   immediate_alike : (verdict : Verdict) (s : Session Position) → Alike n (immediate judge verdict most s) (immediate judge verdict more s)
   immediate_alike (RefusedFor cause) s = same n _
-  immediate_alike (HasTree tree) s = line_alike (are_in_stage (line_statements tree)) (line_statements tree) (answered not_in_stage s) s
+  immediate_alike (HasTree tree) s = now_alike (refusal_now (line_statements tree)) (line_statements tree) s
 
   runs_loaded_alike : (name : List ℕ) (o : Option Lines) (s : Session Position) → Alike n (runs_loaded judge most name o s) (runs_loaded judge more name o s)
   runs_loaded_alike name None s = same n _

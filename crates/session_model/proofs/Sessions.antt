@@ -26,11 +26,9 @@ use Rattle.program_model.specs.Storage.{in_storage}
 use Rattle.program_model.specs.FileActs.{shut_act}
 use Rattle.program_model.specs.Running.{Coming, raises}
 use Rattle.program_model.specs.Soundness.{can_begin, refusal_of, refusal_now}
-use Rattle.stage_forms.specs.Stage.{are_in_stage}
 use Rattle.session_model.specs.Commands.{Login, Naming, Nameless, Named, Misnamed, Range, Command, Hello, Bye, New, Rename, ListLines, Delete, Run, RunFile, Continue, Old, Save, Unsave, Catalog, Cataloging, OfOwn, OfAccount, OfNone, Numbered, Immediate, command_of}
 use Rattle.session_model.specs.Editing.{Edited, Accepted, Refused, edited}
 use Rattle.session_model.specs.ProgramFiles.{spec_read, spec_or_own, is_blank_text, saved_pages, program_on}
-use Rattle.session_model.specs.Texts.{not_in_stage}
 use Rattle.session_model.specs.Talk.{Session, Step, answered, says, keys_are, entered, hello, leave, no_name, named, emptied, begins_new, renames, headed, lists, deletes, takes_edit, broken_off, tried, with_storage, shut_down, by_name, with_name_of, loaded, loads, reads_old, old, saves_as, saves, kills_file, unsaves, with_screen, catalogs_of, catalogs, rests, runs_loaded, reads_and_runs, runs_file, program_by, outlived, with_job, reported, Runner, in_session, run_is_over, runs_there, runs_unless, runs_shut, begun, runs, chains_to, unread, reads_program, follows_chain, behind_end, run_to, ends_run, runs_chained, runs_all, goes_on, line_ended, line_unless, immediate, visitor_acts, user_acts, acts, line_acts, with_next, session, opening}
 use Rattle.job_model.specs.Texts.{line_end}
 use Rattle.job_model.specs.Follow.{Path, here, asked, quiet, tick, gone}
@@ -245,7 +243,7 @@ module _ (n : ℕ) (judge : Judge) where
   immediate_keeps : (verdict : Verdict) (most : ℕ) (s : Session Position) → Fewer n s.job → Keeps n (immediate judge verdict most s)
   immediate_keeps (RefusedFor cause) most s h = h
   immediate_keeps (HasTree tree) most s h =
-      if_keeps (are_in_stage (line_statements tree)) (line_unless judge (refusal_now (line_statements tree)) (line_statements tree) most s) (answered not_in_stage s) (now_keeps (refusal_now (line_statements tree)) (line_statements tree) most s h) h
+      now_keeps (refusal_now (line_statements tree)) (line_statements tree) most s h
 
   runs_loaded_keeps : (most : ℕ) (name : List ℕ) (o : Option Lines) (s : Session Position) → Fewer n s.job → Keeps n (runs_loaded judge most name o s)
   runs_loaded_keeps most name None s h = h

@@ -41,6 +41,8 @@ use Rattle.program_model.specs.Items.{items_in_line, item_value}
 use Rattle.program_model.specs.Variables.{held, element, second, content_of, remembered, stored, stored_at, dimensioned}
 use Rattle.program_model.specs.Storage.{Storage, StorageAct, in_storage, stores_by}
 use Rattle.program_model.specs.FileActs.{act_by, shut_act}
+use Rattle.program_model.specs.MatrixStatements.{matrix_act}
+use Rattle.program_model.proofs.MatrixLemmas.{matrix_ends}
 use Rattle.program_model.specs.Control.{Onward, At, Behind, at_line, chosen, on_chosen, kept, returned, base_of, runs_at, home_of}
 use Rattle.program_model.specs.Loops.{is_past, opened, turned, next_turn, limit_and_step}
 use Rattle.program_model.specs.DataItems.{item_taken}
@@ -50,7 +52,7 @@ use Rattle.program_model.specs.Traps.{handled, caught, trapped, left_to, leads_b
 use Rattle.program_model.specs.Running.{runs_from, dimension_all, dimension_in, dimension_program, ends_closed, begins_with, runs_open, runs_cleared, raises_open, raises, continues_open, continues, runs_line, line_alone, apart, together}
 use Rattle.polish_code.specs.declared.items.Item.{Item}
 use Rattle.polish_code.specs.declared.items.Item.TheVariants as item
-use Rattle.polish_code.specs.Walk.{Spot, Setting, Code, Move, Pass, To, Away, taken, operand_count, setting_of, item_act, top, by_turn, pushed, goes, opens, led, walk, onward, started, starts, one_turn, turns, turns_from}
+use Rattle.polish_code.specs.Walk.{Spot, Setting, Code, Move, Pass, To, Away, taken, operand_count, matrix_count, setting_of, item_act, top, by_turn, pushed, goes, opens, led, walk, onward, started, starts, one_turn, turns, turns_from}
 use Rattle.polish_code.specs.Lowered.{lowered, lowers, coded, place_onward}
 use Rattle.polish_code.proofs.Compile.{code_goes_on}
 use Rattle.session_model.proofs.Ends.{Ends, ends_then}
@@ -294,6 +296,8 @@ module _ (n : ℕ) (setting : Setting) (calls : (f : Name) (xs : List Name) (bod
   item_few behind (item.OnGosub home places) stack j h = on_chosen_few n (chosen (number (top stack)) places) (λ to j. kept (record { behind = behind; home = home }) (goes (To to)) j) j h (λ to. kept_few n (record { behind = behind; home = home }) (goes (To to)) j h (λ k g. g))
   item_few behind (item.Ask act) stack j h =
       few_then n (stores_by (act_by act (taken (operand_count act) stack)) j) _ (storage_few n (act_by act (taken (operand_count act) stack)) j h) (λ a k g. g)
+  item_few behind (item.Matrix act) stack j h =
+      few_then n (matrix_act setting.items act (taken (matrix_count act) stack) j) _ (matrix_ends (Fewer n) (λ m k g. g) (λ one k g. g) (λ screen k g. g) setting.items act (taken (matrix_count act) stack) j h) (λ a k g. g)
   item_few behind (item.LoadFileElement array count) stack j h = few_then n (stores_by (read_act array (taken count stack)) j) _ (storage_few n (read_act array (taken count stack)) j h) (λ a k g. g)
   item_few behind (item.StoreFileElement array count) stack j h =
       let act = write_act array (taken count stack) (top (drop count stack)) in

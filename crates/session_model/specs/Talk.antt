@@ -42,11 +42,10 @@ use Rattle.program_model.specs.Storage.{Storage, in_storage}
 use Rattle.program_model.specs.FileActs.{shut_act}
 use Rattle.program_model.specs.Running.{Coming, no_home, cleared, runs_cleared, raises, continues, runs_line}
 use Rattle.program_model.specs.Soundness.{can_begin, refusal_of, refusal_now}
-use Rattle.stage_forms.specs.Stage.{are_in_stage}
 use Rattle.terminal_line.specs.Columns.{column_of, fresh_text}
 use Rattle.session_model.specs.Editing.{Edited, Accepted, Refused, edited}
 use Rattle.session_model.specs.ProgramFiles.{spec_read, spec_or_own, is_blank_text, saved_pages, program_on}
-use Rattle.session_model.specs.Texts.{ready, please_say_hello, invalid_entry, already_logged_in, illegal_command, not_in_stage, bye, illegal_file_name, fault_line, halt_line, cant_continue, refusal_text, lowering_text}
+use Rattle.session_model.specs.Texts.{ready, please_say_hello, invalid_entry, already_logged_in, illegal_command, bye, illegal_file_name, fault_line, halt_line, cant_continue, refusal_text, lowering_text}
 
 -- THE SESSION
 
@@ -400,8 +399,7 @@ line_unless judge None statements most s = in_session (line_ended judge most s) 
 
 -- it has a tree
 abbrev pub does_line : Judge → List StatementTree → ℕ → Session Position → Step Position
-does_line judge statements most s =
-    if are_in_stage statements then line_unless judge (refusal_now statements) statements most s else answered not_in_stage s
+does_line judge statements most s = line_unless judge (refusal_now statements) statements most s
 
 abbrev pub immediate : Judge → Verdict → ℕ → Session Position → Step Position
 immediate judge (RefusedFor cause) most s = answered (refusal_text cause) s

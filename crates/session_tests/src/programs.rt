@@ -58,13 +58,12 @@ fn what_forbids_cont(rt: HostRuntime) -> Result<(), Fail> {
 }
 
 /// Lines none of which forbids CONT.
-static ALLOWING: [Row; 11] = [
+static ALLOWING: [Row; 10] = [
     ("", ""),
     ("LISTNH 10", "10 STOP\nReady\n"),
     ("RENAME X", READY),
     ("DELETE", ILLEGAL_COMMAND),
     ("20 PRINT 1%+", SYNTAX),
-    ("20 MAT A%=ZER", "?Not in this stage\nReady\n"),
     ("0 STOP", "?Illegal line number\nReady\n"),
     ("PRINT 1%/0%", "?Division by 0\nReady\n"),
     ("END", READY),
