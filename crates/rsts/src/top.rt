@@ -81,6 +81,8 @@ mod hostile;
 #[cfg(test)]
 mod pacing;
 #[cfg(test)]
+mod printing;
+#[cfg(test)]
 mod sessions;
 #[cfg(test)]
 mod tests;
