@@ -14,7 +14,8 @@ use Rattle.job_model.specs.Asking.{counts_as}
 use Rattle.file_names.specs.declared.spec.Spec.{Spec}
 use Rattle.basic_values.specs.declared.limits.TheConstants.{MOST_FILES}
 use Rattle.program_files.specs.Catalogs.{catalog_from}
-use Rattle.program_files.specs.Channels.{kills}
+use Rattle.program_files.specs.Channels.{FileAct, kills}
+use Rattle.program_files.specs.Listings.{assigns, deassigns, prints_file}
 use Rattle.program_files.specs.Programs.{reads_pages, writes_pages}
 use Rattle.program_model.specs.Program.{Program, Position, statements_of}
 use Rattle.program_model.specs.Job as program
@@ -29,10 +30,10 @@ use Rattle.polish_code.specs.Lowered.{lowered, low_leaving}
 use Rattle.basic_eval.specs.declared.exits.Exit.{Exit}
 use Rattle.basic_eval.specs.declared.exits.Exit.TheVariants as exit
 use Rattle.basic_eval.specs.Acting.{break_of}
-use Rattle.session_model.specs.Commands.{Login, Naming, Nameless, Named, Misnamed, Range, Command, Hello, Bye, New, Rename, ListLines, Delete, Old, Save, Unsave, Catalog, Cataloging, OfOwn, OfAccount, OfNone, Numbered}
+use Rattle.session_model.specs.Commands.{Login, Naming, Nameless, Named, Misnamed, Range, Command, Hello, Bye, New, Rename, ListLines, Delete, Old, Save, Unsave, Catalog, Cataloging, OfOwn, OfAccount, OfNone, Assign, Deassign, Queue, Numbered}
 use Rattle.session_model.specs.Editing.{Edited, Accepted, Refused, edited}
-use Rattle.session_model.specs.ProgramFiles.{spec_read, spec_or_own, is_blank_text, saved_pages, program_on}
-use Rattle.session_model.specs.Talk.{Session, Step, SessionEnd, with_job, says, with_lines, named, no_name, answered, entered, hello, leave, log_out, emptied, begins_new, renames, headed, lists, deletes, takes_edit, broken_off, tried, with_storage, shut_down, by_name, loaded, loads, reads_old, old, saves_as, saves, kills_file, unsaves, with_screen, catalogs_of, catalogs, rests, visitor_acts, program_by, reported, run_is_over}
+use Rattle.session_model.specs.ProgramFiles.{spec_read, listed_spec, spec_or_own, is_blank_text, saved_pages, program_on}
+use Rattle.session_model.specs.Talk.{Session, Step, SessionEnd, with_job, says, with_lines, named, no_name, answered, entered, hello, leave, log_out, emptied, begins_new, renames, headed, lists, deletes, takes_edit, broken_off, tried, with_storage, shut_down, by_name, loaded, loads, reads_old, old, saves_as, saves, kills_file, unsaves, with_screen, catalogs_of, catalogs, on_printer, queues_by, rests, visitor_acts, program_by, reported, run_is_over}
 use Rattle.session_model.specs.Talk as talk
 use Rattle.basic_tree.specs.ProgramLines.{Lines}
 use Rattle.session_model.proofs.Ends.{Ends}
@@ -145,6 +146,13 @@ module _ (p : Program) where
   catalogs_low own (OfAccount owner) s = catalogs_of_low owner s
   catalogs_low own OfNone s = refl
 
+  on_printer_low : (act : FileAct (Unit {0})) (s : Session Position) → on_printer act (low s) ≡ lows (on_printer act s)
+  on_printer_low act s = tried_low (λ _. s) (λ _ s. answered [] s) (λ _ s. answered [] s) act (λ _ s. refl)
+
+  queues_low : (named : Result Spec ℕ) (s : Session Position) → queues_by named (low s) ≡ lows (queues_by named s)
+  queues_low (Ok spec) s = on_printer_low (prints_file spec.name spec.code) s
+  queues_low (Err number) s = refl
+
   pub rests_low : (own : Account) (command : Command) (s : Session Position) → rests judge_of own command (low s) ≡ lows (rests judge_of own command s)
   rests_low own (New naming) s = new_low naming s
   rests_low own (Rename naming) s = renames_low naming s
@@ -154,6 +162,9 @@ module _ (p : Program) where
   rests_low own (Save kind tail) s = saves_low own kind tail s
   rests_low own (Unsave tail) s = unsaves_low own tail s
   rests_low own (Catalog of) s = catalogs_low own of s
+  rests_low own Assign s = on_printer_low assigns s
+  rests_low own Deassign s = on_printer_low deassigns s
+  rests_low own (Queue tail) s = queues_low (listed_spec own tail) s
   rests_low own (Numbered number rest) s = edit_low (edited judge_of number rest s.lines) s
   rests_low own command s = refl
 
@@ -290,6 +301,13 @@ module _ (p : Program) where
   catalogs_fits own (OfAccount owner) s h = catalogs_of_fits owner s h
   catalogs_fits own OfNone s h = h
 
+  on_printer_fits : (act : FileAct (Unit {0})) (s : Session Position) → StopFits p s → Fit (on_printer act s)
+  on_printer_fits act s h = tried_fits (λ _. s) (λ _ s. answered [] s) act (λ _. h) (λ _ s g. g)
+
+  queues_fits : (named : Result Spec ℕ) (s : Session Position) → StopFits p s → Fit (queues_by named s)
+  queues_fits (Ok spec) s h = on_printer_fits (prints_file spec.name spec.code) s h
+  queues_fits (Err number) s h = h
+
   pub rests_fits : (own : Account) (command : Command) (s : Session Position) → StopFits p s → Fit (rests judge_of own command s)
   rests_fits own Bye s h = λ reply. h
   rests_fits own (New naming) s h = new_fits naming s h
@@ -300,6 +318,9 @@ module _ (p : Program) where
   rests_fits own (Save kind tail) s h = saves_fits own kind tail s h
   rests_fits own (Unsave tail) s h = unsaves_fits own tail s h
   rests_fits own (Catalog of) s h = catalogs_fits own of s h
+  rests_fits own Assign s h = on_printer_fits assigns s h
+  rests_fits own Deassign s h = on_printer_fits deassigns s h
+  rests_fits own (Queue tail) s h = queues_fits (listed_spec own tail) s h
   rests_fits own (Numbered number rest) s h = edit_fits (edited judge_of number rest s.lines) s h
   rests_fits own command s h = h
 

@@ -245,6 +245,9 @@ impl Session {
             Command::Save { kind, tail } => self.save(alloc, account, *kind, tail, port),
             Command::Unsave(tail) => self.unsave(alloc, account, tail, port),
             Command::Catalog(of) => self.catalog(alloc, account, *of, port),
+            Command::Assign => self.assign(alloc, port),
+            Command::Deassign => self.deassign(alloc, port),
+            Command::Queue(tail) => self.queue(alloc, account, tail, port),
             Command::Numbered(line) => self.put_line(line),
             _ => Ok(AfterLine::Next),
         }

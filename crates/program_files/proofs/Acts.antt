@@ -13,6 +13,7 @@ use Rattle.job_model.specs.Follow.{Follows, answered_by}
 use Rattle.job_model.proofs.Asked.{follows_answer}
 use Rattle.job_model.proofs.Ends.{follows_ends}
 use Rattle.job_model.proofs.Follows.{follows_to, follows_forget, follows_asked, follows_on, follows_stay, follows_with, broken}
+use Rattle.program_files.specs.declared.channels.Opened.{Opened}
 use Rattle.program_files.specs.Channels.{FileAct, closes, still_faulted, first_told, closed_after, closed_behind}
 use Rattle.program_files.specs.Taken.{first_stop, IsTold}
 
@@ -52,33 +53,35 @@ module _ {P W : Type 0} {who : P → W} {log : P → List Pair} where
   follows_still : {A B : Type 0} {p q : P} {c d : Clock} {m : FileAct A} {left : Option (FileAct A)} (number : ℕ) → Follows who log p q c d m left → Follows who log p q c d (still_faulted {B = B} number m) (option_map (still_faulted number) left)
   follows_still number f = follows_ends (λ u. u) (λ _ _. Breaks (Faulted number) tt) (λ why _. first_told number why) (λ _. refl) f
 
-  pub follows_closed : {A : Type 0} {p q : P} {c d : Clock} {m : FileAct A} {left : Option (FileAct A)} → Follows who log p q c d m left → Follows who log p q c d (closed_behind m) (option_map closed_behind left)
-  follows_closed f = follows_ends (λ u. u) (λ value _. closes then λ _ _. Gives value tt) (λ why _. closed_after why) (λ _. refl) f
+  -- of what was opened
+  module _ (opened : Opened) where
+    pub follows_closed : {A : Type 0} {p q : P} {c d : Clock} {m : FileAct A} {left : Option (FileAct A)} → Follows who log p q c d m left → Follows who log p q c d (closed_behind opened m) (option_map (closed_behind opened) left)
+    follows_closed f = follows_ends (λ u. u) (λ value _. closes opened then λ _ _. Gives value tt) (λ why _. closed_after opened why) (λ _. refl) f
 
-  -- behind a fault
-  pub closed_at_fault : {A : Type 0} {start p q : P} {c : Clock} {m : FileAct A} (why : Stop) (number : ℕ) (r : Result Unit Stop) → why ≡ stop.Fault number
-      → Follows who log start p c c m (answered_by (Err why) tt) → Follows who log p q c c closes (answered_by r tt) → Follows who log start q c c (closed_behind m) (answered_by (faulted_by number r) tt)
-  closed_at_fault {A} {start} {p} {q} {c} {m} why number r is f g =
-      let at : Follows who log start p c c m (Some (Breaks (Faulted number) tt)) = subst (λ (why : Stop). Follows who log start p c c m (answered_by (Err why) tt)) is f in
-      follows_on (follows_closed at) (follows_to (still_left number r) (follows_still number g))
+    -- behind a fault
+    pub closed_at_fault : {A : Type 0} {start p q : P} {c : Clock} {m : FileAct A} (why : Stop) (number : ℕ) (r : Result Unit Stop) → why ≡ stop.Fault number
+        → Follows who log start p c c m (answered_by (Err why) tt) → Follows who log p q c c (closes opened) (answered_by r tt) → Follows who log start q c c (closed_behind opened m) (answered_by (faulted_by number r) tt)
+    closed_at_fault {A} {start} {p} {q} {c} {m} why number r is f g =
+        let at : Follows who log start p c c m (Some (Breaks (Faulted number) tt)) = subst (λ (why : Stop). Follows who log start p c c m (answered_by (Err why) tt)) is f in
+        follows_on (follows_closed at) (follows_to (still_left number r) (follows_still number g))
 
-  -- behind what is no fault
-  pub closed_at_end : {A : Type 0} {start p : P} {c : Clock} {m : FileAct A} (why : Stop) → ((number : ℕ) → why ≡ stop.Fault number → ⊥)
-      → Follows who log start p c c m (answered_by (Err why) tt) → Follows who log start p c c (closed_behind m) (answered_by (Err why) tt)
-  closed_at_end (stop.Fault number) nay f = absurd (nay number refl)
-  closed_at_end (stop.Halt halt) nay f = follows_closed f
-  closed_at_end stop.Expired nay f = follows_closed f
-  closed_at_end stop.NoMemory nay f = follows_closed f
+    -- behind what is no fault
+    pub closed_at_end : {A : Type 0} {start p : P} {c : Clock} {m : FileAct A} (why : Stop) → ((number : ℕ) → why ≡ stop.Fault number → ⊥)
+        → Follows who log start p c c m (answered_by (Err why) tt) → Follows who log start p c c (closed_behind opened m) (answered_by (Err why) tt)
+    closed_at_end (stop.Fault number) nay f = absurd (nay number refl)
+    closed_at_end (stop.Halt halt) nay f = follows_closed f
+    closed_at_end stop.Expired nay f = follows_closed f
+    closed_at_end stop.NoMemory nay f = follows_closed f
 
-  -- behind a value
-  pub closed_at_value : {A : Type 0} {start p q : P} {c : Clock} {m : FileAct A} (outcome : Result A Stop) (value : A) → outcome ≡ Ok value
-      → Follows who log start p c c m (answered_by outcome tt) → Follows who log p q c c closes (Some (Gives tt tt)) → Follows who log start q c c (closed_behind m) (Some (Gives value tt))
-  closed_at_value {A} {start} {p} {q} {c} {m} outcome value is f g =
-      let at : Follows who log start p c c m (Some (Gives value tt)) = subst (λ (outcome : Result A Stop). Follows who log start p c c m (answered_by outcome tt)) is f in
-      follows_on (follows_closed at) (follows_with (λ _ _. Gives value tt) g follows_stay)
+    -- behind a value
+    pub closed_at_value : {A : Type 0} {start p q : P} {c : Clock} {m : FileAct A} (outcome : Result A Stop) (value : A) → outcome ≡ Ok value
+        → Follows who log start p c c m (answered_by outcome tt) → Follows who log p q c c (closes opened) (Some (Gives tt tt)) → Follows who log start q c c (closed_behind opened m) (Some (Gives value tt))
+    closed_at_value {A} {start} {p} {q} {c} {m} outcome value is f g =
+        let at : Follows who log start p c c m (Some (Gives value tt)) = subst (λ (outcome : Result A Stop). Follows who log start p c c m (answered_by outcome tt)) is f in
+        follows_on (follows_closed at) (follows_with (λ _ _. Gives value tt) g follows_stay)
 
-  pub unclosed_value : {A : Type 0} {start p q : P} {c : Clock} {m : FileAct A} (outcome : Result A Stop) (value : A) (e : Stop) (result : Result A Stop) → outcome ≡ Ok value → IsErrAnd result (λ x. x ≡ e)
-      → Follows who log start p c c m (answered_by outcome tt) → Follows who log p q c c closes (answered_by (Err e) tt) → Follows who log start q c c (closed_behind m) (answered_by result tt)
-  unclosed_value {A} {start} {p} {q} {c} {m} outcome value e result is lost f g =
-      let at : Follows who log start p c c m (Some (Gives value tt)) = subst (λ (outcome : Result A Stop). Follows who log start p c c m (answered_by outcome tt)) is f in
-      follows_on (follows_closed at) (broken e result tt (λ _ _. Gives value tt) lost g)
+    pub unclosed_value : {A : Type 0} {start p q : P} {c : Clock} {m : FileAct A} (outcome : Result A Stop) (value : A) (e : Stop) (result : Result A Stop) → outcome ≡ Ok value → IsErrAnd result (λ x. x ≡ e)
+        → Follows who log start p c c m (answered_by outcome tt) → Follows who log p q c c (closes opened) (answered_by (Err e) tt) → Follows who log start q c c (closed_behind opened m) (answered_by result tt)
+    unclosed_value {A} {start} {p} {q} {c} {m} outcome value e result is lost f g =
+        let at : Follows who log start p c c m (Some (Gives value tt)) = subst (λ (outcome : Result A Stop). Follows who log start p c c m (answered_by outcome tt)) is f in
+        follows_on (follows_closed at) (broken e result tt (λ _ _. Gives value tt) lost g)

@@ -6,6 +6,8 @@ use Rattle.monitor_calls.specs.declared.calls.Request.TheVariants as request
 use Rattle.job_model.specs.Act.{Gives, Breaks, Break, Faulted, ◌then◌}
 use Rattle.job_model.specs.Ends.{at_ends}
 use Rattle.job_model.specs.Replies.{ReplyAct, asks_for, done_by, opened_by, block_by}
+use Rattle.program_files.specs.declared.channels.Opened.{Opened}
+use Rattle.program_files.specs.declared.channels.Opened.TheVariants as opened
 use Rattle.program_files.specs.declared.channels.TheConstants.{CHANNEL}
 
 abbrev pub FileAct : Type 0 → Type 0
@@ -17,8 +19,10 @@ FileAct A = ReplyAct A
 abbrev pub opens : FileName → OpenKind → Option ℕ → FileAct ℕ
 opens name kind code = asks_for opened_by (request.OpenFile CHANNEL name kind false code)
 
-abbrev pub closes : FileAct Unit
-closes = asks_for done_by (request.CloseFile CHANNEL)
+-- what is asked to close it
+abbrev pub closes : Opened → FileAct Unit
+closes opened.Channel = asks_for done_by (request.CloseFile CHANNEL)
+closes opened.Printer = asks_for done_by request.ClosePrinter
 
 abbrev pub gets : ℕ → FileAct (List ℕ)
 gets block = asks_for block_by (request.Get CHANNEL block)
@@ -29,7 +33,7 @@ puts block page = asks_for done_by (request.Put CHANNEL block page)
 abbrev pub kills : FileName → FileAct Unit
 kills name = asks_for done_by (request.Kill name)
 
--- THE CHANNEL IS CLOSED BEHIND WHAT WAS DONE, behind a fault too. The first fault is the one that is told.
+-- WHAT WAS OPENED IS CLOSED BEHIND WHAT WAS DONE, behind a fault too. The first fault is the one that is told.
 
 -- another fault comes too late
 abbrev pub first_told : {A : Type 0} → ℕ → Break ⊥ → FileAct A
@@ -41,10 +45,11 @@ abbrev pub still_faulted : {A B : Type 0} → ℕ → FileAct A → FileAct B
 still_faulted first act =
     at_ends (λ u. u) (λ _ _. Breaks (Faulted first) tt) (λ why _. first_told first why) act
 
-abbrev pub closed_after : {A : Type 0} → Break ⊥ → FileAct A
-closed_after (Faulted number) = still_faulted number closes
-closed_after why = Breaks why tt
+abbrev pub closed_after : {A : Type 0} → Opened → Break ⊥ → FileAct A
+closed_after opened (Faulted number) = still_faulted number (closes opened)
+closed_after opened why = Breaks why tt
 
-abbrev pub closed_behind : {A : Type 0} → FileAct A → FileAct A
-closed_behind act =
-    at_ends (λ u. u) (λ value _. closes then λ _ _. Gives value tt) (λ why _. closed_after why) act
+abbrev pub closed_behind : {A : Type 0} → Opened → FileAct A → FileAct A
+closed_behind opened act =
+    at_ends (λ u. u) (λ value _. closes opened then λ _ _. Gives value tt)
+    (λ why _. closed_after opened why) act

@@ -4,6 +4,7 @@ use Rattle.monitor_calls.specs.declared.files.FileName.{FileName}
 use Rattle.monitor_calls.specs.declared.files.OpenKind.{OpenKind}
 use Rattle.monitor_calls.specs.declared.files.OpenKind.TheVariants.{Input}
 use Rattle.job_model.specs.Act.{Gives, ◌then◌}
+use Rattle.program_files.specs.declared.channels.Opened.TheVariants.{Channel}
 use Rattle.program_files.specs.Channels.{FileAct, opens, gets, puts, closed_behind}
 
 -- so many blocks from this one on; the first fault ends them
@@ -20,9 +21,9 @@ puts_from block (page ∷ pages) = puts block page then λ _ _. puts_from (suc b
 -- the pages of a file that is there
 abbrev pub reads_pages : FileName → Option ℕ → FileAct (List (List ℕ))
 reads_pages name code =
-    opens name Input code then λ blocks _. closed_behind (gets_from 1 blocks)
+    opens name Input code then λ blocks _. closed_behind Channel (gets_from 1 blocks)
 
 -- the pages of a file that is made
 abbrev pub writes_pages : FileName → OpenKind → Option ℕ → List (List ℕ) → FileAct Unit
 writes_pages name kind code pages =
-    opens name kind code then λ _ _. closed_behind (puts_from 1 pages)
+    opens name kind code then λ _ _. closed_behind Channel (puts_from 1 pages)

@@ -1,4 +1,5 @@
-//! One request each through the channel of the command level, and what its reply comes to.
+//! One request each through the channel of the command level, and what its reply comes to; how the
+//! channel and the printer are closed behind what was done.
 
 ghost use Rattle.std.specs.Prelude.{◌≡◌, true, Err, OnOk};
 ghost use Rattle.job_model.specs.Asking.{can_be_block};
@@ -15,6 +16,15 @@ use std::alloc::Global;
 /// The channel of the command level.
 pub const CHANNEL: u8 = 0;
 
+/// What was opened, and has to be closed.
+#[derive(Clone, Copy)]
+pub(crate) enum Opened {
+    /// The channel of the command level.
+    Channel,
+    /// The printer, for a listing.
+    Printer,
+}
+
 /// Opens a file, and gives how many blocks it has. The code is for a file that is made.
 pub(crate) fn open<P: Port>(
     alloc: Global,
@@ -29,12 +39,15 @@ pub(crate) fn open<P: Port>(
     ask_open(alloc, port, CHANNEL, name, kind, false, code)
 }
 
-/// Closes the channel.
-fn close<P: Port>(alloc: Global, port: &mut P) -> Result<(), Stop>
+/// Closes what was opened.
+fn close<P: Port>(alloc: Global, port: &mut P, opened: Opened) -> Result<(), Stop>
     ensures { (clock : play.Clock) → Follows P.who P.log port.old port.new clock clock
-        closes (answered_by result tt) }
+        (closes opened) (answered_by result tt) }
 {
-    ask_done(alloc, port, Request::CloseFile { channel: CHANNEL }, true)
+    match opened {
+        Opened::Channel => ask_done(alloc, port, Request::CloseFile { channel: CHANNEL }, true),
+        Opened::Printer => ask_done(alloc, port, Request::ClosePrinter, true),
+    }
 }
 
 /// Reads a block.
@@ -67,37 +80,43 @@ pub fn kill_file<P: Port>(alloc: Global, port: &mut P, name: FileName) -> Result
     ask_done(alloc, port, Request::Kill { name }, true)
 }
 
-/// Closes the channel behind what was done on it, behind a fault too. The first fault is the one
-/// that is told.
+/// Closes what was opened behind what was done with it, behind a fault too. The first fault is the
+/// one that is told.
 pub(crate) fn close_behind<P: Port, T: Drop>(
     alloc: Global,
     port: &mut P,
+    opened: Opened,
     outcome: Result<T, Stop>,
 ) -> Result<T, Stop>
     // Whatever had this outcome, it is now what is closed behind it that was done.
     ensures { (start : P) (clock : play.Clock) (act : FileAct T)
         → Follows P.who P.log start port.old clock clock act (answered_by outcome tt)
-        → Follows P.who P.log start port.new clock clock (closed_behind act)
+        → Follows P.who P.log start port.new clock clock (closed_behind opened act)
         (answered_by result tt) }
 {
     match outcome {
         Ok(value) => {
-            close(alloc, port)?;
+            close(alloc, port, opened)?;
             Ok(value)
         }
-        Err(stop) => close_after(alloc, port, stop),
+        Err(stop) => close_after(alloc, port, opened, stop),
     }
 }
 
-/// Closes the channel behind a fault. What ends the job leaves nothing to close.
-fn close_after<P: Port, T: Drop>(alloc: Global, port: &mut P, stop: Stop) -> Result<T, Stop>
+/// Closes what was opened behind a fault. What ends the job leaves nothing to close.
+fn close_after<P: Port, T: Drop>(
+    alloc: Global,
+    port: &mut P,
+    opened: Opened,
+    stop: Stop,
+) -> Result<T, Stop>
     ensures { (start : P) (clock : play.Clock) (act : FileAct T)
         → Follows P.who P.log start port.old clock clock act (answered_by (Err stop) tt)
-        → Follows P.who P.log start port.new clock clock (closed_behind act)
+        → Follows P.who P.log start port.new clock clock (closed_behind opened act)
         (answered_by result tt) }
 {
     match stop {
-        Stop::Fault(fault) => match close(alloc, port) {
+        Stop::Fault(fault) => match close(alloc, port, opened) {
             Ok(()) => Err(stop),
             Err(closing) => Err(first_told(fault, closing)),
         },

@@ -5,7 +5,7 @@ ghost use Rattle.job_model.specs.Follow.{Follows, answered_by};
 ghost use Rattle.job_model.specs.Play as play;
 ghost use Rattle.program_files.specs.Programs.{gets_from, puts_from, reads_pages, writes_pages};
 
-use crate::channels::{close_behind, get, open, put};
+use crate::channels::{Opened, close_behind, get, open, put};
 use basic_values::{Series, Stop};
 use monitor_calls::{FileName, OpenKind, Page, Port};
 use std::alloc::Global;
@@ -22,7 +22,7 @@ pub fn read_pages<P: Port>(
 {
     let blocks = open(alloc, port, name, OpenKind::Input, code)?;
     let pages = get_pages(alloc, port, blocks);
-    close_behind(alloc, port, pages)
+    close_behind(alloc, port, Opened::Channel, pages)
 }
 
 /// Writes the pages of a file that is made.
@@ -39,7 +39,7 @@ pub fn write_pages<P: Port>(
 {
     open(alloc, port, name, kind, code)?;
     let written = put_pages(alloc, port, pages);
-    close_behind(alloc, port, written)
+    close_behind(alloc, port, Opened::Channel, written)
 }
 
 /// So many blocks from the first on; the first fault ends them.

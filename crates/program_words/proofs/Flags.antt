@@ -14,7 +14,8 @@ use Rattle.clap.specs.Lexer.{long_of, short_of, has_byte, name_and_value}
 use Rattle.clap.specs.declared.error.kind.ErrorKind.{ErrorKind}
 use Rattle.clap.specs.declared.error.kind.ErrorKind.TheVariants as kind
 use Rattle.program_words.specs.Words.{is_flag}
-use Rattle.program_words.proofs.Walks.{Seen, shape, held_at, position_at, fault_at, IsPlain, Start, Flag, Action, ActionFlag, FlagAction, Both, BothFlag, FlagBoth, ActionFlagCount}
+use Rattle.program_words.proofs.Uses.{shape, Mark, History, Printer, Use, place_at, position_of, mark_word}
+use Rattle.program_words.proofs.Walks.{held_at, no_skip, fault_at, IsPlain}
 
 pub either : (b : Bool) → (b ≡ true) ⊎ (b ≡ false)
 either true = inl refl
@@ -29,26 +30,16 @@ pub record IsWord (word : Text) : Type 0 where
 pub record IsStray (word : Text) : Type 0 where
   pub ends_none : bytes_eq word (codes "--") ≡ false
   pub flag : is_flag word ≡ true
-  pub other : bytes_eq word (codes "--history") ≡ false
+  pub no_history : bytes_eq word (codes "--history") ≡ false
+  pub no_printer : bytes_eq word (codes "--printer") ≡ false
   pub refused : ErrorKind
-  pub fault : (seen : Seen) → fault_at false seen word ≡ refused ∷ []
+  pub fault : (uses : List Use) → fault_at false uses word ≡ refused ∷ []
 
 pub data Sort (word : Text) : Type 0 where
   AnEnd : word ≡ codes "--" → Sort word
   AWord : IsWord word → Sort word
-  History : word ≡ codes "--history" → Sort word
+  AMark : (mark : Mark) → word ≡ mark_word mark → Sort word
   Stray : IsStray word → Sort word
-
-no_skip : (seen : Seen) → (held_at seen).skip ≡ 0
-no_skip Start = refl
-no_skip Flag = refl
-no_skip (Action a) = refl
-no_skip (ActionFlag a) = refl
-no_skip (FlagAction a) = refl
-no_skip (Both a b) = refl
-no_skip (BothFlag a b) = refl
-no_skip (FlagBoth a b) = refl
-no_skip (ActionFlagCount a b) = refl
 
 -- behind a minus stands a character, where something stands
 some_char : (y : ℕ) (bytes : Text) → IsUtf8 (45 ∷ y ∷ bytes) → (c : ℕ) × (cs : List ℕ) × (chars (y ∷ bytes) ≡ c ∷ cs)
@@ -80,14 +71,14 @@ module _ (y : ℕ) (bytes : Text) (e : (y == 45) ≡ false) where
   unfolding Rattle.clap.specs.Faults.flags_fault
   first_unknown h c cs none is = rw (none, is) refl
 
-  behind : Seen → Kinds
-  behind seen =
-      let met = word_met shape.rules [] false idle (position_at seen) (45 ∷ y ∷ bytes) (held_at seen) in
-      step_fault shape (position_at seen) met.0 met.1
+  behind : List Use → Kinds
+  behind uses =
+      let met = word_met shape.rules [] false idle (position_of (place_at uses)) (45 ∷ y ∷ bytes) (held_at uses) in
+      step_fault shape (position_of (place_at uses)) met.0 met.1
 
-  unknown : (seen : Seen) (c : ℕ) (cs : List ℕ) → chars (y ∷ bytes) ≡ c ∷ cs → fault_at false seen (45 ∷ y ∷ bytes) ≡ kind.UnknownArgument ∷ []
+  unknown : (uses : List Use) (c : ℕ) (cs : List ℕ) → chars (y ∷ bytes) ≡ c ∷ cs → fault_at false uses (45 ∷ y ∷ bytes) ≡ kind.UnknownArgument ∷ []
   unfolding behind
-  unknown seen c cs is = ap (λ k. or_else k (behind seen)) (bundled (held_at seen) ∙ first_unknown (held_at seen) c cs (no_skip seen) is)
+  unknown uses c cs is = ap (λ k. or_else k (behind uses)) (bundled (held_at uses) ∙ first_unknown (held_at uses) c cs (no_skip uses) is)
 
   short_sort : IsUtf8 (45 ∷ y ∷ bytes) → Sort (45 ∷ y ∷ bytes)
   short_sort u =
@@ -95,9 +86,10 @@ module _ (y : ℕ) (bytes : Text) (e : (y == 45) ≡ false) where
       Stray (record {
         ends_none = ends_none;
         flag = refl;
-        other = rw e refl;
+        no_history = rw e refl;
+        no_printer = rw e refl;
         refused = kind.UnknownArgument;
-        fault = λ seen. unknown seen first.0 first.1 first.2;
+        fault = λ uses. unknown uses first.0 first.1 first.2;
       })
 
 whole_name : (text : Text) → list_any (λ x. x == 61) text ≡ false → before_first (λ x. x == 61) text ≡ text
@@ -114,35 +106,50 @@ whole_name (x ∷ text) e = go (either (x == 61)) (whole_name text)
 text_is : (xs ys : Text) → bytes_eq xs ys ≡ true → xs ≡ ys
 text_is xs ys e = same_text xs ys (sym e)
 
-long_sort : (z : ℕ) (zs : Text) → Sort (45 ∷ 45 ∷ z ∷ zs)
-long_sort z zs = go (either (bytes_eq (codes "history") name)) (either (has_byte 61 (z ∷ zs))) (either (bytes_eq (45 ∷ 45 ∷ z ∷ zs) (codes "--history")))
-  where
-    name : Text
-    name = (name_and_value (z ∷ zs)).0
+-- a name with two minus signs: of a flag, with a value or without, or of none
+module _ (z : ℕ) (zs : Text) where
+  name : Text
+  name = (name_and_value (z ∷ zs)).0
 
-    is_history : bytes_eq (45 ∷ 45 ∷ z ∷ zs) (codes "--history") ≡ true → z ∷ zs ≡ codes "history"
-    is_history e = text_is (z ∷ zs) (codes "history") e
+  whole : Text
+  whole = 45 ∷ 45 ∷ z ∷ zs
 
-    go : ((bytes_eq (codes "history") name ≡ true) ⊎ (bytes_eq (codes "history") name ≡ false)) → ((has_byte 61 (z ∷ zs) ≡ true) ⊎ (has_byte 61 (z ∷ zs) ≡ false))
-        → ((bytes_eq (45 ∷ 45 ∷ z ∷ zs) (codes "--history") ≡ true) ⊎ (bytes_eq (45 ∷ 45 ∷ z ∷ zs) (codes "--history") ≡ false)) → Sort (45 ∷ 45 ∷ z ∷ zs)
-    go named valued (inl whole) = History (ap (λ t. 45 ∷ 45 ∷ t) (is_history whole))
-    go (inr unnamed) valued (inr other) = Stray (record {
-      ends_none = refl;
-      flag = refl;
-      other = other;
-      refused = kind.UnknownArgument;
-      fault = λ seen. rw unnamed refl;
-    })
-    go (inl named) (inl valued) (inr other) = Stray (record {
-      ends_none = refl;
-      flag = refl;
-      other = other;
-      refused = kind.TooManyValues;
-      fault = λ seen. rw (named, valued) refl;
-    })
-    go (inl named) (inr bare) (inr other) =
-        let same : codes "history" ≡ z ∷ zs = text_is (codes "history") name named ∙ whole_name (z ∷ zs) bare in
-        History (ap (λ t. 45 ∷ 45 ∷ t) (sym same))
+  bare_is : (text : Text) → bytes_eq text name ≡ true → has_byte 61 (z ∷ zs) ≡ false → text ≡ z ∷ zs
+  unfolding name
+  bare_is text named bare = text_is text name named ∙ whole_name (z ∷ zs) bare
+
+  unnamed : bytes_eq (codes "history") name ≡ false → bytes_eq (codes "printer") name ≡ false → bytes_eq whole (codes "--history") ≡ false → bytes_eq whole (codes "--printer") ≡ false → Sort whole
+  unfolding name whole
+  unnamed a b c d = Stray (record { ends_none = refl; flag = refl; no_history = c; no_printer = d; refused = kind.UnknownArgument; fault = λ uses. rw (a, b) refl })
+
+  valued_history : bytes_eq (codes "history") name ≡ true → has_byte 61 (z ∷ zs) ≡ true → bytes_eq whole (codes "--history") ≡ false → bytes_eq whole (codes "--printer") ≡ false → Sort whole
+  unfolding name whole
+  valued_history a v c d = Stray (record { ends_none = refl; flag = refl; no_history = c; no_printer = d; refused = kind.TooManyValues; fault = λ uses. rw (a, v) refl })
+
+  valued_printer : bytes_eq (codes "history") name ≡ false → bytes_eq (codes "printer") name ≡ true → has_byte 61 (z ∷ zs) ≡ true → bytes_eq whole (codes "--history") ≡ false → bytes_eq whole (codes "--printer") ≡ false → Sort whole
+  unfolding name whole
+  valued_printer a b v c d = Stray (record { ends_none = refl; flag = refl; no_history = c; no_printer = d; refused = kind.TooManyValues; fault = λ uses. rw (a, b, v) refl })
+
+  Known : Bool → Type 0
+  Known b = (b ≡ true) ⊎ (b ≡ false)
+
+  no_flag : Known (bytes_eq (codes "history") name) → Known (bytes_eq (codes "printer") name) → Known (has_byte 61 (z ∷ zs)) → bytes_eq whole (codes "--history") ≡ false → bytes_eq whole (codes "--printer") ≡ false → Sort whole
+  unfolding Known whole
+  no_flag (inl a) printer (inl v) c d = valued_history a v c d
+  no_flag (inl a) printer (inr bare) c d = AMark History (ap (λ t. 45 ∷ 45 ∷ t) (sym (bare_is (codes "history") a bare)))
+  no_flag (inr a) (inl b) (inl v) c d = valued_printer a b v c d
+  no_flag (inr a) (inl b) (inr bare) c d = AMark Printer (ap (λ t. 45 ∷ 45 ∷ t) (sym (bare_is (codes "printer") b bare)))
+  no_flag (inr a) (inr b) valued c d = unnamed a b c d
+
+  named_sort : Known (bytes_eq whole (codes "--history")) → Known (bytes_eq whole (codes "--printer")) → Sort whole
+  unfolding Known
+  named_sort (inl e) printer = AMark History (text_is whole (codes "--history") e)
+  named_sort (inr c) (inl e) = AMark Printer (text_is whole (codes "--printer") e)
+  named_sort (inr c) (inr d) = no_flag (either (bytes_eq (codes "history") name)) (either (bytes_eq (codes "printer") name)) (either (has_byte 61 (z ∷ zs))) c d
+
+  long_sort : Sort (45 ∷ 45 ∷ z ∷ zs)
+  unfolding Known whole
+  long_sort = named_sort (either (bytes_eq whole (codes "--history"))) (either (bytes_eq whole (codes "--printer")))
 
 dash_sort : (y : ℕ) (bytes : Text) → IsUtf8 (45 ∷ y ∷ bytes) → Sort (45 ∷ y ∷ bytes)
 dash_sort y bytes u = go (either (y == 45))

@@ -1,3 +1,5 @@
 mod Flags
 mod Parses
+mod Rows
+mod Uses
 mod Walks

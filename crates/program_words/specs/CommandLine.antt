@@ -17,6 +17,12 @@ history_rule = record (new_rule (codes "history")) {
   action = Some SetTrue;
 }
 
+abbrev pub printer_rule : Rule
+printer_rule = record (new_rule (codes "printer")) {
+  long = Some (codes "printer");
+  action = Some SetTrue;
+}
+
 abbrev pub bare_app : App
 bare_app = record (new_app (codes "rsts")) {
   top = record (new_app (codes "rsts")).top {
@@ -26,16 +32,18 @@ bare_app = record (new_app (codes "rsts")) {
   };
 }
 
--- an action, a count, and a flag
+-- an action, a count, and two flags
 abbrev pub command_app : App
-command_app = with_rule (with_rule (with_rule bare_app action_rule) count_rule) history_rule
+command_app =
+    with_rule (with_rule (with_rule (with_rule bare_app action_rule) count_rule) history_rule)
+    printer_rule
 
 -- the words that were found, as the definition has them
 abbrev pub said_seen : Said → model.Said
 said_seen said = record {
   action = said.action.now;
   count = option_map (λ count. count.now) said.count;
-  history = said.history;
+  wanted = said.wanted;
 }
 
 abbrev pub said_option : Option Said → Option model.Said

@@ -1,5 +1,7 @@
 -- What the words behind the program's name ask for.
 use Rattle.std.specs.Prelude.{ℕ, ◌≤◌, Bool, true, false, not, ◌&&◌, ◌==◌, List, [], ◌∷◌, Option, Some, None, if◌then◌else◌, bytes_eq, codes}
+use Rattle.std.specs.Option.{option_and_then}
+use Rattle.program_words.specs.declared.words.Wanted.{Wanted}
 use Rattle.program_words.specs.declared.words.Asked.{Asked}
 use Rattle.program_words.specs.declared.words.Asked.TheVariants.{Run, Check, Drill, Nothing}
 use Rattle.program_words.specs.declared.words.TheConstants.{MOST_DRILL_JOBS}
@@ -29,55 +31,74 @@ sorted (word ∷ words) =
     if bytes_eq word (codes "--") then record { flags = []; plain = words }
     else if is_flag word then with_flag word (sorted words) else with_plain word (sorted words)
 
--- an action, a count behind it where there is one, and whether the history is wanted
+-- an action, a count behind it where there is one, and what is wanted by flags
 pub record Said : Type 0 where
   pub action : List ℕ
   pub count : Option (List ℕ)
-  pub history : Bool
+  pub wanted : Wanted
 
--- one plain word or two, and no flag but `--history`, once
-abbrev pub said_with : Bool → List (List ℕ) → Option Said
-said_with history [] = None
-said_with history (action ∷ []) =
-    Some (record { action = action; count = None; history = history })
-said_with history (action ∷ count ∷ []) =
-    Some (record { action = action; count = Some count; history = history })
-said_with history (action ∷ count ∷ third ∷ words) = None
+abbrev pub nothing_wanted : Wanted
+nothing_wanted = record { history = false; printer = false }
 
-abbrev pub said_in : List (List ℕ) → List (List ℕ) → Option Said
-said_in [] plain = said_with false plain
-said_in (flag ∷ []) plain = if bytes_eq flag (codes "--history") then said_with true plain else None
-said_in (flag ∷ second ∷ flags) plain = None
+abbrev pub is_nothing : Wanted → Bool
+is_nothing wanted = not wanted.history && not wanted.printer
 
--- run, with the history or without, and check, without
-abbrev pub asked_alone : List ℕ → Bool → Asked
-asked_alone action history =
-    if bytes_eq action (codes "run") then Run history
-    else if bytes_eq action (codes "check") && not history then Check else Nothing
+-- no flag but `--history` and `--printer`, and each once at the most
+abbrev pub wanted_more : List ℕ → Wanted → Option Wanted
+wanted_more flag wanted =
+    if bytes_eq flag (codes "--history")
+    then (if wanted.history then None else Some (record wanted { history = true }))
+    else if bytes_eq flag (codes "--printer")
+    then (if wanted.printer then None else Some (record wanted { printer = true }))
+    else None
+
+abbrev pub wanted_from : Wanted → List (List ℕ) → Option Wanted
+wanted_from wanted [] = Some wanted
+wanted_from wanted (flag ∷ flags) =
+    option_and_then (λ more. wanted_from more flags) (wanted_more flag wanted)
+
+-- one plain word or two
+abbrev pub said_with : List (List ℕ) → Wanted → Option Said
+said_with [] wanted = None
+said_with (action ∷ []) wanted =
+    Some (record { action = action; count = None; wanted = wanted })
+said_with (action ∷ count ∷ []) wanted =
+    Some (record { action = action; count = Some count; wanted = wanted })
+said_with (action ∷ count ∷ third ∷ words) wanted = None
+
+-- with what is wanted by the flags before these
+abbrev pub said_in : Wanted → List (List ℕ) → List (List ℕ) → Option Said
+said_in wanted flags plain = option_and_then (said_with plain) (wanted_from wanted flags)
+
+-- run, with what is wanted of it, and check, without anything
+abbrev pub asked_alone : List ℕ → Wanted → Asked
+asked_alone action wanted =
+    if bytes_eq action (codes "run") then Run wanted
+    else if bytes_eq action (codes "check") && is_nothing wanted then Check else Nothing
 
 abbrev pub drill_by : Option ℕ → Asked
 drill_by None = Nothing
 drill_by (Some jobs) = Drill jobs
 
 -- drill, with a number from 1 to 16 in digits without a leading zero
-abbrev pub asked_counting : List ℕ → Bool → List ℕ → Asked
-asked_counting action history count =
-    if bytes_eq action (codes "drill") && not history
+abbrev pub asked_counting : List ℕ → Wanted → List ℕ → Asked
+asked_counting action wanted count =
+    if bytes_eq action (codes "drill") && is_nothing wanted
     then drill_by (number_between 1 MOST_DRILL_JOBS count) else Nothing
 
-abbrev pub asked_with : Option (List ℕ) → List ℕ → Bool → Asked
-asked_with None action history = asked_alone action history
-asked_with (Some count) action history = asked_counting action history count
+abbrev pub asked_with : Option (List ℕ) → List ℕ → Wanted → Asked
+asked_with None action wanted = asked_alone action wanted
+asked_with (Some count) action wanted = asked_counting action wanted count
 
 abbrev pub asked_plainly : Said → Asked
-asked_plainly said = asked_with said.count said.action said.history
+asked_plainly said = asked_with said.count said.action said.wanted
 
 abbrev pub asked_where : Option Said → Asked
 asked_where None = Nothing
 asked_where (Some said) = asked_plainly said
 
 abbrev pub said : List (List ℕ) → Option Said
-said words = said_in (sorted words).flags (sorted words).plain
+said words = said_in nothing_wanted (sorted words).flags (sorted words).plain
 
 abbrev pub asked : List (List ℕ) → Asked
 asked words = asked_where (said words)

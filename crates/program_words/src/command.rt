@@ -5,17 +5,18 @@ ghost use Rattle.clap.specs.Words.{app_of};
 ghost use Rattle.program_words.specs.Words.{said};
 ghost use Rattle.program_words.specs.CommandLine.{command_app, said_option};
 
+use crate::words::Wanted;
 use basic_values::NoMemory;
 use clap::error::ErrorKind;
 use clap::{Arg, ArgAction, Command};
 use std::alloc::{AllocError, Global};
 
-/// An action, a count behind it where there is one, and whether the history is wanted.
+/// An action, a count behind it where there is one, and what is wanted by flags.
 #[derive(Clone, Copy)]
 pub(crate) struct Said<'a> {
     pub(crate) action: &'a str,
     pub(crate) count: Option<&'a str>,
-    pub(crate) history: bool,
+    pub(crate) wanted: Wanted,
 }
 
 /// One flat command without help and version.
@@ -27,13 +28,17 @@ fn command<'a>(alloc: Global) -> Result<Command<'a>, AllocError>
     let history = Arg::new(alloc, "history")
         .long("history")
         .action(ArgAction::SetTrue);
+    let printer = Arg::new(alloc, "printer")
+        .long("printer")
+        .action(ArgAction::SetTrue);
     Command::new(alloc, "rsts")
         .no_binary_name(true)
         .disable_help_flag(true)
         .disable_version_flag(true)
         .arg(action)?
         .arg(count)?
-        .arg(history)
+        .arg(history)?
+        .arg(printer)
 }
 
 /// Words that are refused say nothing, unless it was for want of memory.
@@ -60,7 +65,10 @@ pub(crate) fn said_by(alloc: Global, words: &[String]) -> Result<Option<Said<'_>
         Some(action) => Ok(Some(Said {
             action,
             count: matches.get_str("count"),
-            history: matches.get_flag("history"),
+            wanted: Wanted {
+                history: matches.get_flag("history"),
+                printer: matches.get_flag("printer"),
+            },
         })),
         None => Ok(None),
     }

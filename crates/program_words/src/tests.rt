@@ -2,16 +2,45 @@ use super::*;
 use std::alloc::Global;
 use std::test::Fail;
 
+/// A run, and nothing but its report.
+const PLAIN: Asked = Asked::Run(Wanted {
+    history: false,
+    printer: false,
+});
+
+const WITH_HISTORY: Asked = Asked::Run(Wanted {
+    history: true,
+    printer: false,
+});
+
+const WITH_PRINTER: Asked = Asked::Run(Wanted {
+    history: false,
+    printer: true,
+});
+
+const WITH_BOTH: Asked = Asked::Run(Wanted {
+    history: true,
+    printer: true,
+});
+
 /// Words, and what they ask for.
 type Row = (&'static [&'static str], Asked);
 
-static ROWS: [Row; 36] = [
-    (&["run"], Asked::Run(false)),
-    (&["run", "--history"], Asked::Run(true)),
-    (&["--history", "run"], Asked::Run(true)),
-    (&["--", "run"], Asked::Run(false)),
-    (&["run", "--"], Asked::Run(false)),
-    (&["--history", "--", "run"], Asked::Run(true)),
+static ROWS: [Row; 52] = [
+    (&["run"], PLAIN),
+    (&["run", "--history"], WITH_HISTORY),
+    (&["--history", "run"], WITH_HISTORY),
+    (&["--", "run"], PLAIN),
+    (&["run", "--"], PLAIN),
+    (&["--history", "--", "run"], WITH_HISTORY),
+    (&["run", "--printer"], WITH_PRINTER),
+    (&["--printer", "run"], WITH_PRINTER),
+    (&["--printer", "--", "run"], WITH_PRINTER),
+    (&["run", "--history", "--printer"], WITH_BOTH),
+    (&["run", "--printer", "--history"], WITH_BOTH),
+    (&["--printer", "run", "--history"], WITH_BOTH),
+    (&["--history", "run", "--printer"], WITH_BOTH),
+    (&["--printer", "--history", "run", "--"], WITH_BOTH),
     (&["check"], Asked::Check),
     (&["--", "check"], Asked::Check),
     (&["drill", "1"], Asked::Drill(1)),
@@ -38,6 +67,17 @@ static ROWS: [Row; 36] = [
     (&["--history"], Asked::Nothing),
     (&["run", "--history", "--history"], Asked::Nothing),
     (&["run", "--", "--history"], Asked::Nothing),
+    (&["check", "--printer"], Asked::Nothing),
+    (&["drill", "4", "--printer"], Asked::Nothing),
+    (&["--printer"], Asked::Nothing),
+    (&["run", "--printer", "--printer"], Asked::Nothing),
+    (
+        &["run", "--history", "--printer", "--history"],
+        Asked::Nothing,
+    ),
+    (&["run", "--", "--printer"], Asked::Nothing),
+    (&["run", "--printer=1"], Asked::Nothing),
+    (&["run", "--print"], Asked::Nothing),
     (&["run", "--history=1"], Asked::Nothing),
     (&["run", "--hist"], Asked::Nothing),
     (&["run", "-h"], Asked::Nothing),

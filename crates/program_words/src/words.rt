@@ -2,7 +2,7 @@
 
 ghost use Rattle.std.specs.Prelude.{◌≡◌, IfOk, map, string_bytes};
 ghost use Rattle.basic_values.specs.Decimals.{number_between};
-ghost use Rattle.program_words.specs.Words.{asked, asked_plainly, drill_by, IsFew};
+ghost use Rattle.program_words.specs.Words.{asked, asked_plainly, drill_by, is_nothing, IsFew};
 ghost use Rattle.program_words.specs.CommandLine.{said_seen};
 
 use crate::command::{Said, said_by};
@@ -12,11 +12,29 @@ use std::alloc::Global;
 /// The most terminals of a drill.
 pub const MOST_DRILL_JOBS: u32 = 16;
 
+/// What is wanted of a run behind its report.
+#[derive(Clone, Copy, Debug, PartialEq, Eq)]
+pub struct Wanted {
+    /// The text of its history.
+    pub history: bool,
+    /// What the printer printed.
+    pub printer: bool,
+}
+
+impl Wanted {
+    /// Whether nothing is.
+    fn is_nothing(self) -> bool
+        ensures { result ≡ is_nothing self }
+    {
+        !self.history && !self.printer
+    }
+}
+
 /// What the words ask for.
 #[derive(Clone, Copy, Debug, PartialEq, Eq)]
 pub enum Asked {
-    /// A run, with the text of its history or without.
-    Run(bool),
+    /// A run, and what is wanted of it.
+    Run(Wanted),
     Check,
     /// A drill with so many terminals, from 1 to `MOST_DRILL_JOBS`.
     Drill(u32),
@@ -40,9 +58,11 @@ fn asked_of(said: Said<'_>) -> Asked
     ensures few { IsFew result }
 {
     match said.count {
-        None if said.action == "run" => Asked::Run(said.history),
-        None if said.action == "check" && !said.history => Asked::Check,
-        Some(count) if said.action == "drill" && !said.history => drill_of(count.as_bytes()),
+        None if said.action == "run" => Asked::Run(said.wanted),
+        None if said.action == "check" && said.wanted.is_nothing() => Asked::Check,
+        Some(count) if said.action == "drill" && said.wanted.is_nothing() => {
+            drill_of(count.as_bytes())
+        }
         _ => Asked::Nothing,
     }
 }

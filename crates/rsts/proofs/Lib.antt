@@ -1,3 +1,4 @@
 mod RunLemmas
 mod StreamLemmas
 mod SystemLemmas
+mod WritingLemmas

@@ -17,6 +17,7 @@ use Rattle.rsts.specs.declared.systems.Stopped.{Stopped}
 use Rattle.rsts.specs.declared.systems.Stopped.TheVariants as stopped
 use Rattle.deck_reader.specs.Seen.{terminal_of, deck_of}
 use Rattle.report_texts.specs.Names.{names_of}
+use Rattle.program_words.specs.declared.words.Wanted.{Wanted}
 use Rattle.program_words.specs.declared.words.Asked.{Asked}
 use Rattle.program_words.specs.declared.words.Asked.TheVariants.{Run, Check, Drill, Nothing}
 use Rattle.rsts.specs.Headline as headline
@@ -111,7 +112,7 @@ module _ (deck : Deck) (before after : Ends) (stop : MustStop (Ok deck) before.s
   unfolding some_deck no_deck
   not_refused fault none = ⊎_elim (is_found deck (stopped.Deck fault)) (is_found deck stopped.NoMemory) (refuse fault none)
 
-  pub ran_answers : (wanted : Bool) (history : List Entry) → Answers (IsReport wanted) HasRan before after (outcome.Ok history)
+  pub ran_answers : (wanted : Wanted) (history : List Entry) → Answers (IsReport wanted) HasRan before after (outcome.Ok history)
   ran_answers wanted history = record {
     not_usage = tt;
     read_fault = tt;
@@ -166,7 +167,7 @@ wanted_answers IsOutput Succeeds e = record {
 }
 
 pub wanted : (asked : Asked) (e : Ends) → Does asked e e outcome.NoMemory
-wanted (Run history) e = record { ran = tt; not_checked = tt; not_drilled = tt; answers = wanted_answers (IsReport history) HasRan e }
+wanted (Run of) e = record { ran = tt; not_checked = tt; not_drilled = tt; answers = wanted_answers (IsReport of) HasRan e }
 wanted Check e = record { checked = tt; not_ran = tt; not_drilled = tt; answers = wanted_answers IsGoodLine HasChecked e }
 wanted (Drill jobs) e = record {
   source = refl;

@@ -1,6 +1,6 @@
 -- What the program does. Whoever trusts this file, and the definitions that it names, knows it.
 -- `Does`, at the end, is the one clause of the program's call; what stands before it are its words.
-use Rattle.std.specs.Prelude.{◌≡◌, ℕ, ◌≤◌, Bool, if◌then◌else◌, List, ◌++◌, length, map, slice_get, Some, ◌⊎◌}
+use Rattle.std.specs.Prelude.{◌≡◌, ℕ, ◌≤◌, Bool, if◌then◌else◌, List, [], ◌++◌, length, map, slice_get, Some, ◌⊎◌}
 use Rattle.monitor_calls.specs.declared.calls.Entry.{Entry}
 use Rattle.monitor_calls.specs.Pairs.{Pair, requests, replies}
 use Rattle.monitor_calls.specs.Proper.{Proper}
@@ -12,6 +12,8 @@ use Rattle.deck_model.specs.Spelling.{Spelled}
 use Rattle.deck_model.specs.Refusals as refusals
 use Rattle.deck_model.specs.Report.{report, good_line}
 use Rattle.deck_model.specs.Histories.{history_text}
+use Rattle.print_spool.specs.Printed.{printed_text}
+use Rattle.program_words.specs.declared.words.Wanted.{Wanted}
 use Rattle.program_words.specs.declared.words.Asked.{Asked}
 use Rattle.program_words.specs.declared.words.Asked.TheVariants.{Run, Check, Drill, Nothing}
 use Rattle.rsts_io.specs.Ends.{SourceState, SinkState, Rose}
@@ -70,21 +72,25 @@ pub record IsRun (deck : Deck) (history : List Entry) (screens : List (List ℕ)
 abbrev pub names_in : Deck → List (List ℕ)
 names_in deck = map (λ (terminal : Terminal). terminal.name) deck.terminals
 
--- what is written of a run: its report, and behind it the text of its history where that is wanted
-abbrev pub written_of : Bool → Deck → List Entry → List (List ℕ) → List ℕ
+abbrev pub where_wanted : Bool → List ℕ → List ℕ
+where_wanted wanted text = if wanted then text else []
+
+-- what is written of a run: its report; behind it the text of its history, and behind these what the
+-- printer printed, each where it is wanted
+abbrev pub written_of : Wanted → Deck → List Entry → List (List ℕ) → List ℕ
 written_of wanted deck history screens =
-    if wanted then report (names_in deck) screens ++ history_text history
-    else report (names_in deck) screens
+    report (names_in deck) screens ++ where_wanted wanted.history (history_text history)
+    ++ where_wanted wanted.printer (printed_text (names_in deck) history)
 
 -- the report of a run of the deck with this history
-pub record Reports (wanted : Bool) (deck : Deck) (history : List Entry) (output : List ℕ)
+pub record Reports (wanted : Wanted) (deck : Deck) (history : List Entry) (output : List ℕ)
     : Type 0 where
   pub screens : List (List ℕ)
   pub run : IsRun deck history screens
   pub reported : output ≡ written_of wanted deck history screens
 
 -- what a run of the deck may write
-abbrev pub IsReport : Bool → Deck → List ℕ → Type 0
+abbrev pub IsReport : Wanted → Deck → List ℕ → Type 0
 IsReport wanted deck output = (history : List Entry) × Reports wanted deck history output
 
 -- what a check of the deck writes
@@ -101,7 +107,7 @@ pub record FoundDeck (deck : Deck) (old new : SourceState) : Type 0 where
   pub spelled : Spelled read deck
 
 -- the input spells a deck, and what was written is the report of a run of it with this history
-pub record Headline (wanted : Bool) (before after : Ends) (history : List Entry) : Type 0 where
+pub record Headline (wanted : Wanted) (before after : Ends) (history : List Entry) : Type 0 where
   pub deck : Deck
   pub output : List ℕ
   pub found : FoundDeck deck before.source after.source
@@ -256,7 +262,7 @@ pub record Answers (IsOutput : Deck → List ℕ → Type 0) (Succeeds : Outcome
   pub must_refuse : Refuses before after result
   pub completes : Completes Succeeds before after result
 
-pub record Runs (wanted : Bool) (before after : Ends) (result : Outcome) : Type 0 where
+pub record Runs (wanted : Wanted) (before after : Ends) (result : Outcome) : Type 0 where
   pub ran : IfRan result (Headline wanted before after)
   pub not_checked : OnChecked result ⊥
   pub not_drilled : IfDrilled result (λ drill. ⊥)
@@ -277,8 +283,8 @@ pub record TellsUsage (before after : Ends) (result : Outcome) : Type 0 where
   pub usage : (result ≡ outcome.Usage) ⊎ (result ≡ outcome.NoMemory)
   pub untouched : after ≡ before
 
--- as the words ask, a deck is run, with the text of its history or without, or checked, or a drill is
--- run, or the usage is told
+-- as the words ask, a deck is run, and what is wanted of it is written, or it is checked, or a drill
+-- is run, or the usage is told
 abbrev pub Does : Asked → Ends → Ends → Outcome → Type 0
 Does (Run wanted) before after result = Runs wanted before after result
 Does Check before after result = Checks before after result

@@ -10,6 +10,6 @@ use Rattle.rsts.specs.Headline.{Ends, Does}
 -- all that the words ask is done; or they ask for a run or a drill, and nothing was done yet
 abbrev pub Begins : Asked → Ends → Ends → Step → Type 0
 Begins asked before after (step.Ended result) = Does asked before after result
-Begins asked before after (step.Runs history) = (asked ≡ Run history) × (after ≡ before)
+Begins asked before after (step.Runs wanted) = (asked ≡ Run wanted) × (after ≡ before)
 Begins asked before after (step.Drills jobs) =
     (asked ≡ Drill jobs) × (after ≡ before) × (jobs ≤ MOST_DRILL_JOBS)

@@ -1,10 +1,10 @@
 //! The program: time sharing after RSTS/E, with BASIC-PLUS jobs.
 //!
 //! `top::rsts_main` carries the program's promise: its one clause is `Does` of `specs/Headline`.
-//! `streams` reads a source and gives to a sink, `runs` runs the terminals of a deck,
-//! `systems` and `drills` put these together, and `outcomes` tells the status. It stands on `program_words`, for
+//! `streams` reads a source and gives to a sink, `runs` runs the terminals of a deck, `writings` makes
+//! what is written of a run, `systems` and `drills` put these together, and `outcomes` tells the status. It stands on `program_words`, for
 //! what is asked, on `deck_reader`, for decks, on `report_texts`, for what is written, on `command_level`, for the
-//! session of a terminal, on `terminal_runner`, for the threads, and on `rsts_io`, for the ends;
+//! session of a terminal, on `terminal_runner`, for the threads, on `print_spool`, for listings, and on `rsts_io`, for the ends;
 //! what they mean stands in `deck_model`, `job_model` and `monitor_model`.
 #![tactic(auto)]
 
@@ -14,6 +14,7 @@ mod runs;
 mod streams;
 mod systems;
 mod top;
+mod writings;
 
 use crate::outcomes::Outcome;
 use crate::top::{Step, begin, rsts_main};

@@ -9,11 +9,13 @@ ghost use Rattle.rsts.specs.SourceEnds.{FoundInSource, MustFind, MustRefuse, Mus
 use crate::outcomes::Outcome;
 use crate::runs::run_deck;
 use crate::streams::{ReadEnd, SinkFault, give_all, read_all};
+use crate::writings::written;
 use basic_values::{NoMemory, Trouble};
 use deck_model::DeckFault;
 use deck_reader::{Deck, read_deck};
 use monitor_calls::RunRecord;
-use report_texts::{good_line, push_history, report};
+use program_words::Wanted;
+use report_texts::good_line;
 use rsts_io::{Pacer, Sink, Source};
 use std::alloc::Global;
 use std::sync::Wait;
@@ -41,24 +43,24 @@ impl Stopped {
     }
 }
 
-/// Runs the terminals of the deck that the source spells and writes the report, and behind it the
-/// text of the history where that is wanted, as the word `run` asks.
+/// Runs the terminals of the deck that the source spells and writes what is wanted of the run, as
+/// the word `run` asks.
 pub(crate) fn run_system<R: Threads + Wait + Sync, S: Source, K: Sink, P: Pacer + Sync>(
     rt: &R,
     alloc: Global,
-    history: bool,
+    wanted: Wanted,
     source: &mut S,
     sink: &mut K,
     pacer: &P,
 ) -> Outcome
-    ensures { Runs history (ends (S.state source.old) (K.state sink.old))
+    ensures { Runs wanted (ends (S.state source.old) (K.state sink.old))
         (ends (S.state source.new) (K.state sink.new)) result }
 {
     let deck = match read_system(alloc, source) {
         Ok(deck) => deck,
         Err(stopped) => return stopped.outcome(),
     };
-    let (record, output) = match run_and_report(rt, alloc, history, &deck, pacer) {
+    let (record, output) = match run_and_report(rt, alloc, wanted, &deck, pacer) {
         Ok(ran) => ran,
         Err(NoMemory) => return Outcome::NoMemory,
     };
@@ -114,18 +116,14 @@ fn read_system<S: Source>(alloc: Global, source: &mut S) -> Result<Deck, Stopped
 fn run_and_report<R: Threads + Wait + Sync, P: Pacer + Sync>(
     rt: &R,
     alloc: Global,
-    history: bool,
+    wanted: Wanted,
     deck: &Deck,
     pacer: &P,
 ) -> Result<(RunRecord, Vec<u8>), NoMemory>
     requires { IsDeck (deck_of deck.now) }
-    ensures { IfOk result (λ ran. Reports history (deck_of deck.now) ran.0 ran.1.items) }
+    ensures { IfOk result (λ ran. Reports wanted (deck_of deck.now) ran.0 ran.1.items) }
 {
     let ran = run_deck(rt, alloc, deck, pacer)?;
-    let mut output = report(alloc, deck.terminals.as_slice(), ran.screens.as_slice())?;
-    if !history {
-        return Ok((ran.run, output));
-    }
-    push_history(&mut output, ran.run.as_slice())?;
+    let output = written(alloc, wanted, deck, &ran)?;
     Ok((ran.run, output))
 }

@@ -9,7 +9,7 @@ use crate::drills::run_drill;
 use crate::outcomes::Outcome;
 use crate::systems::{check_system, run_system};
 use basic_values::NoMemory;
-use program_words::{Asked, asked_by};
+use program_words::{Asked, Wanted, asked_by};
 use rsts_io::{Pacer, Sink, Source};
 use std::alloc::Global;
 use std::sync::Wait;
@@ -20,8 +20,8 @@ use std::thread::Threads;
 pub enum Step {
     /// It is done.
     Ended(Outcome),
-    /// A deck is to be run, with the text of its history or without; nothing was read yet.
-    Runs(bool),
+    /// A deck is to be run, and this written of it; nothing was read yet.
+    Runs(Wanted),
     /// A drill is to be run, with so many terminals.
     Drills(u32),
 }
@@ -39,7 +39,7 @@ pub fn begin<S: Source, K: Sink>(
         (ends (S.state source.new) (K.state sink.new)) result }
 {
     match asked_by(alloc, words) {
-        Ok(Asked::Run(history)) => Step::Runs(history),
+        Ok(Asked::Run(wanted)) => Step::Runs(wanted),
         Ok(Asked::Check) => Step::Ended(check_system(alloc, source, sink)),
         Ok(Asked::Drill(jobs)) => Step::Drills(jobs),
         Ok(Asked::Nothing) => Step::Ended(Outcome::Usage),
@@ -48,8 +48,9 @@ pub fn begin<S: Source, K: Sink>(
 }
 
 /// Reads a deck from the source, runs its terminals, each in a thread of its own, and writes the
-/// report to the sink, and behind it the text of the history; or reads a deck and writes whether it
-/// is good; or runs the drill's deck and writes what it came to; as the words ask.
+/// report to the sink, behind it the text of the history and what the printer printed; or reads a
+/// deck and writes whether it is good; or runs the drill's deck and writes what it came to; as the
+/// words ask.
 pub fn rsts_main<R: Threads + Wait + Sync, S: Source, K: Sink, P: Pacer + Sync>(
     rt: &R,
     alloc: Global,
@@ -64,7 +65,7 @@ pub fn rsts_main<R: Threads + Wait + Sync, S: Source, K: Sink, P: Pacer + Sync>(
 {
     match begin(alloc, words, source, sink) {
         Step::Ended(outcome) => outcome,
-        Step::Runs(history) => run_system(rt, alloc, history, source, sink, pacer),
+        Step::Runs(wanted) => run_system(rt, alloc, wanted, source, sink, pacer),
         Step::Drills(jobs) => run_drill(rt, alloc, jobs, sink, pacer),
     }
 }
@@ -79,6 +80,8 @@ mod ends;
 mod hostile;
 #[cfg(test)]
 mod pacing;
+#[cfg(test)]
+mod printing;
 #[cfg(test)]
 mod sessions;
 #[cfg(test)]

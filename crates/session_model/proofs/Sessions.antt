@@ -16,7 +16,8 @@ use Rattle.file_names.specs.declared.spec.Spec.{Spec}
 use Rattle.basic_tree.specs.ProgramLines.{Lines}
 use Rattle.basic_values.specs.declared.limits.TheConstants.{MOST_FILES}
 use Rattle.program_files.specs.Catalogs.{catalog_from}
-use Rattle.program_files.specs.Channels.{kills}
+use Rattle.program_files.specs.Channels.{FileAct, kills}
+use Rattle.program_files.specs.Listings.{assigns, deassigns, prints_file}
 use Rattle.program_files.specs.Programs.{reads_pages, writes_pages}
 use Rattle.program_model.specs.declared.refusals.LowerRefusal.{LowerRefusal}
 use Rattle.program_model.specs.Program.{Program, Position}
@@ -26,10 +27,10 @@ use Rattle.program_model.specs.Storage.{in_storage}
 use Rattle.program_model.specs.FileActs.{shut_act}
 use Rattle.program_model.specs.Running.{Coming, raises}
 use Rattle.program_model.specs.Soundness.{can_begin, refusal_of, refusal_now}
-use Rattle.session_model.specs.Commands.{Login, Naming, Nameless, Named, Misnamed, Range, Command, Hello, Bye, New, Rename, ListLines, Delete, Run, RunFile, Continue, Old, Save, Unsave, Catalog, Cataloging, OfOwn, OfAccount, OfNone, Numbered, Immediate, command_of}
+use Rattle.session_model.specs.Commands.{Login, Naming, Nameless, Named, Misnamed, Range, Command, Hello, Bye, New, Rename, ListLines, Delete, Run, RunFile, Continue, Old, Save, Unsave, Catalog, Cataloging, OfOwn, OfAccount, OfNone, Assign, Deassign, Queue, Numbered, Immediate, command_of}
 use Rattle.session_model.specs.Editing.{Edited, Accepted, Refused, edited}
-use Rattle.session_model.specs.ProgramFiles.{spec_read, spec_or_own, is_blank_text, saved_pages, program_on}
-use Rattle.session_model.specs.Talk.{Session, Step, answered, says, keys_are, entered, hello, leave, no_name, named, emptied, begins_new, renames, headed, lists, deletes, takes_edit, broken_off, tried, with_storage, shut_down, by_name, with_name_of, loaded, loads, reads_old, old, saves_as, saves, kills_file, unsaves, with_screen, catalogs_of, catalogs, rests, runs_loaded, reads_and_runs, runs_file, program_by, outlived, with_job, reported, Runner, in_session, run_is_over, runs_there, runs_unless, runs_shut, begun, runs, chains_to, unread, reads_program, follows_chain, behind_end, run_to, ends_run, runs_chained, runs_all, goes_on, line_ended, line_unless, immediate, visitor_acts, user_acts, acts, line_acts, with_next, session, opening}
+use Rattle.session_model.specs.ProgramFiles.{spec_read, listed_spec, spec_or_own, is_blank_text, saved_pages, program_on}
+use Rattle.session_model.specs.Talk.{Session, Step, answered, says, keys_are, entered, hello, leave, no_name, named, emptied, begins_new, renames, headed, lists, deletes, takes_edit, broken_off, tried, with_storage, shut_down, by_name, with_name_of, loaded, loads, reads_old, old, saves_as, saves, kills_file, unsaves, with_screen, catalogs_of, catalogs, on_printer, queues_by, rests, runs_loaded, reads_and_runs, runs_file, program_by, outlived, with_job, reported, Runner, in_session, run_is_over, runs_there, runs_unless, runs_shut, begun, runs, chains_to, unread, reads_program, follows_chain, behind_end, run_to, ends_run, runs_chained, runs_all, goes_on, line_ended, line_unless, immediate, visitor_acts, user_acts, acts, line_acts, with_next, session, opening}
 use Rattle.job_model.specs.Texts.{line_end}
 use Rattle.job_model.specs.Follow.{Path, here, asked, quiet, tick, gone}
 use Rattle.job_model.specs.Play.{Clock}
@@ -136,6 +137,13 @@ module _ {R : Type 0} (n : ℕ) where
   catalogs_keeps own (OfAccount owner) s h = catalogs_of_keeps owner s h
   catalogs_keeps own OfNone s h = h
 
+  on_printer_keeps : (act : FileAct (Unit {0})) (s : Session R) → Fewer n s.job → Keeps n (on_printer act s)
+  on_printer_keeps act s h = tried_keeps (λ _. s) (λ _ s. answered [] s) act (λ _. h) (λ _ s g. g)
+
+  queues_keeps : (named : Result Spec ℕ) (s : Session R) → Fewer n s.job → Keeps n (queues_by named s)
+  queues_keeps (Ok spec) s h = on_printer_keeps (prints_file spec.name spec.code) s h
+  queues_keeps (Err number) s h = h
+
   rests_keeps : (judge : Judge) (own : Account) (command : Command) (s : Session R) → Fewer n s.job → Keeps n (rests judge own command s)
   rests_keeps judge own Bye s h = λ reply. tt
   rests_keeps judge own (New naming) s h = new_keeps naming s h
@@ -146,6 +154,9 @@ module _ {R : Type 0} (n : ℕ) where
   rests_keeps judge own (Save kind tail) s h = saves_keeps own kind tail s h
   rests_keeps judge own (Unsave tail) s h = unsaves_keeps own tail s h
   rests_keeps judge own (Catalog of) s h = catalogs_keeps own of s h
+  rests_keeps judge own Assign s h = on_printer_keeps assigns s h
+  rests_keeps judge own Deassign s h = on_printer_keeps deassigns s h
+  rests_keeps judge own (Queue tail) s h = queues_keeps (listed_spec own tail) s h
   rests_keeps judge own (Numbered number rest) s h = edit_keeps (edited judge number rest s.lines) s h
   rests_keeps judge own command s h = h
 

@@ -18,7 +18,7 @@ use Rattle.error_trap.specs.Trapping.{untouched}
 use Rattle.job_memory.specs.Memory.{empty}
 use Rattle.job_model.specs.Act.{Act, Gives, Breaks, Asks, Takes, Break, Faulted, Halted, Gone, Left, ◌then◌}
 use Rattle.job_model.specs.Asking.{ask}
-use Rattle.session_model.specs.Commands.{Login, Naming, Nameless, Named, Misnamed, Range, Command, Hello, Bye, BadBye, Idle, New, Rename, ListLines, Delete, Run, Continue, WrongTail, Old, RunFile, Save, Unsave, Catalog, Cataloging, OfOwn, OfAccount, OfNone, Numbered, Immediate, command_of}
+use Rattle.session_model.specs.Commands.{Login, Naming, Nameless, Named, Misnamed, Range, Command, Hello, Bye, BadBye, Idle, New, Rename, ListLines, Delete, Run, Continue, WrongTail, Old, RunFile, Save, Unsave, Catalog, Cataloging, OfOwn, OfAccount, OfNone, Assign, Deassign, Queue, Numbered, Immediate, command_of}
 use Rattle.job_model.specs.Play.{at_start, fuel_for, play, End, Gave, Broke, Finished, Played, told_by}
 use Rattle.job_model.specs.PlayLaws.{Begins}
 use Rattle.job_model.specs.Texts.{line_end, job_expired}
@@ -28,6 +28,7 @@ use Rattle.basic_tree.specs.ProgramLines.{Lines, within, without, listing}
 use Rattle.basic_values.specs.declared.limits.TheConstants.{MOST_FILES}
 use Rattle.program_files.specs.Catalogs.{catalog_from}
 use Rattle.program_files.specs.Channels.{FileAct, kills}
+use Rattle.program_files.specs.Listings.{assigns, deassigns, prints_file}
 use Rattle.program_files.specs.Programs.{reads_pages, writes_pages}
 use Rattle.program_model.specs.declared.refusals.LowerCause.TheVariants.{NoLine}
 use Rattle.program_model.specs.declared.refusals.LowerRefusal.{LowerRefusal}
@@ -44,7 +45,7 @@ use Rattle.program_model.specs.Running.{Coming, no_home, cleared, runs_cleared, 
 use Rattle.program_model.specs.Soundness.{can_begin, refusal_of, refusal_now}
 use Rattle.terminal_line.specs.Columns.{column_of, fresh_text}
 use Rattle.session_model.specs.Editing.{Edited, Accepted, Refused, edited}
-use Rattle.session_model.specs.ProgramFiles.{spec_read, spec_or_own, is_blank_text, saved_pages, program_on}
+use Rattle.session_model.specs.ProgramFiles.{spec_read, listed_spec, spec_or_own, is_blank_text, saved_pages, program_on}
 use Rattle.session_model.specs.Texts.{ready, please_say_hello, invalid_entry, already_logged_in, illegal_command, bye, illegal_file_name, fault_line, halt_line, cant_continue, refusal_text, lowering_text}
 
 -- THE SESSION
@@ -234,6 +235,18 @@ catalogs own OfOwn s = catalogs_of own s
 catalogs own (OfAccount owner) s = catalogs_of owner s
 catalogs own OfNone s = answered illegal_command s
 
+-- THE PRINTER: what is asked about it, and Ready or the error
+abbrev pub on_printer : {R : Type 0} → FileAct Unit → Session R → Step R
+on_printer act s = on_files act (λ _ s. answered [] s) s
+
+-- QUE: a name has to stand behind it
+abbrev pub queues_by : {R : Type 0} → Result Spec ℕ → Session R → Step R
+queues_by (Ok spec) s = on_printer (prints_file spec.name spec.code) s
+queues_by (Err number) s = answered illegal_command s
+
+abbrev pub queues : {R : Type 0} → Account → List ℕ → Session R → Step R
+queues own tail s = queues_by (listed_spec own tail) s
+
 -- what runs no program, for the account that the session acts for
 abbrev pub rests : {R : Type 0} → Judge → Account → Command → Session R → Step R
 rests judge own (Hello login) s = answered already_logged_in s
@@ -249,6 +262,9 @@ rests judge own (Old tail) s = old judge own tail s
 rests judge own (Save kind tail) s = saves own kind tail s
 rests judge own (Unsave tail) s = unsaves own tail s
 rests judge own (Catalog of) s = catalogs own of s
+rests judge own Assign s = on_printer assigns s
+rests judge own Deassign s = on_printer deassigns s
+rests judge own (Queue tail) s = queues own tail s
 rests judge own (Numbered number rest) s = takes_edit (edited judge number rest s.lines) s
 rests judge own other s = Gives tt s
 

@@ -16,6 +16,8 @@ mod lines;
 #[cfg(test)]
 mod pages;
 #[cfg(test)]
+mod printing;
+#[cfg(test)]
 mod programs;
 #[cfg(test)]
 mod scripts;

@@ -204,8 +204,25 @@ fn request_told(alloc: Global, request: &Request) -> Result<String, Fail> {
         Request::Remove => Ok(String::from_str(alloc, "Remove")?),
         Request::Receive => Ok(String::from_str(alloc, "Receive")?),
         Request::Status => Ok(String::from_str(alloc, "Status")?),
+        _ => printer_told(alloc, request),
+    }
+}
+
+/// A request of the printer as text.
+fn printer_told(alloc: Global, request: &Request) -> Result<String, Fail> {
+    match request {
+        Request::Assign => Ok(String::from_str(alloc, "Assign")?),
+        Request::Deassign => Ok(String::from_str(alloc, "Deassign")?),
+        Request::OpenPrinter => Ok(String::from_str(alloc, "OpenPrinter")?),
+        Request::Print { text } => print_told(alloc, text),
+        Request::ClosePrinter => Ok(String::from_str(alloc, "ClosePrinter")?),
         _ => Ok(String::from_str(alloc, "another")?),
     }
+}
+
+fn print_told(alloc: Global, text: &Text) -> Result<String, Fail> {
+    let text = str::from_utf8(text.as_bytes())?;
+    Ok(format!(in alloc; "Print {text}")?)
 }
 
 fn declare_told(alloc: Global, name: &Short, most: u8) -> Result<String, Fail> {

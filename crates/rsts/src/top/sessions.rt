@@ -8,22 +8,22 @@ use std::test::Fail;
 use std::thread::Threads;
 
 /// A line, and what it shows, with LF where the screen has CR LF.
-type Row = (&'static str, &'static str);
+pub(crate) type Row = (&'static str, &'static str);
 
-/// A deck's lines in front of its terminals, and the rows of each terminal.
-type System = (&'static str, &'static [&'static [Row]]);
+/// A deck's lines in front of its terminals, and the rows of each terminal, `T0` and so on.
+pub(crate) type System = (&'static str, &'static [&'static [Row]]);
 
-const READY: &str = "Ready\n";
+pub(crate) const READY: &str = "Ready\n";
 
-const NO_FILE: &str = "?Can't find file or account\nReady\n";
+pub(crate) const NO_FILE: &str = "?Can't find file or account\nReady\n";
 
-const PROTECTED: &str = "?Protection violation\nReady\n";
+pub(crate) const PROTECTED: &str = "?Protection violation\nReady\n";
 
 const END_OF_FILE: &str = "?End of file on device\nReady\n";
 
 const INTERLOCKED: &str = "?Disk block is interlocked\nReady\n";
 
-const LOGIN: Row = ("HELLO 100,5;DEMO", READY);
+pub(crate) const LOGIN: Row = ("HELLO 100,5;DEMO", READY);
 
 /// Adds a text with CR LF where it has LF.
 fn push_shown(screen: &mut Vec<u8>, text: &str) -> Result<(), Fail> {
@@ -72,7 +72,7 @@ fn push_terminal(
 }
 
 /// The deck of a system, and its report.
-fn deck_and_report(alloc: Global, system: &System) -> Result<(Vec<u8>, Vec<u8>), Fail> {
+pub(crate) fn deck_and_report(alloc: Global, system: &System) -> Result<(Vec<u8>, Vec<u8>), Fail> {
     let mut deck = system.0.as_bytes().to_vec(alloc)?;
     let mut report = Vec::new(alloc);
     for (place, rows) in system.1.iter().enumerate() {

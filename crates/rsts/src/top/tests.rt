@@ -27,7 +27,7 @@ fn a_program_that_always_wants_memory_fails_these_rows(rt: HostRuntime) -> Resul
 
 const USAGE: &str = "usage: rsts run [--history] | check | drill N";
 
-static OTHER_WORDS: [&[&str]; 15] = [
+static OTHER_WORDS: [&[&str]; 18] = [
     &[""],
     &["RUN"],
     &["runs"],
@@ -36,12 +36,15 @@ static OTHER_WORDS: [&[&str]; 15] = [
     &["run", "run"],
     &["run", "3"],
     &["check", "--history"],
+    &["check", "--printer"],
     &["drill"],
     &["drill", "0"],
     &["drill", "17"],
     &["drill", "04"],
     &["drill", "+4"],
     &["drill", "4", "--history"],
+    &["drill", "4", "--printer"],
+    &["run", "--printer", "--printer"],
     &["drill", "4", "4"],
 ];
 

@@ -6,10 +6,10 @@ use Rattle.program_files.proofs.Acts.{closed_at_value, unclosed_value}
 use Rattle.program_files.proofs.channels.close_behind.Goals as goal
 
 pub returns-in_err-close-in-Ok : goal.returns-in_err-close-in-Ok
-returns-in_err-close-in-Ok g c start clock act f = unclosed_value c.args.outcome c.in-Ok.value c.in_err-close-in-Ok.field-0.0 c.from_residual.result c.in-Ok.is c.from_residual.ensures.1 f (c.in_err-close-in-Ok.ensures clock)
+returns-in_err-close-in-Ok g c start clock act f = unclosed_value c.args.opened c.args.outcome c.in-Ok.value c.in_err-close-in-Ok.field-0.0 c.from_residual.result c.in-Ok.is c.from_residual.ensures.1 f (c.in_err-close-in-Ok.ensures clock)
 
 pub returns-in_ok-close-in-Ok : goal.returns-in_ok-close-in-Ok
-returns-in_ok-close-in-Ok g c start clock act f = closed_at_value c.args.outcome c.in-Ok.value c.in-Ok.is f (c.in_ok-close-in-Ok.ensures clock)
+returns-in_ok-close-in-Ok g c start clock act f = closed_at_value c.args.opened c.args.outcome c.in-Ok.value c.in-Ok.is f (c.in_ok-close-in-Ok.ensures clock)
 
 pub returns-in-Err : goal.returns-in-Err
 returns-in-Err g c start clock act f =

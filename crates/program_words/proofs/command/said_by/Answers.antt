@@ -4,7 +4,9 @@ use Rattle.std.specs.Global.{Global}
 use Rattle.clap.specs.Words.{App, HasKind, app_of, found_of, rows_of, fault_of, matches_of, first_of, one_of, is_simple, is_simple_and_free}
 use Rattle.clap.proofs.WalkLemmas.{first_value-rows, one_text-rows}
 use Rattle.program_words.specs.CommandLine.{command_app}
-use Rattle.program_words.proofs.Parses.{all_utf8, refused_then, is_true, simple, simple_and_free, refused_says, taken_says, flag_is, read_is, read_none}
+use Rattle.program_words.proofs.Uses.{History, Printer}
+use Rattle.program_words.proofs.Rows.{is_true}
+use Rattle.program_words.proofs.Parses.{all_utf8, refused_then, simple, simple_and_free, refused_says, taken_says, flag_is, read_is, read_none}
 use Rattle.program_words.proofs.command.said_by.Goals as goal
 
 pub returns-in-Err : goal.returns-in-Err
@@ -24,12 +26,15 @@ returns-in-Some c =
     let free : is_simple_and_free (app_of c.in_ok-command.field-0) ≡ true = ap is_simple_and_free is ∙ simple_and_free in
     let none : fault_of command_app words ≡ [] = subst (λ (app : App). fault_of app words ≡ []) is (c.in-Ok.ensures.kinds free) in
     let found : rows ≡ matches_of command_app words = (c.in-Ok.ensures.matches (ap is_simple is ∙ simple)).0 ∙ ap (λ (app : App). matches_of app words) is in
-    let flag : is_true (one_of (codes "history") rows) ≡ c.get_flag.result = flag_is words rows c.get_flag.result (all_utf8 c.args.words.now) none found
+    let history : is_true (one_of (codes "history") rows) ≡ c.get_flag.result = flag_is History words rows c.get_flag.result (all_utf8 c.args.words.now) none found
     (λ e. c.get_flag.ensures.value (one_text-rows (found_of c.in-Ok.matches) (codes "history") ∙ e))
     (λ e. c.get_flag.ensures.other (one_text-rows (found_of c.in-Ok.matches) (codes "history") ∙ e)) in
+    let printer : is_true (one_of (codes "printer") rows) ≡ c.get_flag-in-Some.result = flag_is Printer words rows c.get_flag-in-Some.result (all_utf8 c.args.words.now) none found
+    (λ e. c.get_flag-in-Some.ensures.value (one_text-rows (found_of c.in-Ok.matches) (codes "printer") ∙ e))
+    (λ e. c.get_flag-in-Some.ensures.other (one_text-rows (found_of c.in-Ok.matches) (codes "printer") ∙ e)) in
     let action : first_of (codes "action") rows ≡ Some c.in-Some.action.now = sym (first_value-rows (found_of c.in-Ok.matches) (codes "action")) ∙ (sym c.get_str.ensures ∙ ap (option_map (λ s. s.now)) c.in-Some.is) in
     let count : first_of (codes "count") rows ≡ option_map (λ s. s.now) c.get_str-in-Some.result = sym (first_value-rows (found_of c.in-Ok.matches) (codes "count")) ∙ sym c.get_str-in-Some.ensures in
-    sym (read_is rows c.in-Some.action.now _ c.get_flag.result action count flag) ∙ taken_says words rows (all_utf8 c.args.words.now) none found
+    sym (read_is rows c.in-Some.action.now _ _ action count history printer) ∙ taken_says words rows (all_utf8 c.args.words.now) none found
 
 pub returns : goal.returns
 returns c =

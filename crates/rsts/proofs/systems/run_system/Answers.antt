@@ -11,13 +11,13 @@ returns-in-Err g c =
     let before = ends (g.S.Source.state c.args.source.now) (g.K.Sink.state c.args.sink.now) in
     let after = ends (g.S.Source.state c.read_system.new.source) (g.K.Sink.state c.args.sink.now) in
     let told = c.in-Err.ensures in
-    let neither = stopped_neither c.in-Err.stopped (Headline c.args.history before after) ⊥ (λ drill. ⊥) in
-    subst (λ (result : Outcome). Runs c.args.history before after result) (sym c.outcome.ensures)
+    let neither = stopped_neither c.in-Err.stopped (Headline c.args.wanted before after) ⊥ (λ drill. ⊥) in
+    subst (λ (result : Outcome). Runs c.args.wanted before after result) (sym c.outcome.ensures)
     (record {
       ran = neither.0;
       not_checked = neither.1;
       not_drilled = neither.2;
-      answers = stopped_answers (IsReport c.args.history) HasRan c.in-Err.stopped before after told.found refl told.must_stop told.must_find told.must_refuse;
+      answers = stopped_answers (IsReport c.args.wanted) HasRan c.in-Err.stopped before after told.found refl told.must_stop told.must_find told.must_refuse;
     })
 
 pub returns-in-Ok-give_all : goal.returns-in-Ok-give_all
@@ -34,7 +34,7 @@ returns-in-Ok-give_all g c =
       };
       not_checked = tt;
       not_drilled = tt;
-      answers = ran_answers c.in-Ok.deck before after c.in-Ok.ensures.must_stop c.in-Ok.ensures.must_refuse c.args.history c.in-Ok-run_and_report.ran.0;
+      answers = ran_answers c.in-Ok.deck before after c.in-Ok.ensures.must_stop c.in-Ok.ensures.must_refuse c.args.wanted c.in-Ok-run_and_report.ran.0;
     }
 
 pub returns : goal.returns
@@ -46,7 +46,7 @@ returns g c =
       ran = tt;
       not_checked = tt;
       not_drilled = tt;
-      answers = broke_answers c.in-Ok.deck before after c.in-Ok.ensures.must_stop c.in-Ok.ensures.must_refuse (IsReport c.args.history) HasRan output c.in-Ok.ensures.found
+      answers = broke_answers c.in-Ok.deck before after c.in-Ok.ensures.must_stop c.in-Ok.ensures.must_refuse (IsReport c.args.wanted) HasRan output c.in-Ok.ensures.found
           (c.in-Ok-run_and_report.ran.0, c.in-Ok-run_and_report.ensures)
           (subst (λ (bytes : List ℕ). BrokeOff bytes before.sink after.sink) c.as_slice.ensures.value c.in-Err-give_all.ensures.front);
     }

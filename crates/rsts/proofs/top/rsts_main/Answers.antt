@@ -12,9 +12,9 @@ pub returns-in-Runs : goal.returns-in-Runs
 returns-in-Runs g c =
     let before = ends (g.S.Source.state c.args.source.now) (g.K.Sink.state c.args.sink.now) in
     let after = ends (g.S.Source.state c.run_system.new.source) (g.K.Sink.state c.run_system.new.sink) in
-    let told : (asked (map (string_bytes {Z = Global}) c.args.words.now) ≡ Run c.in-Runs.history) × (ends (g.S.Source.state c.begin.new.source) (g.K.Sink.state c.begin.new.sink) ≡ before) = c.in-Runs.ensures in
+    let told : (asked (map (string_bytes {Z = Global}) c.args.words.now) ≡ Run c.in-Runs.wanted) × (ends (g.S.Source.state c.begin.new.source) (g.K.Sink.state c.begin.new.sink) ≡ before) = c.in-Runs.ensures in
     subst (λ (a : Asked). Does a before after c.run_system.result) (sym told.0)
-    (subst (λ (e : Ends). Runs c.in-Runs.history e after c.run_system.result) told.1 c.run_system.ensures)
+    (subst (λ (e : Ends). Runs c.in-Runs.wanted e after c.run_system.result) told.1 c.run_system.ensures)
 
 pub returns-in-Drills : goal.returns-in-Drills
 returns-in-Drills g c =

@@ -12,7 +12,7 @@ pub returns : goal.returns
 returns g c = λ deck spelled most stayed.
     let before = ends (plain_feed_state c.in_ok-source.source) (plain_store_state c.in_ok-sink.sink) in
     let after = ends (plain_feed_state c.rsts_main-outcome.new.source) (plain_store_state c.rsts_main-outcome.new.sink) in
-    let asks : asked (map (string_bytes {Z = Global}) c.as_slice.result.now) ≡ Run false =
+    let asks : asked (map (string_bytes {Z = Global}) c.as_slice.result.now) ≡ Run (record { history = false; printer = false }) =
     (λ i. asked (map (string_bytes {Z = Global}) (c.as_slice.ensures.value i)))
     ∙ (λ i. asked (map (string_bytes {Z = Global}) (c.in_ok-push.ensures.items i)))
     ∙ (λ i. asked (map (string_bytes {Z = Global}) (c.new-words.ensures.items i ++ (c.in_ok-from_str.field-0 ∷ []))))
