@@ -184,6 +184,50 @@ const THREE: Talk = (
      Input [100,5]C.BAS Opened 1\nGet 1 Block\nClose 0 Done\n",
 );
 
+const ADDS_ONE: &str = "10 OPEN 'N' FOR INPUT AS FILE 1% : INPUT #1%,N% : CLOSE 1%\n\
+     20 OPEN 'N' FOR OUTPUT AS FILE 1% : PRINT #1%,N%+1% : CLOSE 1%\n\
+     30 CHAIN 'C'\n";
+
+/// Three programs hand a number on by a file: it is written, read and written anew, and read.
+const THREE_BY_A_FILE: Talk = (
+    &[
+        ("10 OPEN 'N' FOR OUTPUT AS FILE 1%", ""),
+        ("20 PRINT #1%,1% : CLOSE 1% : CHAIN 'B'", ""),
+        ("RUNNH", " 2 \nReady\n"),
+        (
+            "LIST",
+            "C\n10 OPEN 'N' FOR INPUT AS FILE 1%\n20 INPUT #1%,N% : PRINT N%\nReady\n",
+        ),
+    ],
+    &[
+        Answer::Opened(0),
+        Answer::Done,
+        Answer::Done,
+        Answer::Opened(1),
+        Answer::Block(ADDS_ONE),
+        Answer::Done,
+        Answer::Opened(1),
+        Answer::Block(" 1 \n"),
+        Answer::Done,
+        Answer::Opened(0),
+        Answer::Done,
+        Answer::Done,
+        Answer::Opened(1),
+        Answer::Block("10 OPEN 'N' FOR INPUT AS FILE 1%\n20 INPUT #1%,N% : PRINT N%\n"),
+        Answer::Done,
+        Answer::Opened(1),
+        Answer::Block(" 2 \n"),
+        Answer::Done,
+        Answer::Done,
+    ],
+    "Output [100,5]N Opened 0\nPut 1 Done\nClose 1 Done\n\
+     Input [100,5]B.BAS Opened 1\nGet 1 Block\nClose 0 Done\n\
+     Input [100,5]N Opened 1\nGet 1 Block\nClose 1 Done\n\
+     Output [100,5]N Opened 0\nPut 1 Done\nClose 1 Done\n\
+     Input [100,5]C.BAS Opened 1\nGet 1 Block\nClose 0 Done\n\
+     Input [100,5]N Opened 1\nGet 1 Block\nClose 1 Done\n",
+);
+
 /// A refused CHAIN leaves a STOP; behind one that came off CONT goes on where the new program stopped.
 const CONT: Talk = (
     &[
@@ -211,7 +255,7 @@ const CONT: Talk = (
      Input [100,5]B.BAS Opened 1\nGet 1 Block\nClose 0 Done\n",
 );
 
-static CHAINS: [Talk; 9] = [
+static CHAINS: [Talk; 10] = [
     REFUSED,
     TRAPPED,
     TRAPPED_IN_A_BODY,
@@ -220,6 +264,7 @@ static CHAINS: [Talk; 9] = [
     UNSOUND,
     CLEARED,
     THREE,
+    THREE_BY_A_FILE,
     CONT,
 ];
 
