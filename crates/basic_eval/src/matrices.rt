@@ -10,7 +10,7 @@ ghost use Rattle.program_model.specs.declared.values.Value.TheVariants as value;
 ghost use Rattle.program_model.specs.DataItems.{item_taken};
 ghost use Rattle.program_model.specs.Items.{item_value};
 ghost use Rattle.program_model.specs.Job.{or_fault};
-ghost use Rattle.program_model.specs.MatrixStatements.{matrices_in, matrices_of, matrix_act, touched, touch_all, acts_on_matrices, read_elements, row_subscripts, read_matrix, read_matrices, behind_number, row_written, numbers_written, row_ended, matrix_written, value_by, assigns};
+ghost use Rattle.program_model.specs.MatrixStatements.{matrices_in, matrices_of, matrix_act, touched, touch_all, acts_on_matrices, read_row, read_matrix, read_matrices, behind_number, row_written, numbers_written, row_ended, matrix_written, value_by, assigns};
 ghost use Rattle.program_model.specs.Printing.{written};
 ghost use Rattle.basic_values.specs.Numbers.{printed};
 ghost use Rattle.basic_eval.specs.Acting.{Acts, given_or, seen, told};
@@ -145,7 +145,7 @@ impl Running {
     /// The elements of a row, of which an array of one subscript has one.
     fn read_row(&mut self, words: &[Text], name: Name, last: Option<u16>, row: u16) -> Option<()>
         ensures { Acts
-            (read_elements words.now name (row_subscripts last row) (seen self.old))
+            (read_row words.now name last row (seen self.old))
             (seen self.new) (given_or self.new.exit result) }
     {
         match last {
@@ -156,7 +156,7 @@ impl Running {
 
     fn read_columns(&mut self, words: &[Text], name: Name, last: u16, row: u16) -> Option<()>
         ensures { Acts
-            (read_elements words.now name (row_subscripts (Some last) row) (seen self.old))
+            (read_row words.now name (Some last) row (seen self.old))
             (seen self.new) (given_or self.new.exit result) }
     {
         for before in 0..last {

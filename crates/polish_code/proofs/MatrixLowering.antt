@@ -19,9 +19,10 @@ use Rattle.program_model.specs.Items.{item_value}
 use Rattle.program_model.specs.Printing.{written}
 use Rattle.program_model.specs.DataItems.{item_taken}
 use Rattle.program_model.specs.declared.values.Value.{Value}
-use Rattle.program_model.specs.Job.{Job, or_fault}
-use Rattle.program_model.specs.MatrixStatements.{matrices_of, touched_by, touched, touch_all, read_element, read_elements, row_subscripts, read_rows, read_matrix, read_matrices, behind_number, numbers_written, row_ended, row_written, rows_written, value_by, assigns, acts_on_matrices, matrix_act}
+use Rattle.program_model.specs.Job.{Job, Deed, or_fault}
+use Rattle.program_model.specs.MatrixStatements.{matrices_of, each, touched_by, touched, touch_all, read_element, at_row, at_column, read_row, read_matrix, behind_number, numbers_written, row_ended, row_written, rows_written, value_by, assigns, acts_on_matrices, matrix_act}
 use Rattle.program_model.specs.Program.{Program, Position}
+use Rattle.polish_code.specs.Walk.{Spot, Walked}
 use Rattle.polish_code.proofs.Lowering.{low, Same, follow, fault_same, remembered_same, stored_at_same, taken_same}
 
 module _ (program : Program) where
@@ -29,9 +30,9 @@ module _ (program : Program) where
   touched_by_same (Some shape) x j = refl
   touched_by_same None x j = remembered_same program (made (implied_matrix x) j.memory) j
 
-  touch_all_same : (xs : List Name) (j : Job Position) → Same program (touch_all xs (low program j)) (touch_all xs j)
-  touch_all_same [] j = refl
-  touch_all_same (x ∷ xs) j = follow program _ (touched x j) _ _ _ (touched_by_same (bounds x j.memory) x j) (λ _ j. touch_all_same xs j)
+  each_same : {A : Type 0} (act' : A → Job Spot → Walked (Unit {0})) (act : A → Job Position → Deed Position (Unit {0})) → ((a : A) (j : Job Position) → Same program (act' a (low program j)) (act a j)) → (all : List A) (j : Job Position) → Same program (each act' all (low program j)) (each act all j)
+  each_same act' act one [] j = refl
+  each_same act' act one (a ∷ others) j = follow program _ (act a j) _ _ _ (one a j) (λ _ j. each_same act' act one others j)
 
   -- READ
 
@@ -40,20 +41,12 @@ module _ (program : Program) where
       follow program _ (item_taken (slice_get items j.item) j) _ _ _ (taken_same program (slice_get items j.item) j) (λ one j.
       follow program _ (or_fault (item_value false one) j) _ _ _ (fault_same program (item_value false one) j) (λ v j. stored_at_same program x vs v j))
 
-  elements_same : (items : List (List ℕ)) (x : Name) (all : List (List Value)) (j : Job Position) → Same program (read_elements items x all (low program j)) (read_elements items x all j)
-  elements_same items x [] j = refl
-  elements_same items x (vs ∷ others) j = follow program _ (read_element items x vs j) _ _ _ (element_same items x vs j) (λ _ j. elements_same items x others j)
+  row_same : (items : List (List ℕ)) (x : Name) (last : Option ℕ) (row : ℕ) (j : Job Position) → Same program (read_row items x last row (low program j)) (read_row items x last row j)
+  row_same items x None row j = element_same items x (at_row row) j
+  row_same items x (Some last) row j = each_same (λ (column : ℕ). read_element items x (at_column row column)) (λ (column : ℕ). read_element items x (at_column row column)) (λ column j. element_same items x (at_column row column) j) (range_with_len 1 last) j
 
-  rows_same : (items : List (List ℕ)) (x : Name) (last : Option ℕ) (rows : List ℕ) (j : Job Position) → Same program (read_rows items x last rows (low program j)) (read_rows items x last rows j)
-  rows_same items x last [] j = refl
-  rows_same items x last (row ∷ rows) j =
-      follow program _ (read_elements items x (row_subscripts last row) j) _ _ _ (elements_same items x (row_subscripts last row) j) (λ _ j. rows_same items x last rows j)
-
-  matrices_same : (items : List (List ℕ)) (xs : List Name) (j : Job Position) → Same program (read_matrices items xs (low program j)) (read_matrices items xs j)
-  matrices_same items [] j = refl
-  matrices_same items (x ∷ xs) j =
-      let shape : MatrixShape = shape_of j.memory x in
-      follow program _ (read_matrix items x shape j) _ _ _ (rows_same items x shape.1 (range_with_len 1 (matrix_rows shape)) j) (λ _ j. matrices_same items xs j)
+  read_same : (items : List (List ℕ)) (x : Name) (shape : MatrixShape) (j : Job Position) → Same program (read_matrix items x shape (low program j)) (read_matrix items x shape j)
+  read_same items x shape j = each_same (read_row items x shape.1) (read_row items x shape.1) (row_same items x shape.1) (range_with_len 1 (matrix_rows shape)) j
 
   -- PRINT
 
@@ -86,9 +79,9 @@ module _ (program : Program) where
   assigns_same x v j = follow program _ (or_fault (assigned x v j.memory) j) _ _ _ (fault_same program (assigned x v j.memory) j) (λ m j. refl)
 
   acts_same : (items : List (List ℕ)) (act : MatrixAct) (n : ℤ) (j : Job Position) → Same program (acts_on_matrices items act n (low program j)) (acts_on_matrices items act n j)
-  acts_same items (Read names) n j = matrices_same items names j
+  acts_same items (Read names) n j = each_same (λ (x : Name) (k : Job Spot). read_matrix items x (shape_of k.memory x) k) (λ (x : Name) (k : Job Position). read_matrix items x (shape_of k.memory x) k) (λ x j. read_same items x (shape_of j.memory x) j) names j
   acts_same items (Print x s) n j = ap (Gives tt) (rows_low s x (range_with_len 1 (matrix_rows (shape_of j.memory x))) j)
   acts_same items (Assign x form) n j = assigns_same x (value_by n form) j
 
   pub matrix_same : (items : List (List ℕ)) (act : MatrixAct) (vs : List Value) (j : Job Position) → Same program (matrix_act items act vs (low program j)) (matrix_act items act vs j)
-  matrix_same items act vs j = follow program _ (touch_all (matrices_of act) j) _ _ _ (touch_all_same (matrices_of act) j) (λ _ j. acts_same items act (number_at 0 vs) j)
+  matrix_same items act vs j = follow program _ (touch_all (matrices_of act) j) _ _ _ (each_same touched touched (λ x j. touched_by_same (bounds x j.memory) x j) (matrices_of act) j) (λ _ j. acts_same items act (number_at 0 vs) j)

@@ -22,7 +22,7 @@ use Rattle.program_model.specs.DataItems.{item_taken}
 use Rattle.program_model.specs.Functions.{number_at}
 use Rattle.program_model.specs.Items.{item_value}
 use Rattle.program_model.specs.Job.{Value, Job, Deed, or_fault}
-use Rattle.program_model.specs.MatrixStatements.{matrices_of, touched_by, touched, touch_all, read_element, read_elements, row_subscripts, read_rows, read_matrix, read_matrices, behind_number, numbers_written, row_ended, row_written, rows_written, matrix_written, value_by, with_memory, assigns, acts_on_matrices, matrix_act}
+use Rattle.program_model.specs.MatrixStatements.{matrices_of, each, touched_by, touched, touch_all, read_element, at_row, at_column, read_row, read_matrix, behind_number, numbers_written, row_ended, row_written, rows_written, matrix_written, value_by, with_memory, assigns, acts_on_matrices, matrix_act}
 use Rattle.program_model.specs.Printing.{written}
 use Rattle.program_model.specs.Variables.{content_of, remembered, second, stored_at}
 
@@ -49,9 +49,9 @@ module _ {R : Type 0} (Fact : Job R → Type 0)
   touched_ends (Some shape) x j h = h
   touched_ends None x j h = remembered_ends (made (implied_matrix x) j.memory) j h
 
-  touch_all_ends : (xs : List Name) (j : Job R) → Fact j → Ends (touch_all xs j)
-  touch_all_ends [] j h = h
-  touch_all_ends (x ∷ xs) j h = ends_then Fact (touched x j) _ (touched_ends (bounds x j.memory) x j h) (λ _ k g. touch_all_ends xs k g)
+  each_ends : {A : Type 0} (act : A → Job R → Deed R (Unit {0})) → ((a : A) (j : Job R) → Fact j → Ends (act a j)) → (all : List A) (j : Job R) → Fact j → Ends (each act all j)
+  each_ends act one [] j h = h
+  each_ends act one (a ∷ others) j h = ends_then Fact (act a j) _ (one a j h) (λ _ k g. each_ends act one others k g)
 
   -- READ
 
@@ -69,20 +69,12 @@ module _ {R : Type 0} (Fact : Job R → Type 0)
       ends_then Fact (item_taken (slice_get items j.item) j) _ (taken_ends (slice_get items j.item) j h) (λ one k g.
       ends_then Fact (or_fault (item_value false one) k) _ (fault_ends (item_value false one) k g) (λ v l f. stored_ends x vs v l f))
 
-  elements_end : (items : List (List ℕ)) (x : Name) (all : List (List Value)) (j : Job R) → Fact j → Ends (read_elements items x all j)
-  elements_end items x [] j h = h
-  elements_end items x (vs ∷ others) j h = ends_then Fact (read_element items x vs j) _ (element_ends items x vs j h) (λ _ k g. elements_end items x others k g)
+  row_ends : (items : List (List ℕ)) (x : Name) (last : Option ℕ) (row : ℕ) (j : Job R) → Fact j → Ends (read_row items x last row j)
+  row_ends items x None row j h = element_ends items x (at_row row) j h
+  row_ends items x (Some last) row j h = each_ends (λ (column : ℕ). read_element items x (at_column row column)) (λ column k g. element_ends items x (at_column row column) k g) (range_with_len 1 last) j h
 
-  rows_end : (items : List (List ℕ)) (x : Name) (last : Option ℕ) (rows : List ℕ) (j : Job R) → Fact j → Ends (read_rows items x last rows j)
-  rows_end items x last [] j h = h
-  rows_end items x last (row ∷ rows) j h =
-      ends_then Fact (read_elements items x (row_subscripts last row) j) _ (elements_end items x (row_subscripts last row) j h) (λ _ k g. rows_end items x last rows k g)
-
-  matrices_end : (items : List (List ℕ)) (xs : List Name) (j : Job R) → Fact j → Ends (read_matrices items xs j)
-  matrices_end items [] j h = h
-  matrices_end items (x ∷ xs) j h =
-      let shape : MatrixShape = shape_of j.memory x in
-      ends_then Fact (read_matrix items x shape j) _ (rows_end items x shape.1 (range_with_len 1 (matrix_rows shape)) j h) (λ _ k g. matrices_end items xs k g)
+  matrix_read_ends : (items : List (List ℕ)) (x : Name) (shape : MatrixShape) (j : Job R) → Fact j → Ends (read_matrix items x shape j)
+  matrix_read_ends items x shape j h = each_ends (read_row items x shape.1) (row_ends items x shape.1) (range_with_len 1 (matrix_rows shape)) j h
 
   -- PRINT
 
@@ -110,11 +102,11 @@ module _ {R : Type 0} (Fact : Job R → Type 0)
       wrote_rows s x rows (row_written s ns j) (wrote_end s (numbers_written s ns j) (wrote_numbers s ns j h))
 
   acts_end : (items : List (List ℕ)) (act : MatrixAct) (n : ℤ) (j : Job R) → Fact j → Ends (acts_on_matrices items act n j)
-  acts_end items (Read names) n j h = matrices_end items names j h
+  acts_end items (Read names) n j h = each_ends (λ (x : Name) (k : Job R). read_matrix items x (shape_of k.memory x) k) (λ x k g. matrix_read_ends items x (shape_of k.memory x) k g) names j h
   acts_end items (Print x s) n j h = wrote_rows s x (range_with_len 1 (matrix_rows (shape_of j.memory x))) j h
   acts_end items (Assign x form) n j h =
       let wanted = assigned x (value_by n form) j.memory in
       ends_then Fact (or_fault wanted j) with_memory (fault_ends wanted j h) (λ m k g. in_memory m k g)
 
   pub matrix_ends : (items : List (List ℕ)) (act : MatrixAct) (vs : List Value) (j : Job R) → Fact j → Ends (matrix_act items act vs j)
-  matrix_ends items act vs j h = ends_then Fact (touch_all (matrices_of act) j) _ (touch_all_ends (matrices_of act) j h) (λ _ k g. acts_end items act (number_at 0 vs) k g)
+  matrix_ends items act vs j h = ends_then Fact (touch_all (matrices_of act) j) _ (each_ends touched (λ x k g. touched_ends (bounds x k.memory) x k g) (matrices_of act) j h) (λ _ k g. acts_end items act (number_at 0 vs) k g)

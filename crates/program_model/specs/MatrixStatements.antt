@@ -27,6 +27,11 @@ use Rattle.program_model.specs.Items.{item_value}
 use Rattle.program_model.specs.Printing.{written, separated}
 use Rattle.program_model.specs.Variables.{dimensioned, stored_at}
 
+-- one after another
+abbrev pub each : {R A : Type 0} → (A → Job R → Deed R (Unit {0})) → List A → Job R → Deed R (Unit {0})
+each act [] j = Gives tt j
+each act (a ∷ others) j = act a j then λ _ j. each act others j
+
 -- THE ARRAYS OF A STATEMENT, in the order of the text
 
 abbrev pub matrices_in : MatrixForm → List Name
@@ -54,8 +59,7 @@ abbrev pub touched : {R : Type 0} → Name → Job R → Deed R (Unit {0})
 touched matrix j = touched_by (bounds matrix j.memory) matrix j
 
 abbrev pub touch_all : {R : Type 0} → List Name → Job R → Deed R (Unit {0})
-touch_all [] j = Gives tt j
-touch_all (matrix ∷ matrices) j = touched matrix j then λ _ j. touch_all matrices j
+touch_all matrices j = each touched matrices j
 
 -- MAT READ: each element takes an item as READ does, row by row
 
@@ -65,29 +69,23 @@ read_element items matrix subscripts j =
     then λ item j. or_fault (item_value false item) j
     then λ v j. stored_at matrix subscripts v j
 
-abbrev pub read_elements : {R : Type 0} → List (List ℕ) → Name → List (List Value) → Job R → Deed R (Unit {0})
-read_elements items matrix [] j = Gives tt j
-read_elements items matrix (subscripts ∷ others) j =
-    read_element items matrix subscripts j then λ _ j. read_elements items matrix others j
+-- subscripts have 16 bits, as all numbers
+abbrev pub at_row : ℕ → List Value
+at_row row = Number (wrap (pos row)) ∷ []
 
--- the subscripts of the elements in a row, of which an array of one subscript has one; as all numbers they have 16 bits
-abbrev pub row_subscripts : Option ℕ → ℕ → List (List Value)
-row_subscripts None row = (Number (wrap (pos row)) ∷ []) ∷ []
-row_subscripts (Some last) row =
-    map (λ column. Number (wrap (pos row)) ∷ Number (wrap (pos column)) ∷ []) (range_with_len 1 last)
+abbrev pub at_column : ℕ → ℕ → List Value
+at_column row column = Number (wrap (pos row)) ∷ Number (wrap (pos column)) ∷ []
 
-abbrev pub read_rows : {R : Type 0} → List (List ℕ) → Name → Option ℕ → List ℕ → Job R → Deed R (Unit {0})
-read_rows items matrix last [] j = Gives tt j
-read_rows items matrix last (row ∷ rows) j =
-    read_elements items matrix (row_subscripts last row) j then λ _ j. read_rows items matrix last rows j
+-- a row, which has one element in an array of one subscript
+abbrev pub read_row : {R : Type 0} → List (List ℕ) → Name → Option ℕ → ℕ → Job R → Deed R (Unit {0})
+read_row items matrix None row j = read_element items matrix (at_row row) j
+read_row items matrix (Some last) row j = each (λ column. read_element items matrix (at_column row column)) (range_with_len 1 last) j
 
 abbrev pub read_matrix : {R : Type 0} → List (List ℕ) → Name → MatrixShape → Job R → Deed R (Unit {0})
-read_matrix items matrix shape j = read_rows items matrix shape.1 (range_with_len 1 (matrix_rows shape)) j
+read_matrix items matrix shape j = each (read_row items matrix shape.1) (range_with_len 1 (matrix_rows shape)) j
 
 abbrev pub read_matrices : {R : Type 0} → List (List ℕ) → List Name → Job R → Deed R (Unit {0})
-read_matrices items [] j = Gives tt j
-read_matrices items (matrix ∷ matrices) j =
-    read_matrix items matrix (shape_of j.memory matrix) j then λ _ j. read_matrices items matrices j
+read_matrices items matrices j = each (λ matrix j. read_matrix items matrix (shape_of j.memory matrix) j) matrices j
 
 -- MAT PRINT: numbers as PRINT writes them
 
