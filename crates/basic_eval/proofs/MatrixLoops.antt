@@ -1,8 +1,8 @@
 -- What is done one after another in a loop, and rows that are written so.
-use Rattle.std.proofs.Common.{◌≡◌, ℕ, ◌+◌, ◌<◌, List, [], ◌∷◌, length, get_or, drop, refl, sym, ap, ◌∙◌, arith}
+use Rattle.std.proofs.Common.{◌≡◌, ℕ, ◌+◌, ◌<◌, ◌≤◌, List, [], ◌∷◌, length, get_or, drop, refl, sym, ap, ◌∙◌, arith}
 use Rattle.std.specs.Prelude.{Option, Some, None, ℤ, Err}
 use Rattle.std.specs.List.{range_with_len}
-use Rattle.std.proofs.lemmas.List.{drop_more}
+use Rattle.std.proofs.lemmas.List.{drop_more, drop_all}
 use Rattle.std.proofs.lemmas.List.FromFn.{length-range_with_len, get_or-range_with_len}
 use Rattle.basic_values.specs.Numbers.{printed}
 use Rattle.basic_values.specs.declared.failures.Trouble.{Trouble}
@@ -32,9 +32,16 @@ module _ {A : Type 0} (act : A → Job Spot → Walked (Unit {0})) (all : List A
   each_breaks (trouble.Refused why) broken = sym unfolded ∙ ap (λ (m : Walked (Unit {0})). m then λ _ j. each act (drop (k + 1) all) j) broken
   each_breaks trouble.NoMemory none = tt
 
+-- nothing is left
+pub each_done : {A : Type 0} (act : A → Job Spot → Walked (Unit {0})) (all : List A) (k : ℕ) (j : Job Spot) (whole : Walked (Unit {0})) → length all ≤ k → each act (drop k all) j ≡ whole → whole ≡ Gives tt j
+each_done act all k j whole h left = sym left ∙ ap (λ l. each act l j) (drop_all k all h)
+
 -- rows and columns go from 1 on
 pub within : (n before : ℕ) → before < n → before < length (range_with_len 1 n)
 within n before h = omega (arith, h, length-range_with_len 1 n)
+
+pub past : (n before : ℕ) → n ≤ before → length (range_with_len 1 n) ≤ before
+past n before h = omega (arith, h, length-range_with_len 1 n)
 
 pub place_is : (n before : ℕ) → before < n → get_or (range_with_len 1 n) before 0 ≡ before + 1
 place_is n before h = get_or-range_with_len 1 n before 0 h ∙ (let r : 1 + before ≡ before + 1 = omega arith in r)
@@ -67,3 +74,7 @@ rows_further s x n before j next whole h wrote left =
     ∙ sym (ap (λ (row : ℕ). rows_written s x (row ∷ rest) j) (place_is n before h))
     ∙ sym (ap (λ (rows : List ℕ). rows_written s x rows j) (drop_more (range_with_len 1 n) before 0 (within n before h)))
     ∙ left
+
+-- what gives the same is the same
+pub given_alike : (j k : Job Spot) → ◌≡◌ {A = Walked (Unit {0})} (Gives (tt {0}) j) (Gives (tt {0}) k) → k ≡ j
+given_alike j k e = cc

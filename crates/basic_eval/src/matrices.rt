@@ -10,7 +10,7 @@ ghost use Rattle.program_model.specs.declared.values.Value.TheVariants as value;
 ghost use Rattle.program_model.specs.DataItems.{item_taken};
 ghost use Rattle.program_model.specs.Items.{item_value};
 ghost use Rattle.program_model.specs.Job.{or_fault};
-ghost use Rattle.program_model.specs.MatrixStatements.{matrices_in, matrices_of, matrix_act, touched, touch_all, acts_on_matrices, read_row, read_matrix, read_matrices, behind_number, row_written, numbers_written, row_ended, matrix_written, value_by, assigns};
+ghost use Rattle.program_model.specs.MatrixStatements.{matrices_in, matrices_of, matrix_act, touched, touch_all, acts_on_matrices, at_column, read_element, read_row, read_matrix, read_matrices, behind_number, row_written, numbers_written, row_ended, matrix_written, value_by, assigns};
 ghost use Rattle.program_model.specs.Printing.{written};
 ghost use Rattle.basic_values.specs.Numbers.{printed};
 ghost use Rattle.basic_eval.specs.Acting.{Acts, given_or, seen, told};
@@ -160,9 +160,17 @@ impl Running {
             (seen self.new) (given_or self.new.exit result) }
     {
         for before in 0..last {
-            self.read_element(words, name, wrapped(row), Some(wrapped(before + 1)))?;
+            self.read_column(words, name, row, before + 1)?;
         }
         Some(())
+    }
+
+    fn read_column(&mut self, words: &[Text], name: Name, row: u16, column: u16) -> Option<()>
+        ensures { Acts
+            (read_element words.now name (at_column row column) (seen self.old))
+            (seen self.new) (given_or self.new.exit result) }
+    {
+        self.read_element(words, name, wrapped(row), Some(wrapped(column)))
     }
 
     /// An element takes the next item of DATA.

@@ -1,9 +1,11 @@
 use Rattle.std.proofs.Common.{◌≡◌, drop}
-use Rattle.std.specs.List.{range_with_len}
 use Rattle.basic_eval.specs.Acting.{seen}
-use Rattle.program_model.specs.MatrixStatements.{read_rows}
+use Rattle.std.specs.List.{range_with_len}
+use Rattle.program_model.specs.MatrixStatements.{each, read_row}
 use Rattle.basic_eval.proofs.state.Running.read_matrix.Given as goal
 
 -- what is left to be done comes to what was to be done
 abbrev pub invariant-loop-before : goal.invariant-loop-before
-invariant-loop-before l = read_rows l.words l.name l.last (drop l.before (range_with_len 1 l.rows)) (seen l.self) ≡ read_rows l.words l.name l.last (range_with_len 1 l.rows) (seen l.fn.self)
+invariant-loop-before l =
+    each (read_row l.words l.name l.last) (drop l.before (range_with_len 1 l.rows)) (seen l.self)
+    ≡ each (read_row l.words l.name l.last) (range_with_len 1 l.rows) (seen l.fn.self)
