@@ -443,12 +443,28 @@ const BESIDE_FILES: Lines = &[
     ("MAT B%=F%+F% : PRINT B%(10%,10%)", " 2 \nReady\n"),
 ];
 
+static WITH_A_FILE: [Row; 3] = [
+    ("10 OPEN 'A' AS FILE 1% : DIM #1%,F%(9%)", ""),
+    ("20 MAT B%=CON : MAT B%=(F%(1%))*B% : PRINT B%(1%,1%)", ""),
+    ("RUNNH", " 17475 \nReady\n"),
+];
+
+static ELEMENT_READ: [Answer; 4] = [
+    Answer::Opened(1),
+    Answer::Block("ABCD"),
+    Answer::Done,
+    Answer::Done,
+];
+
+const FILE_ASKED: &str = "Either [100,5]A Opened 1\nGet 1 Block\nClose 1 Done\n";
+
 #[test]
 fn an_array_in_a_file_is_no_matrix(rt: HostRuntime) -> Result<(), Fail> {
     for statement in OF_FILES.iter() {
         expect_in_a_file(rt.alloc(), statement)?;
     }
-    expect_of_lines(rt.alloc(), BESIDE_FILES)
+    expect_of_lines(rt.alloc(), BESIDE_FILES)?;
+    expect_of_files(rt.alloc(), &WITH_A_FILE, &ELEMENT_READ, FILE_ASKED)
 }
 
 // UNITS
