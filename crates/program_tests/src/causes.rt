@@ -7,7 +7,7 @@ use std::test::Fail;
 
 /// A line for each cause, in the order in which those of one line are told. None of them takes a
 /// cause from another.
-static ROWS: [(LowerCause, &[u8]); 11] = [
+static ROWS: [(LowerCause, &[u8]); 12] = [
     (LowerCause::NoLine, b"GOTO 5"),
     (LowerCause::OpenFor, b"FOR I%=1% TO 2%"),
     (LowerCause::StrayNext, b"NEXT J%"),
@@ -22,6 +22,7 @@ static ROWS: [(LowerCause, &[u8]); 11] = [
     (LowerCause::Arguments, b"DEF FNC%(X%)=X%:A%=FNC%(1%,2%)"),
     (LowerCause::DoubleDim, b"DIM A%(3%):DIM A%(4%)"),
     (LowerCause::StrayResult, b"FNA%=1%"),
+    (LowerCause::MatFile, b"DIM #1%,M%(2%):MAT M%=ZER"),
 ];
 
 /// Two lines as one.

@@ -13,8 +13,6 @@ enum Put {
     /// The line's number is none.
     Number,
     TooLong,
-    /// A statement in it is of a later stage.
-    Later,
     TooMany,
     /// The line is refused at this place.
     Line(u16, Cause),
@@ -33,7 +31,6 @@ fn refused(refusal: EditRefusal) -> Put {
     match refusal {
         EditRefusal::Number => Put::Number,
         EditRefusal::TooLong => Put::TooLong,
-        EditRefusal::Later => Put::Later,
         EditRefusal::TooMany => Put::TooMany,
         EditRefusal::Line(Refusal { place, cause }) => Put::Line(place, cause),
     }
@@ -138,7 +135,7 @@ static REFUSED: [(u16, Option<&[u8]>, Put); 10] = [
     (10, Some(b" A%=40000"), Put::Line(4, Cause::NumberTooWide)),
     (10, Some(b"5 STOP"), Put::Line(0, Cause::Syntax)),
     (32768, Some(b" MAT READ A%"), Put::Number),
-    (10, Some(b" MAT READ A%"), Put::Later),
+    (10, Some(b" MAT READ A$"), Put::Line(2, Cause::Syntax)),
 ];
 
 /// Whether a text of one line is answered so, and keeps its line.

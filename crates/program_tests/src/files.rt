@@ -35,8 +35,11 @@ static FILES: [(&[u8], Option<&[u8]>); 18] = [
     (b"32768 STOP", None),
     (b"99999999999999999999 STOP", None),
     (b"10 STOP\r\n20 A=1", None),
-    (b"10 STOP\r\n20 MAT READ A%", None),
-    (b"10 MAT READ A%\r\n10 STOP", None),
+    (
+        b"10 STOP\r\n20 MAT READ A%",
+        Some(b"10 STOP\r\n20 MAT READ A%\r\n"),
+    ),
+    (b"10 A=1\r\n10 STOP", None),
 ];
 
 /// The listing of a file's program; none where it is refused with 50.

@@ -132,8 +132,8 @@ static NO_PROGRAMS: [Answer; 7] = [
     Answer::Block("10 STOP\n 20 STOP\n"),
     Answer::Block("0 STOP\n"),
     Answer::Block("10 A=1\n"),
-    Answer::Block("10 MAT A%=ZER\n"),
-    Answer::Block("10 MAT A%=ZER\n10 STOP\n"),
+    Answer::Block("10 MAT A$=ZER\n"),
+    Answer::Block("10 MAT A$=ZER\n10 STOP\n"),
 ];
 
 fn expect_no_program(alloc: Global, block: Answer) -> Result<(), Fail> {
@@ -189,7 +189,7 @@ static RUN: Talk = (
         ("LIST", "SUM\n10 PRINT A%\n20 STOP\nReady\n"),
         ("RUN X", "?Can't find file or account\nReady\n"),
         ("RUN X", NO_DATA),
-        ("RUN X", NO_DATA),
+        ("RUN X", " 1 \nReady\n"),
         ("RUN X", "?Undefined line at line 10\nReady\n"),
         ("LIST", "X\n10 GOTO 20\nReady\n"),
     ],
@@ -202,7 +202,7 @@ static RUN: Talk = (
         Answer::Block("STOP\n"),
         Answer::Done,
         Answer::Opened(1),
-        Answer::Block("10 MAT A%=ZER\n"),
+        Answer::Block("10 MAT A%=CON : PRINT A%(1%,1%)\n"),
         Answer::Done,
         Answer::Opened(1),
         Answer::Block("10 GOTO 20\n"),

@@ -14,6 +14,8 @@ mod files;
 #[cfg(test)]
 mod lines;
 #[cfg(test)]
+mod matrices;
+#[cfg(test)]
 mod pages;
 #[cfg(test)]
 mod printing;

@@ -2,9 +2,8 @@
 
 use crate::talks::{
     Answer, FLOATING_LITERAL, FLOATING_NAME, HELLO, ILLEGAL_COMMAND, ILLEGAL_NAME, ILLEGAL_NUMBER,
-    IMMEDIATE, NOT_IN_STAGE, OPEN_STRING, Row, STRAY_BYTE, SYNTAX, TOO_DEEP, TOO_WIDE,
-    expect_of_lines, expect_of_user, expect_of_users, expect_of_visitor, expect_of_visitors,
-    expect_talk,
+    IMMEDIATE, OPEN_STRING, Row, STRAY_BYTE, SYNTAX, TOO_DEEP, TOO_WIDE, expect_of_lines,
+    expect_of_user, expect_of_users, expect_of_visitor, expect_of_visitors, expect_talk,
 };
 use std::alloc::Global;
 use std::test::Fail;
@@ -186,26 +185,28 @@ fn words_of_commands_on_files(rt: HostRuntime) -> Result<(), Fail> {
     expect_of_users(rt.alloc(), &WORDS)
 }
 
-static LATER: [&str; 6] = [
-    "MAT READ A%",
-    "MAT A%=ZER",
-    "MAT A%=B%+C%",
-    "IF 0% THEN MAT A%=(2%)*B%",
-    "A%=1%:MAT PRINT A%,",
-    "MAT READ A% FOR I%=1% TO 2%",
+/// Statements that are done at once; as a line of a program each is stored as it stands.
+static OF_MATRICES: [Row; 6] = [
+    ("MAT READ A%", "?Out of data\nReady\n"),
+    ("MAT A%=ZER", "Ready\n"),
+    ("MAT A%=B%+C%", "Ready\n"),
+    ("IF 0% THEN MAT A%=(2%)*B%", "Ready\n"),
+    ("A%=1%:MAT A%=TRN(A%):PRINT A%", " 1 \nReady\n"),
+    ("MAT READ A% FOR I%=2% TO 1%", "Ready\n"),
 ];
 
-fn expect_later(alloc: Global, statement: &str) -> Result<(), Fail> {
-    expect_of_user(alloc, statement, NOT_IN_STAGE)?;
+fn expect_stored(alloc: Global, statement: &str) -> Result<(), Fail> {
     let line = format!(in alloc; "10 {statement}")?;
-    let lines = [(line.as_str(), NOT_IN_STAGE), ("LISTNH", "Ready\n")];
+    let listed = format!(in alloc; "{line}\nReady\n")?;
+    let lines = [(line.as_str(), ""), ("LISTNH", listed.as_str())];
     expect_of_lines(alloc, &lines)
 }
 
 #[test]
-fn statements_of_a_later_stage(rt: HostRuntime) -> Result<(), Fail> {
-    for statement in LATER.iter() {
-        expect_later(rt.alloc(), statement)?;
+fn lines_of_matrices(rt: HostRuntime) -> Result<(), Fail> {
+    expect_of_users(rt.alloc(), &OF_MATRICES)?;
+    for (statement, _) in OF_MATRICES.iter() {
+        expect_stored(rt.alloc(), statement)?;
     }
     Ok(())
 }

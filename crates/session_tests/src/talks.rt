@@ -12,7 +12,6 @@ pub(crate) const HELLO: &str = "HELLO 100,5;DEMO";
 
 pub(crate) const WRONG: &str = "Invalid entry - try again";
 
-
 pub(crate) const ILLEGAL_COMMAND: &str = "?Illegal command\nReady\n";
 
 pub(crate) const ILLEGAL_NAME: &str = "?Illegal file name\nReady\n";
