@@ -54,7 +54,7 @@ row_for (Count text) = count_row text
 
 abbrev pub rows_for : List Use → List Row
 rows_for [] = []
-rows_for (use_ ∷ uses) = rows_for uses ++ row_for use_ ∷ []
+rows_for (newest ∷ uses) = rows_for uses ++ row_for newest ∷ []
 
 -- WHERE THE NEXT PLAIN WORD GOES
 

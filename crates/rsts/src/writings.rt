@@ -44,10 +44,10 @@ fn push_wanted_history(
     ensures { OnOk result (output.new.items
         ≡ output.old.items ++ where_wanted wanted (history_text history.now)) }
 {
-    if wanted {
-        push_history(output, history)?;
+    if !wanted {
+        return Ok(());
     }
-    Ok(())
+    push_history(output, history)
 }
 
 /// Writes what the printer printed in a history, where it is wanted. Each job is that of the
@@ -63,12 +63,12 @@ fn push_wanted_listings(
     ensures { OnOk result (output.new.items ≡ output.old.items
         ++ where_wanted wanted (printed_text (names_of terminals.now) history.now)) }
 {
-    if wanted {
-        let names = names_of(alloc, terminals)?;
-        let text = printed(alloc, names.as_slice(), history)?;
-        output.extend_from_slice(text.as_slice())?;
+    if !wanted {
+        return Ok(());
     }
-    Ok(())
+    let names = names_of(alloc, terminals)?;
+    let text = printed(alloc, names.as_slice(), history)?;
+    Ok(output.extend_from_slice(text.as_slice())?)
 }
 
 /// The names of terminals.
