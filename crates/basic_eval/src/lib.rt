@@ -18,6 +18,7 @@ mod file_elements;
 mod functions;
 mod gosub;
 mod input;
+mod joints;
 mod loops;
 mod matrices;
 mod numbers;
@@ -36,6 +37,7 @@ mod variables;
 
 pub use exits::{Exit, Move};
 pub use job_storage::Storage;
+pub use joints::Joint;
 pub use spots::Spot;
 pub use stack::Stack;
 pub use state::Running;

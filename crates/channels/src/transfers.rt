@@ -231,11 +231,22 @@ fn pages_from(alloc: Global, bytes: &[u8], count: u8) -> Result<Series<Page>, No
 fn page_from(alloc: Global, bytes: &[u8]) -> Result<Page, NoMemory>
     ensures { IfOk result (λ page. page ≡ page_from bytes.now) }
 {
+    let mut page = Page::new(alloc)?;
+    if bytes.len() < BLOCK_BYTES {
+        fill_short(&mut page, bytes);
+    } else {
+        page.fill(&bytes[..BLOCK_BYTES]);
+    }
+    Ok(page)
+}
+
+/// A page takes these bytes, with zeros behind fewer than it has.
+fn fill_short(page: &mut Page, bytes: &[u8])
+    ensures { page.new ≡ page_from bytes.now }
+{
     let mut first = [0u8; BLOCK_BYTES];
     fill(&mut first, bytes);
-    let mut page = Page::new(alloc)?;
     page.fill(&first);
-    Ok(page)
 }
 
 /// The bytes behind those of the first page.

@@ -37,10 +37,19 @@ const FIELDS: Talk = (
         ),
         ("RSET B$='1' : PRINT B$", "  1\nReady\n"),
         ("LSET E$='X' : PRINT LEN(E$)", " 0 \nReady\n"),
+        (
+            "LSET B$=CVT%$(16961%+1%) : PRINT B$;CVT$%(B$);CVT$%(E$)",
+            "BB  16962  0 \nReady\n",
+        ),
+        ("RSET B$=CVT%$(CVT$%(B$)-1%) : PRINT B$", " BA\nReady\n"),
         ("FIELD #1%,2% AS C$,2% AS C$ : PRINT C$", "EF\nReady\n"),
         (
+            "LSET C$=CVT%$(CVT$%(C$)+1%) : PRINT A$",
+            "CDEGABCDEF\nReady\n",
+        ),
+        (
             "CLOSE 1% : PRINT LEN(A$); LEN(C$); B$",
-            " 0  0   1\nReady\n",
+            " 0  0  BA\nReady\n",
         ),
     ],
     &[Answer::Opened(1), Answer::Done, Answer::Done],
