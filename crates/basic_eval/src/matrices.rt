@@ -109,7 +109,9 @@ impl Running {
     {
         match form {
             MatrixForm::Zero | MatrixForm::One | MatrixForm::Identity => Some(()),
-            MatrixForm::Copy(b) | MatrixForm::Scaled(b) | MatrixForm::Transposed(b) => self.touch(b),
+            MatrixForm::Copy(b) | MatrixForm::Scaled(b) | MatrixForm::Transposed(b) => self.touch(
+                b,
+            ),
             MatrixForm::Sum(b, c) | MatrixForm::Difference(b, c) | MatrixForm::Product(b, c) => {
                 self.touch(b)?;
                 self.touch(c)
@@ -252,11 +254,7 @@ impl Running {
     }
 
     /// What stands behind a number that others of its row follow.
-    fn write_behind(
-        &mut self,
-        separator: Option<Separator>,
-        others: &[Int],
-    ) -> Result<(), NoMemory>
+    fn write_behind(&mut self, separator: Option<Separator>, others: &[Int]) -> Result<(), NoMemory>
         ensures { OnOk result (seen self.new ≡ behind_number separator others.now (seen self.old)) }
     {
         match separator {

@@ -31,5 +31,8 @@ pub enum MatrixAct {
         matrix: Name,
         separator: Option<Separator>,
     },
-    Assign { target: Name, form: MatrixForm },
+    Assign {
+        target: Name,
+        form: MatrixForm,
+    },
 }

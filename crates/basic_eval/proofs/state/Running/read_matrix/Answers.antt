@@ -23,7 +23,7 @@ returns-in_err-read_row c =
     let act = read_row c.args.words.now c.args.name c.unwrap_or-rows.result.1 in
     let at = c.loop-before.before in
     let broken = each_breaks act (range_with_len 1 rows) at 0 (seen c.loop-before.self) (seen c.read_row.new.self) _ (within rows at c.loop-before-test.true) c.loop-before.invariant c.read_row.new.self.exit
-        (subst (λ (row : ℕ). Acts {A = Unit {0}} (act row (seen c.loop-before.self)) (seen c.read_row.new.self) (Err c.read_row.new.self.exit)) (sym (place_is rows at c.loop-before-test.true)) c.in_err-read_row.ensures) in
+    (subst (λ (row : ℕ). Acts {A = Unit {0}} (act row (seen c.loop-before.self)) (seen c.read_row.new.self) (Err c.read_row.new.self.exit)) (sym (place_is rows at c.loop-before-test.true)) c.in_err-read_row.ensures) in
     rw c.from_residual.ensures (subst (λ (shape : MatrixShape). Acts {A = Unit {0}} (read_matrix c.args.words.now c.args.name shape (seen c.args.self.now)) (seen c.read_row.new.self) (Err c.read_row.new.self.exit)) (c.unwrap_or-rows.ensures ∙ ap (λ (o : Option (ℕ × Option ℕ)). unwrap_or o (0, None)) c.bounds.ensures) broken)
 
 pub returns : goal.returns
