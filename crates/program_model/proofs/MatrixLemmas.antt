@@ -1,5 +1,5 @@
 -- What holds of a job whose memory, screen and DATA item change holds wherever a statement of MAT ends.
-use Rattle.std.proofs.Common.{◌≡◌, ℕ, suc, List, [], ◌∷◌, Option, Some, None, Ok, Err}
+use Rattle.std.proofs.Common.{ℕ, suc, List, [], ◌∷◌, Option, Some, None, Ok, Err}
 use Rattle.std.specs.Prelude.{Bool, true, false, if◌then◌else◌, Result, ℤ, slice_get, nat_le, ◌++◌}
 use Rattle.std.specs.List.{range_with_len}
 use Rattle.basic_values.specs.Numbers.{printed}
@@ -22,7 +22,7 @@ use Rattle.program_model.specs.DataItems.{item_taken}
 use Rattle.program_model.specs.Functions.{number_at}
 use Rattle.program_model.specs.Items.{item_value}
 use Rattle.program_model.specs.Job.{Value, Job, Deed, or_fault}
-use Rattle.program_model.specs.MatrixStatements.{matrices_of, each, touched_by, touched, touch_all, read_element, at_row, at_column, read_row, read_matrix, behind_number, numbers_written, row_ended, row_written, rows_written, matrix_written, value_by, with_memory, assigns, acts_on_matrices, matrix_act}
+use Rattle.program_model.specs.MatrixStatements.{matrices_of, each, touched_by, touched, touch_all, read_element, at_row, at_column, read_row, read_matrix, behind_number, numbers_written, row_ended, row_written, rows_written, value_by, with_memory, acts_on_matrices, matrix_act}
 use Rattle.program_model.specs.Printing.{written}
 use Rattle.program_model.specs.Variables.{content_of, remembered, second, stored_at}
 

@@ -1,5 +1,5 @@
 -- MAT: what its statements do with whole arrays, of which the elements with a subscript 0 are no part.
-use Rattle.std.specs.Prelude.{ℕ, List, [], ◌∷◌, map, slice_get, Option, Some, None, ℤ, pos, false}
+use Rattle.std.specs.Prelude.{ℕ, List, [], ◌∷◌, slice_get, Option, Some, None, ℤ, pos, false}
 use Rattle.std.specs.List.{range_with_len}
 use Rattle.basic_values.specs.Numbers.{printed, wrap}
 use Rattle.basic_tree.specs.declared.names.Name.{Name}
