@@ -13,28 +13,28 @@ use Rattle.basic_tree.specs.declared.parts.Separator.TheVariants.{Comma, Semicol
 use Rattle.basic_matrix.specs.MatrixActs.{row_numbers}
 use Rattle.job_model.specs.Act.{Gives, Breaks, ◌then◌}
 use Rattle.program_model.specs.Job.{Job}
-use Rattle.program_model.specs.MatrixStatements.{each, behind_number, numbers_written, row_ended, row_written, rows_written}
+use Rattle.program_model.specs.MatrixStatements.{one_by_one, behind_number, numbers_written, row_ended, row_written, rows_written}
 use Rattle.program_model.specs.Printing.{written}
 use Rattle.polish_code.specs.Walk.{Spot, Walked}
 use Rattle.basic_eval.specs.Acting.{Acts, break_of}
 use Rattle.basic_eval.specs.declared.exits.Exit.{Exit}
 
-module _ {A : Type 0} (act : A → Job Spot → Walked (Unit {0})) (all : List A) (k : ℕ) (d : A) (j next : Job Spot) (whole : Walked (Unit {0})) (h : k < length all) (left : each act (drop k all) j ≡ whole) where
-  unfolded : (act (get_or all k d) j then λ _ j. each act (drop (k + 1) all) j) ≡ whole
-  unfolded = sym (ap (λ (l : List A). each act l j) (drop_more all k d h)) ∙ left
+module _ {A : Type 0} (act : A → Job Spot → Walked (Unit {0})) (all : List A) (k : ℕ) (d : A) (j next : Job Spot) (whole : Walked (Unit {0})) (h : k < length all) (left : one_by_one act (drop k all) j ≡ whole) where
+  unfolded : (act (get_or all k d) j then λ _ j. one_by_one act (drop (k + 1) all) j) ≡ whole
+  unfolded = sym (ap (λ (l : List A). one_by_one act l j) (drop_more all k d h)) ∙ left
 
   -- one was done, and the others are left
-  pub each_further : act (get_or all k d) j ≡ Gives tt next → each act (drop (k + 1) all) next ≡ whole
-  each_further done = sym (ap (λ (m : Walked (Unit {0})). m then λ _ j. each act (drop (k + 1) all) j) done) ∙ unfolded
+  pub each_further : act (get_or all k d) j ≡ Gives tt next → one_by_one act (drop (k + 1) all) next ≡ whole
+  each_further done = sym (ap (λ (m : Walked (Unit {0})). m then λ _ j. one_by_one act (drop (k + 1) all) j) done) ∙ unfolded
 
   -- one breaks off, and so does the whole
   pub each_breaks : (why : Trouble Exit) → Acts {A = Unit {0}} (act (get_or all k d) j) next (Err why) → Acts {A = Unit {0}} whole next (Err why)
-  each_breaks (trouble.Refused why) broken = sym unfolded ∙ ap (λ (m : Walked (Unit {0})). m then λ _ j. each act (drop (k + 1) all) j) broken
+  each_breaks (trouble.Refused why) broken = sym unfolded ∙ ap (λ (m : Walked (Unit {0})). m then λ _ j. one_by_one act (drop (k + 1) all) j) broken
   each_breaks trouble.NoMemory none = tt
 
 -- nothing is left
-pub each_done : {A : Type 0} (act : A → Job Spot → Walked (Unit {0})) (all : List A) (k : ℕ) (j : Job Spot) (whole : Walked (Unit {0})) → length all ≤ k → each act (drop k all) j ≡ whole → whole ≡ Gives tt j
-each_done act all k j whole h left = sym left ∙ ap (λ l. each act l j) (drop_all k all h)
+pub each_done : {A : Type 0} (act : A → Job Spot → Walked (Unit {0})) (all : List A) (k : ℕ) (j : Job Spot) (whole : Walked (Unit {0})) → length all ≤ k → one_by_one act (drop k all) j ≡ whole → whole ≡ Gives tt j
+each_done act all k j whole h left = sym left ∙ ap (λ l. one_by_one act l j) (drop_all k all h)
 
 -- rows and columns go from 1 on
 pub within : (n before : ℕ) → before < n → before < length (range_with_len 1 n)

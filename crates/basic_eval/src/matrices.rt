@@ -10,7 +10,7 @@ ghost use Rattle.program_model.specs.declared.values.Value.TheVariants as value;
 ghost use Rattle.program_model.specs.DataItems.{item_taken};
 ghost use Rattle.program_model.specs.Items.{item_value};
 ghost use Rattle.program_model.specs.Job.{or_fault};
-ghost use Rattle.program_model.specs.MatrixStatements.{matrices_in, matrices_of, matrix_act, touched, touch_all, acts_on_matrices, at_column, read_element, read_row, read_matrix, read_matrices, behind_number, row_written, numbers_written, row_ended, matrix_written, value_by, assigns};
+ghost use Rattle.program_model.specs.MatrixStatements.{matrices_in, matrices_of, matrix_act, touched, touch_all, acts_on_matrices, at_column, read_element, read_row, read_matrix, read_matrices, behind_number, row_written, numbers_written, row_ended, matrix_written, value_by, assigns_value};
 ghost use Rattle.program_model.specs.Printing.{written};
 ghost use Rattle.basic_values.specs.Numbers.{printed};
 ghost use Rattle.basic_eval.specs.Acting.{Acts, given_or, seen, told};
@@ -268,7 +268,7 @@ impl Running {
 
     fn assign_matrix(&mut self, target: Name, value: &MatValue) -> Option<()>
         ensures { Acts
-            (assigns target value.now (seen self.old))
+            (assigns_value target value.now (seen self.old))
             (seen self.new) (given_or self.new.exit result) }
     {
         match self.storage.assign(target, value) {

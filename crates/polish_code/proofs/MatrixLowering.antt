@@ -20,7 +20,7 @@ use Rattle.program_model.specs.Printing.{written}
 use Rattle.program_model.specs.DataItems.{item_taken}
 use Rattle.program_model.specs.declared.values.Value.{Value}
 use Rattle.program_model.specs.Job.{Job, Deed, or_fault}
-use Rattle.program_model.specs.MatrixStatements.{matrices_of, each, touched_by, touched, touch_all, read_element, at_row, at_column, read_row, read_matrix, behind_number, numbers_written, row_ended, row_written, rows_written, value_by, assigns, acts_on_matrices, matrix_act}
+use Rattle.program_model.specs.MatrixStatements.{matrices_of, one_by_one, touched_by, touched, touch_all, read_element, at_row, at_column, read_row, read_matrix, behind_number, numbers_written, row_ended, row_written, rows_written, value_by, assigns_value, acts_on_matrices, matrix_act}
 use Rattle.program_model.specs.Program.{Program, Position}
 use Rattle.polish_code.specs.Walk.{Spot, Walked}
 use Rattle.polish_code.proofs.Lowering.{low, Same, follow, fault_same, remembered_same, stored_at_same, taken_same}
@@ -30,7 +30,7 @@ module _ (program : Program) where
   touched_by_same (Some shape) x j = refl
   touched_by_same None x j = remembered_same program (made (implied_matrix x) j.memory) j
 
-  each_same : {A : Type 0} (act' : A → Job Spot → Walked (Unit {0})) (act : A → Job Position → Deed Position (Unit {0})) → ((a : A) (j : Job Position) → Same program (act' a (low program j)) (act a j)) → (all : List A) (j : Job Position) → Same program (each act' all (low program j)) (each act all j)
+  each_same : {A : Type 0} (act' : A → Job Spot → Walked (Unit {0})) (act : A → Job Position → Deed Position (Unit {0})) → ((a : A) (j : Job Position) → Same program (act' a (low program j)) (act a j)) → (all : List A) (j : Job Position) → Same program (one_by_one act' all (low program j)) (one_by_one act all j)
   each_same act' act one [] j = refl
   each_same act' act one (a ∷ others) j = follow program _ (act a j) _ _ _ (one a j) (λ _ j. each_same act' act one others j)
 
@@ -75,7 +75,7 @@ module _ (program : Program) where
 
   -- THE VALUE
 
-  assigns_same : (x : Name) (v : MatValue) (j : Job Position) → Same program (assigns x v (low program j)) (assigns x v j)
+  assigns_same : (x : Name) (v : MatValue) (j : Job Position) → Same program (assigns_value x v (low program j)) (assigns_value x v j)
   assigns_same x v j = follow program _ (or_fault (assigned x v j.memory) j) _ _ _ (fault_same program (assigned x v j.memory) j) (λ m j. refl)
 
   acts_same : (items : List (List ℕ)) (act : MatrixAct) (n : ℤ) (j : Job Position) → Same program (acts_on_matrices items act n (low program j)) (acts_on_matrices items act n j)

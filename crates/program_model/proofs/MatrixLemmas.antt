@@ -22,7 +22,7 @@ use Rattle.program_model.specs.DataItems.{item_taken}
 use Rattle.program_model.specs.Functions.{number_at}
 use Rattle.program_model.specs.Items.{item_value}
 use Rattle.program_model.specs.Job.{Value, Job, Deed, or_fault}
-use Rattle.program_model.specs.MatrixStatements.{matrices_of, each, touched_by, touched, touch_all, read_element, at_row, at_column, read_row, read_matrix, behind_number, numbers_written, row_ended, row_written, rows_written, value_by, with_memory, acts_on_matrices, matrix_act}
+use Rattle.program_model.specs.MatrixStatements.{matrices_of, one_by_one, touched_by, touched, touch_all, read_element, at_row, at_column, read_row, read_matrix, behind_number, numbers_written, row_ended, row_written, rows_written, value_by, with_memory, acts_on_matrices, matrix_act}
 use Rattle.program_model.specs.Printing.{written}
 use Rattle.program_model.specs.Variables.{content_of, remembered, second, stored_at}
 
@@ -49,7 +49,7 @@ module _ {R : Type 0} (Fact : Job R → Type 0)
   touched_ends (Some shape) x j h = h
   touched_ends None x j h = remembered_ends (made (implied_matrix x) j.memory) j h
 
-  each_ends : {A : Type 0} (act : A → Job R → Deed R (Unit {0})) → ((a : A) (j : Job R) → Fact j → Ends (act a j)) → (all : List A) (j : Job R) → Fact j → Ends (each act all j)
+  each_ends : {A : Type 0} (act : A → Job R → Deed R (Unit {0})) → ((a : A) (j : Job R) → Fact j → Ends (act a j)) → (all : List A) (j : Job R) → Fact j → Ends (one_by_one act all j)
   each_ends act one [] j h = h
   each_ends act one (a ∷ others) j h = ends_then Fact (act a j) _ (one a j h) (λ _ k g. each_ends act one others k g)
 

@@ -28,9 +28,9 @@ use Rattle.program_model.specs.Printing.{written, separated}
 use Rattle.program_model.specs.Variables.{dimensioned, stored_at}
 
 -- one after another
-abbrev pub each : {R A : Type 0} → (A → Job R → Deed R (Unit {0})) → List A → Job R → Deed R (Unit {0})
-each act [] j = Gives tt j
-each act (a ∷ others) j = act a j then λ _ j. each act others j
+abbrev pub one_by_one : {R A : Type 0} → (A → Job R → Deed R (Unit {0})) → List A → Job R → Deed R (Unit {0})
+one_by_one act [] j = Gives tt j
+one_by_one act (a ∷ others) j = act a j then λ _ j. one_by_one act others j
 
 -- THE ARRAYS OF A STATEMENT, in the order of the text
 
@@ -59,7 +59,7 @@ abbrev pub touched : {R : Type 0} → Name → Job R → Deed R (Unit {0})
 touched matrix j = touched_by (bounds matrix j.memory) matrix j
 
 abbrev pub touch_all : {R : Type 0} → List Name → Job R → Deed R (Unit {0})
-touch_all matrices j = each touched matrices j
+touch_all matrices j = one_by_one touched matrices j
 
 -- MAT READ: each element takes an item as READ does, row by row
 
@@ -79,13 +79,13 @@ at_column row column = Number (wrap (pos row)) ∷ Number (wrap (pos column)) �
 -- a row, which has one element in an array of one subscript
 abbrev pub read_row : {R : Type 0} → List (List ℕ) → Name → Option ℕ → ℕ → Job R → Deed R (Unit {0})
 read_row items matrix None row j = read_element items matrix (at_row row) j
-read_row items matrix (Some last) row j = each (λ column. read_element items matrix (at_column row column)) (range_with_len 1 last) j
+read_row items matrix (Some last) row j = one_by_one (λ column. read_element items matrix (at_column row column)) (range_with_len 1 last) j
 
 abbrev pub read_matrix : {R : Type 0} → List (List ℕ) → Name → MatrixShape → Job R → Deed R (Unit {0})
-read_matrix items matrix shape j = each (read_row items matrix shape.1) (range_with_len 1 (matrix_rows shape)) j
+read_matrix items matrix shape j = one_by_one (read_row items matrix shape.1) (range_with_len 1 (matrix_rows shape)) j
 
 abbrev pub read_matrices : {R : Type 0} → List (List ℕ) → List Name → Job R → Deed R (Unit {0})
-read_matrices items matrices j = each (λ matrix j. read_matrix items matrix (shape_of j.memory matrix) j) matrices j
+read_matrices items matrices j = one_by_one (λ matrix j. read_matrix items matrix (shape_of j.memory matrix) j) matrices j
 
 -- MAT PRINT: numbers as PRINT writes them
 
@@ -133,15 +133,15 @@ value_by factor (form.Transposed b) = value.Transposed b
 abbrev pub with_memory : {R : Type 0} → Memory → Job R → Deed R (Unit {0})
 with_memory m j = Gives tt (record j { memory = m })
 
-abbrev pub assigns : {R : Type 0} → Name → MatValue → Job R → Deed R (Unit {0})
-assigns target v j = or_fault (assigned target v j.memory) j then with_memory
+abbrev pub assigns_value : {R : Type 0} → Name → MatValue → Job R → Deed R (Unit {0})
+assigns_value target v j = or_fault (assigned target v j.memory) j then with_memory
 
 -- THE STATEMENTS: all arrays are made before anything is read, written or stored
 
 abbrev pub acts_on_matrices : {R : Type 0} → List (List ℕ) → MatrixAct → ℤ → Job R → Deed R (Unit {0})
 acts_on_matrices items (Read names) factor j = read_matrices items names j
 acts_on_matrices items (Print matrix separator) factor j = Gives tt (matrix_written separator matrix j)
-acts_on_matrices items (Assign target value) factor j = assigns target (value_by factor value) j
+acts_on_matrices items (Assign target value) factor j = assigns_value target (value_by factor value) j
 
 abbrev pub matrix_act : {R : Type 0} → List (List ℕ) → MatrixAct → List Value → Job R → Deed R (Unit {0})
 matrix_act items act operands j =
