@@ -1,5 +1,5 @@
 -- What is worked out of fields, of text on channels, of arrays in files, of PRINT USING and of SYS.
-use Rattle.std.proofs.Common.{◌≡◌, ℕ, ◌++◌, true, false, List, [], ◌∷◌, refl}
+use Rattle.std.proofs.Common.{◌≡◌, ◌++◌, true, false, [], ◌∷◌, refl}
 use Rattle.std.specs.Prelude.{codes, replicate, None}
 use Rattle.std.specs.Fmt.{digits}
 use Rattle.basic_values.specs.Arithmetic.{repeated_product}
@@ -17,8 +17,8 @@ use Rattle.file_names.specs.SpecFronts.{spec_in, bracketed_in, closed_code}
 use Rattle.monitor_calls.specs.declared.files.OpenKind.TheVariants.{Either, Output}
 use Rattle.monitor_calls.specs.declared.calls.Request.TheVariants.{OpenFile, CloseFile, Get, Put}
 use Rattle.monitor_calls.specs.declared.calls.Reply.TheVariants.{Done, Opened, Block, Failed}
-use Rattle.session_model.proofs.StatementRows.{asked, left_open, zeros, own}
-use Rattle.session_model.proofs.ProgramRows.{shows, shows_now}
+use Rattle.session_model.proofs.StatementRows.{asked, left_open, own}
+use Rattle.session_model.proofs.ProgramRows.{shows}
 
 -- two FIELDs share the buffer
 fields_share_the_buffer : left_open ((10, codes "OPEN 'A' AS FILE 1%") ∷ (20, codes "FIELD #1%,10% AS A$ : FIELD #1%,4% AS B$,6% AS C$") ∷ (30, codes "LSET A$='ABCDEFGHIJKL' : PRINT A$;'/';B$;'/';C$") ∷ (40, codes "RSET A$='ABCDEFGHIJKL' : PRINT A$") ∷ (50, codes "RSET B$='X' : PRINT B$") ∷ []) (Opened 0 true true ∷ Done ∷ [])

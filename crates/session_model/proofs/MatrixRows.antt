@@ -1,5 +1,5 @@
 -- What is worked out of MAT: values, their bounds, what is read and written, and arrays in files, which are refused.
-use Rattle.std.proofs.Common.{◌≡◌, ℕ, List, [], ◌∷◌, Some, None, refl}
+use Rattle.std.proofs.Common.{◌≡◌, [], ◌∷◌, Some, None, refl}
 use Rattle.std.specs.Prelude.{codes}
 use Rattle.std.specs.Fmt.{digits}
 use Rattle.basic_values.specs.Arithmetic.{repeated_product}

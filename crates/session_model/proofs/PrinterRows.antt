@@ -1,6 +1,6 @@
 -- What is worked out of the commands on the printer: who keeps it, a file that is printed, what is asked behind the first fault, texts that are no commands.
 use Rattle.std.proofs.Common.{◌≡◌, ℕ, List, [], ◌∷◌, refl}
-use Rattle.std.specs.Prelude.{codes, ◌++◌, true, false, None, Some, replicate}
+use Rattle.std.specs.Prelude.{codes, true, false, None, Some, replicate}
 use Rattle.std.specs.Fmt.{digits}
 use Rattle.monitor_calls.specs.declared.files.FileName.{FileName}
 use Rattle.monitor_calls.specs.declared.files.OpenKind.TheVariants.{Input}
