@@ -109,12 +109,11 @@ impl Running {
     {
         match form {
             MatrixForm::Zero | MatrixForm::One | MatrixForm::Identity => Some(()),
-            MatrixForm::Copy(b) | MatrixForm::Scaled(b) | MatrixForm::Transposed(b) => self.touch(
-                b,
-            ),
+            MatrixForm::Copy(b) | MatrixForm::Scaled(b) | MatrixForm::Transposed(b) => {
+                self.touch_all(&[b])
+            }
             MatrixForm::Sum(b, c) | MatrixForm::Difference(b, c) | MatrixForm::Product(b, c) => {
-                self.touch(b)?;
-                self.touch(c)
+                self.touch_all(&[b, c])
             }
         }
     }
