@@ -8,6 +8,11 @@ MANUAL = [DECKS.parent / "docs" / it for it in ("LANGUAGE.md", "MONITOR.md", "FO
 LOGIN = re.compile(r">HELLO \S+$", re.I)
 
 
+def pages(paths):
+    """The pages at these paths, or those of the manual."""
+    return [pathlib.Path(it) for it in paths] or MANUAL
+
+
 class Example:
     """Lines that a page shows: those that are typed begin with `>`. One of files has lines of a deck, or of its output."""
 
