@@ -109,12 +109,12 @@ impl Running {
     {
         match form {
             MatrixForm::Zero | MatrixForm::One | MatrixForm::Identity => Some(()),
-            MatrixForm::Copy(b) | MatrixForm::Scaled(b) | MatrixForm::Transposed(b) => {
-                self.touch_all(&[b])
-            }
-            MatrixForm::Sum(b, c) | MatrixForm::Difference(b, c) | MatrixForm::Product(b, c) => {
-                self.touch_all(&[b, c])
-            }
+            MatrixForm::Copy(b) => self.touch_all(&[b]),
+            MatrixForm::Sum(b, c) => self.touch_all(&[b, c]),
+            MatrixForm::Difference(b, c) => self.touch_all(&[b, c]),
+            MatrixForm::Product(b, c) => self.touch_all(&[b, c]),
+            MatrixForm::Scaled(b) => self.touch_all(&[b]),
+            MatrixForm::Transposed(b) => self.touch_all(&[b]),
         }
     }
 
