@@ -1,7 +1,7 @@
 //! The commands on the printer: what they ask of the monitor, and what they show.
 
 use crate::talks::{
-    Answer, HELLO, ILLEGAL_COMMAND, Row, expect_of_files, expect_of_user, expect_talk,
+    Answer, ILLEGAL_COMMAND, Row, expect_expiring, expect_of_files, expect_of_user,
 };
 use std::alloc::Global;
 use std::test::Fail;
@@ -248,18 +248,6 @@ static EXPIRING: [(&str, &[Answer], &str); 4] = [
         "Input [100,5]A.LST Opened 0\nOpenPrinter Done\nClosePrinter Expired\n",
     ),
 ];
-
-fn expect_expiring(alloc: Global, line: &str, answers: &[Answer], asked: &str) -> Result<(), Fail> {
-    let screen = format!(in alloc; "{HELLO}\nReady\n{line}\n?Job expired\n")?;
-    let log = format!(in alloc; "Login 100,5;DEMO Done\n{asked}")?;
-    expect_talk(
-        alloc,
-        &[HELLO, line],
-        answers,
-        screen.as_str(),
-        log.as_str(),
-    )
-}
 
 #[test]
 fn a_job_that_expires_at_the_printer(rt: HostRuntime) -> Result<(), Fail> {

@@ -305,6 +305,24 @@ pub(crate) fn expect_talk(
     Ok(())
 }
 
+/// Fails unless a user's line is the last of a job that expires at one of these answers.
+pub(crate) fn expect_expiring(
+    alloc: Global,
+    line: &str,
+    answers: &[Answer],
+    asked: &str,
+) -> Result<(), Fail> {
+    let screen = format!(in alloc; "{HELLO}\nReady\n{line}\n?Job expired\n")?;
+    let log = format!(in alloc; "Login 100,5;DEMO Done\n{asked}")?;
+    expect_talk(
+        alloc,
+        &[HELLO, line],
+        answers,
+        screen.as_str(),
+        log.as_str(),
+    )
+}
+
 /// A line, and what it shows.
 pub(crate) type Row = (&'static str, &'static str);
 
