@@ -2,17 +2,16 @@
 //! numbers that are stored to all elements without a subscript 0.
 
 ghost use Rattle.std.specs.Prelude.{◌≡◌, ◌+◌, ◌≤◌, take, drop, vec_len, IfOk};
-ghost use Rattle.std.specs.BTreeMap.{IsOrdered};
 ghost use Rattle.job_memory.specs.Matrices.{bounds, count_in, subscripts_at, is_inner, numbers, number_in_list, renumbered, renumbered_in};
 ghost use Rattle.job_memory.specs.Memory.{array, arrays_size};
-ghost use Rattle.job_memory.specs.Names.{name_cmp};
+ghost use Rattle.job_memory.specs.Slots.{IsOrdered};
 
 use crate::contents::MOST_ROOM;
 use crate::memory::Memory;
+use crate::slots::Slots;
 use crate::tables::Table;
 use basic_tree::Name;
 use basic_values::{Int, NoMemory};
-use std::collections::BTreeMap;
 
 /// The row and the column of the element at a place, where this is the greatest second subscript. An
 /// array of one subscript has one column, number 1.
@@ -40,7 +39,7 @@ impl Memory {
     pub fn bounds(&self, name: Name) -> Option<(u16, Option<u16>)>
         ensures { result ≡ bounds name self.now }
     {
-        match self.arrays.get(&name) {
+        match self.arrays.get(name) {
             Some(table) => Some(table.bounds()),
             None => None,
         }
@@ -52,7 +51,7 @@ impl Memory {
         ensures numbers { IfOk result (λ list. list.items ≡ numbers name self.now) }
         ensures count { IfOk result (λ list. vec_len list ≡ count_in (bounds name self.now)) }
     {
-        match self.arrays.get(&name) {
+        match self.arrays.get(name) {
             Some(table) => table.numbers(self.alloc),
             None => Ok(Vec::new(self.alloc)),
         }
@@ -70,7 +69,7 @@ impl Memory {
             (λ list. list.items ≡ take length (drop place (numbers name self.now))) }
         ensures count { IfOk result (λ list. vec_len list ≡ length) }
     {
-        match self.arrays.get(&name) {
+        match self.arrays.get(name) {
             Some(table) => table.numbers_from(self.alloc, place, length),
             None => Ok(Vec::new(self.alloc)),
         }
@@ -87,23 +86,18 @@ impl Memory {
 }
 
 /// Renumbers one of the arrays, and gives the room of all that there is then.
-fn renumber_in(
-    arrays: &mut BTreeMap<Name, Table>,
-    name: Name,
-    numbers: &[Int],
-    room: usize,
-) -> usize
-    requires ordered { IsOrdered name_cmp arrays.old }
-    requires counted { arrays_size arrays.old.entries ≤ room }
+fn renumber_in(arrays: &mut Slots<Table>, name: Name, numbers: &[Int], room: usize) -> usize
+    requires ordered { IsOrdered arrays.old }
+    requires counted { arrays_size arrays.old ≤ room }
     requires few { room ≤ MOST_ROOM }
-    ensures entries { arrays.new.entries
-        ≡ renumbered_in name (number_in_list numbers.now) arrays.old.entries
-        (array name arrays.old.entries) }
-    ensures room { result + arrays_size arrays.old.entries ≡ room + arrays_size arrays.new.entries }
+    ensures entries { arrays.new
+        ≡ renumbered_in name (number_in_list numbers.now) arrays.old
+        (array name arrays.old) }
+    ensures room { result + arrays_size arrays.old ≡ room + arrays_size arrays.new }
     ensures no_more { result ≤ room }
-    ensures still_ordered { IsOrdered name_cmp arrays.new }
+    ensures still_ordered { IsOrdered arrays.new }
 {
-    match arrays.get_mut(&name) {
+    match arrays.get_mut(name) {
         Some(table) => table.renumber(numbers, room),
         None => room,
     }

@@ -1,26 +1,25 @@
 //! Variables.
 
 ghost use Rattle.std.specs.Prelude.{◌≡◌};
-ghost use Rattle.std.specs.BTreeMap.{IsOrdered};
 ghost use Rattle.job_memory.specs.declared.contents.Content.TheVariants as content;
 ghost use Rattle.job_memory.specs.Answers.{Stores, Overwrites, Renumbers};
 ghost use Rattle.job_memory.specs.Contents.{size_in, number_in, text_in};
 ghost use Rattle.job_memory.specs.Memory.{variable, store, room_of};
-ghost use Rattle.job_memory.specs.Names.{name_cmp};
+ghost use Rattle.job_memory.specs.Slots.{IsOrdered};
 
 use crate::contents::{Content, MOST_ROOM, number_of, size, text_of};
 use crate::memory::Memory;
+use crate::slots::Slots;
 use basic_tree::Name;
 use basic_values::{Halt, Int, Text, Trouble};
 use record_fields::{Buffers, Part};
-use std::collections::BTreeMap;
 
 impl Memory {
     /// The number of a variable: 0 where nothing is stored.
     pub fn number(&self, name: Name) -> Int
         ensures { result ≡ number_in (variable name self.now) }
     {
-        match self.variables.get(&name) {
+        match self.variables.get(name) {
             Some(content) => number_of(content),
             None => Int::new(0),
         }
@@ -31,7 +30,7 @@ impl Memory {
     pub fn text<'a>(&'a self, name: Name, buffers: &'a Buffers) -> &'a [u8]
         ensures { result.now ≡ text_in buffers.entry.now (variable name self.entry.now) }
     {
-        match self.variables.get(&name) {
+        match self.variables.get(name) {
             Some(Content::Fielded { channel, part }) => buffers.part(*channel, *part),
             Some(content) => text_of(content),
             None => &[],
@@ -69,9 +68,7 @@ impl Memory {
         if room > MOST_ROOM {
             return Err(Trouble::Refused(Halt::RoomFull));
         }
-        if self.variables.insert(name, content).is_err() {
-            return Err(Trouble::NoMemory);
-        }
+        self.variables.insert(name, content)?;
         self.room = room;
         Ok(())
     }
@@ -87,7 +84,7 @@ impl Memory {
     fn size_at(&self, name: Name) -> usize
         ensures { result ≡ size_in (variable name self.now) }
     {
-        match self.variables.get(&name) {
+        match self.variables.get(name) {
             Some(content) => size(content),
             None => 0,
         }
@@ -96,12 +93,12 @@ impl Memory {
 
 /// Puts a number in the place of another, which takes as much room. It tells whether one was there;
 /// if not, nothing changes.
-fn overwrite(variables: &mut BTreeMap<Name, Content>, name: Name, value: Int) -> bool
-    requires { IsOrdered name_cmp variables.old }
-    ensures overwrites { Overwrites name value variables.old.entries variables.new.entries result }
-    ensures still_ordered { IsOrdered name_cmp variables.new }
+fn overwrite(variables: &mut Slots<Content>, name: Name, value: Int) -> bool
+    requires { IsOrdered variables.old }
+    ensures overwrites { Overwrites name value variables.old variables.new result }
+    ensures still_ordered { IsOrdered variables.new }
 {
-    match variables.get_mut(&name) {
+    match variables.get_mut(name) {
         Some(place) => renumber(place, value),
         None => false,
     }

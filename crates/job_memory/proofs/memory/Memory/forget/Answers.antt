@@ -13,7 +13,7 @@ invariant_of-self c =
         arith,
         c.self.invariant.counted,
         ap variables_size c.forget_variables.ensures.entries,
-        variables_size-forgotten c.args.closed c.self.inside.variables.entries,
+        variables_size-forgotten c.args.closed c.self.inside.variables,
         ap aside_size c.forget_frames.ensures,
         aside_size-forgotten c.args.closed c.as_mut_slice.result.now,
         ap aside_size c.as_mut_slice.ensures.value,

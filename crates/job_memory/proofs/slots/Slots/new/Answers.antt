@@ -1,0 +1,5 @@
+use Rattle.job_memory.proofs.SlotLemmas.{sorted-entries_of}
+use Rattle.job_memory.proofs.slots.Slots.new.Goals as goal
+
+pub returns-clause-ordered : goal.returns-clause-ordered
+returns-clause-ordered g c = sorted-entries_of c.new.result.items
