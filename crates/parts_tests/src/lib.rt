@@ -46,3 +46,5 @@ mod sys_texts;
 mod trap;
 #[cfg(test)]
 mod using_rows;
+#[cfg(test)]
+mod variables;

@@ -87,7 +87,7 @@ fn int_of(subscript: Option<i16>) -> Option<Int> {
 }
 
 /// A text of so many times one byte.
-fn text(alloc: Global, byte: u8, length: usize) -> Result<Text, Fail> {
+pub(crate) fn text(alloc: Global, byte: u8, length: usize) -> Result<Text, Fail> {
     let bytes = vec![in alloc; byte; length]?;
     Ok(Text::of(alloc, &bytes).ok().ok_or("no text")?)
 }

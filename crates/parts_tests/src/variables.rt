@@ -1,0 +1,116 @@
+//! Variables: each is found by its letter, its digit and its kind.
+
+use crate::memory::text;
+use basic_tree::Name;
+use basic_values::Int;
+use job_memory::Memory;
+use record_fields::Buffers;
+use std::alloc::Global;
+use std::test::Fail;
+
+/// A letter, perhaps a digit, and whether it is a text.
+type Spelling = (u8, Option<u8>, bool);
+
+fn named(spelling: Spelling) -> Name {
+    let (letter, digit, text) = spelling;
+    Name {
+        letter,
+        digit,
+        text,
+    }
+}
+
+/// The first and the last name of each kind, some with a digit, and both kinds of one letter.
+static STORED: [Spelling; 13] = [
+    (b'Z', Some(b'9'), true),
+    (b'A', None, false),
+    (b'M', Some(b'5'), false),
+    (b'A', Some(b'0'), true),
+    (b'Z', Some(b'9'), false),
+    (b'A', None, true),
+    (b'A', Some(b'9'), false),
+    (b'Z', None, false),
+    (b'M', Some(b'5'), true),
+    (b'A', Some(b'0'), false),
+    (b'Z', None, true),
+    (b'B', None, false),
+    (b'A', Some(b'9'), true),
+];
+
+static NEVER_STORED: [Spelling; 8] = [
+    (b'B', None, true),
+    (b'A', Some(b'1'), false),
+    (b'A', Some(b'8'), true),
+    (b'M', None, false),
+    (b'M', Some(b'4'), true),
+    (b'Y', Some(b'9'), false),
+    (b'Z', Some(b'0'), false),
+    (b'Z', Some(b'8'), true),
+];
+
+/// Stores a number, or a text of so many bytes.
+fn stores(alloc: Global, memory: &mut Memory, name: Name, count: u8) -> Result<bool, Fail> {
+    if name.text {
+        let value = text(alloc, b'X', usize::from(count))?;
+        return Ok(memory.set_text(name, value).is_ok());
+    }
+    Ok(memory.set_number(name, Int::new(i16::from(count))).is_ok())
+}
+
+/// Whether a variable is that number, or a text of so many bytes.
+fn is(memory: &Memory, buffers: &Buffers, name: Name, count: u8) -> bool {
+    if name.text {
+        memory.text(name, buffers).len() == usize::from(count)
+    } else {
+        memory.number(name).value() == i16::from(count)
+    }
+}
+
+/// What is stored under the name at a place.
+fn count_of(place: usize) -> u8 {
+    u8::try_from(place % 100).unwrap_or(0) + 1
+}
+
+/// Stores under each name, from the last one on or from the first.
+fn memory_with_all(alloc: Global, from_last: bool) -> Result<Memory, Fail> {
+    let mut memory = Memory::new(alloc);
+    for step in 0..STORED.len() {
+        let place = if from_last {
+            STORED.len() - 1 - step
+        } else {
+            step
+        };
+        if !stores(alloc, &mut memory, named(STORED[place]), count_of(place))? {
+            Err("not stored")?;
+        }
+    }
+    Ok(memory)
+}
+
+/// Whether each name has what was stored under it.
+fn has_all(memory: &Memory, buffers: &Buffers) -> bool {
+    STORED.iter().enumerate().all(|(place, name)| is(
+        memory,
+        buffers,
+        named(*name),
+        count_of(place),
+    ))
+}
+
+/// Whether nothing stands under the names that nothing was stored under.
+fn has_no_other(memory: &Memory, buffers: &Buffers) -> bool {
+    NEVER_STORED
+        .iter()
+        .all(|name| is(memory, buffers, named(*name), 0))
+}
+
+#[test]
+fn each_variable_has_its_own_value(rt: HostRuntime) -> Result<(), Fail> {
+    let buffers = Buffers::new(rt.alloc())?;
+    for from_last in [false, true] {
+        let memory = memory_with_all(rt.alloc(), from_last)?;
+        assert!(rt; has_all(&memory, &buffers));
+        assert!(rt; has_no_other(&memory, &buffers));
+    }
+    Ok(())
+}
