@@ -8,7 +8,7 @@ use crate::volumes::{DEMO, password, volume};
 use basic_values::NoMemory;
 use monitor_calls::{Account, Port, Request, Screen2, Short};
 use monitor_core::Monitor;
-use rsts_io::Pacer;
+use monitor_gate::JobSeat;
 use std::alloc::Global;
 use std::process::Abort;
 use std::sync::Wait;
@@ -17,7 +17,7 @@ use std::test::Fail;
 use std::thread;
 use std::thread::Threads;
 use std::time::{Clock, Duration};
-use terminal_runner::{JobBody, RunEnd, run_jobs};
+use terminal_runner::{JobBody, Pacer, RunEnd, Telling, Tellings, run_jobs};
 
 /// How many milliseconds a call waits for the first calls of the other jobs.
 const MOST_NAPS: u32 = 20_000;
@@ -93,8 +93,17 @@ impl<'a, R: Clock> Together<'a, R> {
 }
 
 impl<'a, R: Clock> Pacer for Together<'a, R> {
-    fn before(&self, job: u32, call: u32) {
-        if let Some(calls) = self.calls.get(job as usize) {
+    type Kept = Tellings;
+
+    ghost tellings = { λ kept. kept };
+
+    fn seat(&self) -> Tellings {
+        Tellings::new()
+    }
+
+    fn before(&self, kept: &mut Tellings, seat: &JobSeat, call: u32) {
+        kept.push(Telling::Before { call }, seat);
+        if let Some(calls) = self.calls.get(seat.job() as usize) {
             calls.before.fetch_add(1, Ordering::SeqCst);
         }
         if call == 2 {
@@ -102,8 +111,9 @@ impl<'a, R: Clock> Pacer for Together<'a, R> {
         }
     }
 
-    fn after(&self, job: u32, call: u32) {
-        if let Some(calls) = self.calls.get(job as usize) {
+    fn after(&self, kept: &mut Tellings, seat: &JobSeat, call: u32) {
+        kept.push(Telling::After { call }, seat);
+        if let Some(calls) = self.calls.get(seat.job() as usize) {
             calls.after.fetch_add(1, Ordering::SeqCst);
         }
         if call == 1 {

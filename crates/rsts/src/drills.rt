@@ -9,10 +9,11 @@ use crate::runs::run_deck;
 use crate::streams::{SinkFault, give_all};
 use basic_values::NoMemory;
 use drill_deck::{drill_deck, drill_line, tally_of};
-use rsts_io::{Pacer, Sink};
+use rsts_io::Sink;
 use std::alloc::Global;
 use std::sync::Wait;
 use std::thread::Threads;
+use terminal_runner::Pacer;
 
 /// Runs the drill with so many terminals and writes what it came to, as the word `drill` asks.
 pub(crate) fn run_drill<R: Threads + Wait + Sync, K: Sink, P: Pacer + Sync>(

@@ -18,10 +18,11 @@ mod writings;
 
 use crate::outcomes::Outcome;
 use crate::top::{Step, begin, rsts_main};
-use rsts_io::{IdlePacer, StdSink, StdSource};
+use rsts_io::{StdSink, StdSource};
 use std::process::ExitCode;
 use std::rt::Env;
 use std::{env, io, str};
+use terminal_runner::IdlePacer;
 
 /// Does what the words ask between standard input and output, says on standard error how it ended,
 /// and ends with its status. What waits for nobody is done without the top call, which may wait.

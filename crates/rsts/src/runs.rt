@@ -11,11 +11,10 @@ use command_level::serve;
 use deck_reader::{Deck, Terminal};
 use monitor_calls::{Port, Screen2};
 use monitor_core::Monitor;
-use rsts_io::Pacer;
 use std::alloc::Global;
 use std::sync::Wait;
 use std::thread::Threads;
-use terminal_runner::{JobBody, RunEnd, run_jobs};
+use terminal_runner::{JobBody, Pacer, RunEnd, run_jobs};
 
 /// The sessions of the terminals of a deck: each job is that of the terminal at its place.
 #[derive(Drop)]

@@ -16,10 +16,11 @@ use deck_reader::{Deck, read_deck};
 use monitor_calls::RunRecord;
 use program_words::Wanted;
 use report_texts::good_line;
-use rsts_io::{Pacer, Sink, Source};
+use rsts_io::{Sink, Source};
 use std::alloc::Global;
 use std::sync::Wait;
 use std::thread::Threads;
+use terminal_runner::Pacer;
 
 /// Why no deck was read.
 #[derive(Clone, Copy, PartialEq, Eq)]

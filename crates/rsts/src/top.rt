@@ -10,10 +10,11 @@ use crate::outcomes::Outcome;
 use crate::systems::{check_system, run_system};
 use basic_values::NoMemory;
 use program_words::{Asked, Wanted, asked_by};
-use rsts_io::{Pacer, Sink, Source};
+use rsts_io::{Sink, Source};
 use std::alloc::Global;
 use std::sync::Wait;
 use std::thread::Threads;
+use terminal_runner::Pacer;
 
 /// How far the program gets without waiting.
 #[derive(Drop)]

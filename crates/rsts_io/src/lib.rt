@@ -1,4 +1,4 @@
-//! The ends of the program: sources of bytes, sinks for bytes, and pacers.
+//! The ends of the program: sources of bytes, and sinks for bytes.
 //!
 //! A source and a sink tell of themselves by their ghost `state`. `Source::take` and `Sink::give`
 //! carry the promise: `IsTaken` and `Accepts` say what each answer changes of it. Ends in memory tell
@@ -11,7 +11,6 @@
 mod copies;
 mod dribbles;
 mod memory;
-mod pacers;
 mod plain;
 mod sink;
 mod source;
@@ -20,7 +19,6 @@ mod streams;
 pub use copies::SINK_ROOM;
 pub use dribbles::{DribbleSink, DribbleSource};
 pub use memory::{MemorySink, MemorySource};
-pub use pacers::{IdlePacer, Pacer};
 pub use plain::{PlainSink, PlainSource};
 pub use sink::{Gave, Sink};
 pub use source::{Source, Took};

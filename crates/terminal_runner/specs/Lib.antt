@@ -1,3 +1,5 @@
+pub mod Paced
 pub mod Runs
 pub mod Seats
+pub mod Told
 pub use Rattle.monitor_gate.specs.OneHistory

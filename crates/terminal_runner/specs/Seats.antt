@@ -25,6 +25,10 @@ unasked seat =
 abbrev pub pass_at : State → ℕ → SparePass
 pass_at opening made = record { opening = opening; made = made; seen = []; ended = [] }
 
+-- what its job asked, and was replied
+abbrev pub asked : SeatValue → List Pair
+asked seat = seat.pass.mine
+
 abbrev pub seat_at : GateValue → ℕ → SeatValue
 seat_at gate job = seat_value gate.gate (split_off (pass_at gate.opening job))
 

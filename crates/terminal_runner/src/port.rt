@@ -1,70 +1,88 @@
 //! The port of a job, over its seat at a gate.
 
-ghost use Rattle.std.specs.Prelude.{◌≡◌};
+ghost use Rattle.std.specs.Prelude.{◌≡◌, ◌+◌, [], ◌∷◌, ◌++◌, length, IfOk, OnErr};
+ghost use Rattle.monitor_calls.specs.Pairs.{Grew};
+ghost use Rattle.terminal_runner.specs.Paced.{call_number, told_around, WasTold};
 
+use crate::pacers::Pacer;
 use basic_values::NoMemory;
 use monitor_calls::{Port, Reply, Request};
 use monitor_gate::{Gate, JobSeat};
-use rsts_io::Pacer;
 use std::alloc::Global;
 use std::sync::Wait;
 
-/// A job's seat at a gate, with a pacer that is called before and after each call.
+/// A job's seat at a gate, with a pacer that is told before and after each call.
 #[derive(Drop)]
 pub(crate) struct SeatPort<'a, R: Wait, P: Pacer> {
     rt: &'a R,
     gate: &'a Gate,
     pacer: &'a P,
     seat: JobSeat,
+    /// What the pacer was told of this seat.
+    told: P::Kept,
     /// How many calls it has made; the count stays at the greatest number of 32 bits.
     calls: u32,
     ghost own: { seat.gate ≡ gate.now.gate },
+    ghost paced: { ∥ WasTold seat.pass.job (length seat.pass.mine) calls (P.tellings told) ∥₁ },
 }
 
 impl<'a, R: Wait, P: Pacer> SeatPort<'a, R, P> {
     pub(crate) fn new(rt: &'a R, gate: &'a Gate, pacer: &'a P, seat: JobSeat) -> SeatPort<'a, R, P>
-        requires { seat.gate ≡ gate.now.gate }
-        ensures { result.seat ≡ seat }
+        requires own { seat.gate ≡ gate.now.gate }
+        requires fresh { seat.pass.mine ≡ [] }
+        ensures seat { result.seat ≡ seat }
+        ensures calls { result.calls ≡ 0 }
+        ensures told { P.tellings result.told ≡ [] }
     {
         SeatPort {
             rt,
             gate,
             pacer,
             seat,
+            told: pacer.seat(),
             calls: 0,
         }
     }
 
-    /// Hands the seat back.
-    pub(crate) fn into_seat(self) -> JobSeat
-        ensures { result ≡ self.entry.seat }
+    /// Hands back the seat, and what the pacer was told of it.
+    pub(crate) fn into_parts(self) -> (JobSeat, P::Kept)
+        ensures seat { result.0 ≡ self.entry.seat }
+        ensures told { result.1 ≡ self.entry.told }
     {
         let SeatPort {
             rt: _,
             gate: _,
             pacer: _,
             seat,
+            told,
             calls: _,
         } = self;
-        seat
+        (seat, told)
     }
 }
 
 impl<'a, R: Wait, P: Pacer> Port for SeatPort<'a, R, P> {
-    ghost use Rattle.terminal_runner.specs.Seats.{unasked};
+    ghost use Rattle.terminal_runner.specs.Seats.{unasked, asked};
 
     type Who = JobSeat;
 
     ghost who = { λ p. unasked p.seat };
 
-    ghost log = { λ p. p.seat.pass.mine };
+    ghost log = { λ p. asked p.seat };
 
-    fn ask(&mut self, alloc: Global, request: Request) -> Result<Reply, NoMemory> {
+    fn ask(&mut self, alloc: Global, request: Request) -> Result<Reply, NoMemory>
+        ensures ok { IfOk result (λ reply.
+            Grew unasked asked self.old.seat self.new.seat ((request, reply) ∷ [])) }
+        ensures memory { OnErr result (Grew unasked asked self.old.seat self.new.seat []) }
+        ensures calls { self.new.calls ≡ call_number (self.old.calls + 1) }
+        // Whatever the answer is.
+        ensures told { P.tellings self.new.told ≡ P.tellings self.old.told
+            ++ told_around self.new.calls self.old.seat self.new.seat }
+    {
         self.calls = self.calls.saturating_add(1);
-        let job = self.seat.job();
-        self.pacer.before(job, self.calls);
+        self.pacer.before(&mut self.told, &self.seat, self.calls);
         let reply = self.gate.ask(self.rt, alloc, &mut self.seat, request);
-        self.pacer.after(job, self.calls);
+        self.pacer.after(&mut self.told, &self.seat, self.calls);
         reply
     }
 }

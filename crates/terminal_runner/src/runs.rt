@@ -1,17 +1,18 @@
 //! A run: a gate, a thread for each job, and what they leave.
 
-ghost use Rattle.std.specs.Prelude.{◌≡◌, ◌≤◌, [], IfOk, length, vec_len};
+ghost use Rattle.std.specs.Prelude.{◌≡◌, ◌≤◌, ℕ, [], IfOk, length, vec_len};
 ghost use Rattle.monitor_gate.specs.Passes.{spare_value, first_pass};
+ghost use Rattle.terminal_runner.specs.Paced.{WasTold};
 ghost use Rattle.terminal_runner.specs.Runs.{IsRun};
 ghost use Rattle.terminal_runner.specs.Seats.{CameBack, pass_at, AllFresh, AllAtGate, AllCameBack, Joined};
 
 use crate::bodies::JobBody;
+use crate::pacers::Pacer;
 use crate::port::SeatPort;
 use basic_values::NoMemory;
 use monitor_calls::{RunRecord, Screen2};
 use monitor_core::Monitor;
 use monitor_gate::{Gate, JobSeat, Spare};
-use rsts_io::Pacer;
 use std::alloc::Global;
 use std::sync::Wait;
 use std::thread;
@@ -69,6 +70,28 @@ fn split_all(
     Ok(seats)
 }
 
+/// Runs a job to its end, and hands back what its pacer was told.
+fn run_paced<R: Wait, B: JobBody, P: Pacer>(
+    rt: &R,
+    alloc: Global,
+    gate: &Gate,
+    body: &B,
+    pacer: &P,
+    seat: JobSeat,
+) -> Result<((JobSeat, Screen2), P::Kept), NoMemory>
+    requires own { seat.gate ≡ gate.now.gate }
+    requires fresh { seat.pass.mine ≡ [] }
+    ensures back { IfOk result (λ end. CameBack (B.does body.now) seat end.0) }
+    ensures told { IfOk result (λ end.
+        (last : ℕ) × ∥ WasTold seat.pass.job (length end.0.0.pass.mine) last (P.tellings end.1) ∥₁) }
+{
+    let job = seat.job();
+    let mut port = SeatPort::new(rt, gate, pacer, seat);
+    let screen = body.run(alloc, job, &mut port)?;
+    let (seat, told) = port.into_parts();
+    Ok(((seat, screen), told))
+}
+
 /// Runs a job to its end.
 fn run_one<R: Wait, B: JobBody, P: Pacer>(
     rt: &R,
@@ -82,10 +105,8 @@ fn run_one<R: Wait, B: JobBody, P: Pacer>(
     requires fresh { seat.pass.mine ≡ [] }
     ensures { IfOk result (λ back. CameBack (B.does body.now) seat back) }
 {
-    let job = seat.job();
-    let mut port = SeatPort::new(rt, gate, pacer, seat);
-    let screen = body.run(alloc, job, &mut port)?;
-    Ok((port.into_seat(), screen))
+    let (back, _told) = run_paced(rt, alloc, gate, body, pacer, seat)?;
+    Ok(back)
 }
 
 /// Runs the jobs of these seats, each in a thread of its own.
@@ -104,7 +125,11 @@ fn run_all<R: Threads + Wait + Sync, B: JobBody + Sync, P: Pacer + Sync>(
     let backs = thread::map_vec(
         rt,
         seats,
-        &|seat| run_one(rt, alloc, gate, body, pacer, seat),
+        &|seat: JobSeat| -> Result<(JobSeat, Screen2), NoMemory>
+            requires own { seat.gate ≡ gate.now.gate }
+            requires fresh { seat.pass.mine ≡ [] }
+            ensures { IfOk result (λ back. CameBack (B.does body.entry.now) seat back) }
+        { run_one(rt, alloc, gate, body, pacer, seat) },
     )?;
     Ok(backs)
 }

@@ -1,8 +1,9 @@
 //! Calls of the program over ends in memory, for tests.
 
 use super::*;
-use rsts_io::{IdlePacer, MemorySink, MemorySource};
+use rsts_io::{MemorySink, MemorySource};
 use std::test::Fail;
+use terminal_runner::IdlePacer;
 
 pub(crate) const HEAD: &[u8] = b"RSTS-DECK 1\nDISK 8\nACCOUNT 100,5 DEMO 100\nTERMINAL T1\n";
 

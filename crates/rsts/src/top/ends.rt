@@ -3,8 +3,9 @@
 use super::*;
 use crate::streams::INPUT_LIMIT;
 use crate::top::calls::*;
-use rsts_io::{DribbleSink, DribbleSource, IdlePacer};
+use rsts_io::{DribbleSink, DribbleSource};
 use std::test::Fail;
+use terminal_runner::IdlePacer;
 
 static VERSIONS: [&[u8]; 2] = [FIRST_SUM, FIRST_SUM_2];
 

@@ -1,12 +1,13 @@
 //! A pacer for tests: it holds calls until calls of other jobs were answered.
 
 use monitor_calls::RunRecord;
-use rsts_io::Pacer;
+use monitor_gate::JobSeat;
 use std::alloc::Global;
 use std::sync::atomic::{AtomicU64, Ordering};
 use std::test::Fail;
 use std::thread;
 use std::time::{Clock, Duration};
+use terminal_runner::{Pacer, Telling, Tellings};
 
 /// How many milliseconds a call waits for a call of another job.
 const MOST_NAPS: u32 = 20_000;
@@ -108,7 +109,17 @@ fn push_second_calls(holds: &mut Vec<Hold>, job: u32, jobs: u32) -> Result<(), F
 }
 
 impl<'a, R: Clock> Pacer for Ordered<'a, R> {
-    fn before(&self, job: u32, call: u32) {
+    type Kept = Tellings;
+
+    ghost tellings = { λ kept. kept };
+
+    fn seat(&self) -> Tellings {
+        Tellings::new()
+    }
+
+    fn before(&self, kept: &mut Tellings, seat: &JobSeat, call: u32) {
+        kept.push(Telling::Before { call }, seat);
+        let job = seat.job();
         if let Some(calls) = self.calls.get(job as usize) {
             calls.before.fetch_add(1, Ordering::SeqCst);
         }
@@ -119,8 +130,9 @@ impl<'a, R: Clock> Pacer for Ordered<'a, R> {
         }
     }
 
-    fn after(&self, job: u32, _call: u32) {
-        if let Some(calls) = self.calls.get(job as usize) {
+    fn after(&self, kept: &mut Tellings, seat: &JobSeat, call: u32) {
+        kept.push(Telling::After { call }, seat);
+        if let Some(calls) = self.calls.get(seat.job() as usize) {
             calls.after.fetch_add(1, Ordering::SeqCst);
         }
     }

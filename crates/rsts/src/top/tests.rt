@@ -7,9 +7,10 @@ use super::*;
 use crate::streams::INPUT_LIMIT;
 use crate::top::calls::*;
 use crate::top::pacing::{Ordered, were_held};
-use rsts_io::{IdlePacer, MemorySink, MemorySource, PlainSink, PlainSource};
+use rsts_io::{MemorySink, MemorySource, PlainSink, PlainSource};
 use std::test::Fail;
 use std::time::Clock;
+use terminal_runner::IdlePacer;
 
 const NO_KEYS: &[u8] = b"RSTS-DECK 1\nDISK 8\nACCOUNT 100,5 DEMO 100\nTERMINAL T1\nEND\n";
 
