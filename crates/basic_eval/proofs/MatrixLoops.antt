@@ -11,12 +11,12 @@ use Rattle.basic_tree.specs.declared.names.Name.{Name}
 use Rattle.basic_tree.specs.declared.parts.Separator.{Separator}
 use Rattle.basic_tree.specs.declared.parts.Separator.TheVariants.{Comma, Semicolon}
 use Rattle.basic_matrix.specs.MatrixActs.{row_numbers}
-use Rattle.job_model.specs.Act.{Gives, Breaks, ◌then◌}
+use Rattle.job_model.specs.Act.{Gives, ◌then◌}
 use Rattle.program_model.specs.Job.{Job}
 use Rattle.program_model.specs.MatrixStatements.{one_by_one, behind_number, numbers_written, row_ended, row_written, rows_written}
 use Rattle.program_model.specs.Printing.{written}
 use Rattle.polish_code.specs.Walk.{Spot, Walked}
-use Rattle.basic_eval.specs.Acting.{Acts, break_of}
+use Rattle.basic_eval.specs.Acting.{Acts}
 use Rattle.basic_eval.specs.declared.exits.Exit.{Exit}
 
 module _ {A : Type 0} (act : A → Job Spot → Walked (Unit {0})) (all : List A) (k : ℕ) (d : A) (j next : Job Spot) (whole : Walked (Unit {0})) (h : k < length all) (left : one_by_one act (drop k all) j ≡ whole) where

@@ -6,7 +6,9 @@
 //! that items leave for later ones. `Running::step` carries the promise: the new stack and the new
 //! state are those that the item's act gives, or breaks with; where memory runs out nothing is told
 //! of them. Where a program goes no further the state has the reason, so that what an item leads to
-//! is given back without memory. It stands on `polish_code`, which has the items and their acts.
+//! is given back without memory. `Running::act_jointly` does items that stand behind one another as
+//! one act, and reads constants and variables where they stand. It stands on `polish_code`, which has
+//! the items and their acts.
 #![tactic(auto)]
 
 mod asking;
@@ -19,6 +21,7 @@ mod functions;
 mod gosub;
 mod input;
 mod joints;
+mod lending;
 mod loops;
 mod matrices;
 mod numbers;
@@ -38,8 +41,9 @@ mod variables;
 pub use exits::{Exit, Move};
 pub use job_storage::Storage;
 pub use joints::Joint;
+pub use lending::{Leaf, Leaves};
 pub use spots::Spot;
 pub use stack::Stack;
 pub use state::Running;
-pub use step::{is_ask, is_call};
+pub use step::{is_ask, is_call, is_sys};
 pub use variables::exit_at;

@@ -185,7 +185,7 @@ pub fn is_ask(item: &Item) -> bool
 }
 
 /// Whether a function asks the monitor.
-fn is_sys(function: Function) -> bool
+pub fn is_sys(function: Function) -> bool
     ensures { result ≡ is_sys function }
 {
     match function {

@@ -32,6 +32,10 @@ const FIELDS: Talk = (
         ),
         ("RSET B$=C$ : PRINT A$", "CDEFABCDEF\nReady\n"),
         (
+            "D$=B$ : PRINT B$+C$;LEN(C$);B$<C$;MID(A$,2%,3%);D$",
+            "CDEFABCDEF 6  0 DEFCDEF\nReady\n",
+        ),
+        (
             "B$='OWN' : LSET B$='12345' : PRINT B$;A$",
             "123CDEFABCDEF\nReady\n",
         ),

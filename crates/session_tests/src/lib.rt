@@ -12,6 +12,8 @@ mod channel_talks;
 #[cfg(test)]
 mod files;
 #[cfg(test)]
+mod leaves;
+#[cfg(test)]
 mod lines;
 #[cfg(test)]
 mod matrices;

@@ -1,0 +1,50 @@
+//! Constants and variables that operators, relations, functions and stores take.
+
+use crate::talks::{Row, expect_of_lines};
+use std::test::Fail;
+
+static LEAVES: [Row; 15] = [
+    ("10 A$='AB' : A$=A$+'X' : PRINT A$;LEN(A$);ASCII(A$)", ""),
+    (
+        "20 B$=MID(A$,2%,2%) : PRINT B$;'/';LEFT(A$,1%);RIGHT(A$,2%);INSTR(1%,A$,B$);INSTR(1%,'AXBX',B$)",
+        "",
+    ),
+    (
+        "30 PRINT A$<B$;'BX  '=B$;B$=='BX  ';A$+B$>B$+A$;A$+B$=='ABXBX';VAL('12')",
+        "",
+    ),
+    (
+        "40 A%=5% : B%=A%-7% : PRINT B%;A%*B%;A%/2%;A%<B%;A%-B%-7%>=0%;ABS%(B%);32767%+1%",
+        "",
+    ),
+    ("50 C$=B$ : B$='' : D%=A% : A%=0% : PRINT C$;B$;D%;A%", ""),
+    ("60 ON ERROR GOTO 90", ""),
+    ("70 PRINT 'A'; : D%=D%/A%", ""),
+    ("80 PRINT 'B'; : D%=D%*2%/A%", ""),
+    (
+        "90 PRINT ERR;ERL;D%; : IF ERL=70% THEN RESUME 80 ELSE RESUME 100",
+        "",
+    ),
+    ("100 T$=SPACE$(32767%) : PRINT LEN(T$) : T$=T$+'X'", ""),
+    (
+        "RUNNH",
+        "ABX 3  65 \nBX/ABX 2  3 \n-1 -1  0  0 -1  12 \n-2 -10  2  0 -1  2 -32768 \nBX 5  0 \n\
+         A 61  70  5 B 61  80  5  32767 \n?String too long at line 100\nReady\n",
+    ),
+    (
+        "PRINT LEN(T$);INSTR(32767%,T$,' ')",
+        " 32767  32767 \nReady\n",
+    ),
+    ("PRINT LEN('A'+C$+T$)", "?String too long\nReady\n"),
+    (
+        "PRINT LEN(XLATE('ABC',T$));LEN(RIGHT(T$,32767%))",
+        " 3  1 \nReady\n",
+    ),
+    ("PRINT T$==T$;T$<>' ';T$>C$", "-1  0  0 \nReady\n"),
+];
+
+/// Their values are those that they have one by one, and so are what faults and what halts.
+#[test]
+fn leaves_are_taken_where_they_stand(rt: HostRuntime) -> Result<(), Fail> {
+    expect_of_lines(rt.alloc(), &LEAVES)
+}
