@@ -1,10 +1,13 @@
 -- The text of a program and its file, worked out.
-use Rattle.std.proofs.Common.{◌≡◌, [], ◌∷◌, Some, None, refl}
+use Rattle.std.proofs.Common.{◌≡◌, ℕ, [], ◌∷◌, map, Some, None, refl}
 use Rattle.std.specs.Prelude.{codes}
 use Rattle.std.specs.Fmt.{digits}
 use Rattle.basic_tree.specs.ProgramLines.{Lines, line, stored, removed, within, without, listing}
 use Rattle.basic_tree.specs.FileLines.{file_text, file_lines}
 use Rattle.basic_tree.specs.LineNumbers.{digits_of, number_of, rest_of}
+use Rattle.line_editor.specs.declared.buffer.Mark.{Mark}
+use Rattle.line_editor.specs.Marks.{marks_of, moved}
+use Rattle.line_editor.specs.Marked.{line_marked}
 
 abbrev some : Lines
 some = stored 5 (codes " STOP") (stored 20 (codes " END") (stored 100 [] []))
@@ -39,6 +42,23 @@ empty_range = refl
 as_listed : listing some ≡ codes "5 STOP\r\n20 END\r\n100\r\n"
 unfolding digits
 as_listed = refl
+
+-- THE BUFFER
+
+abbrev mark : ℕ → ℕ → ℕ → Mark
+mark number begins count = record { number = number; begins = begins; count = count }
+
+-- where the text behind each number begins, and how long it is
+where_they_stand : marks_of 0 some ≡ mark 5 1 5 ∷ mark 20 10 4 ∷ mark 100 19 0 ∷ []
+unfolding digits
+where_they_stand = refl
+
+as_marked : map (line_marked (codes "5 STOP\r\n20 END\r\n100\r\n")) (mark 5 1 5 ∷ mark 20 10 4 ∷ mark 100 19 0 ∷ []) ≡ some
+as_marked = refl
+
+-- with 6 bytes out and 2 in before it
+behind_a_change : moved 6 2 (mark 20 10 4) ≡ mark 20 6 4
+behind_a_change = refl
 
 -- FILES
 

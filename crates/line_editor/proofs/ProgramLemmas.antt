@@ -1,73 +1,88 @@
 -- What stays a program's text when a line is stored, and when lines are deleted.
-use Rattle.std.proofs.Common.{◌≡◌, ℕ, ◌+◌, ◌<◌, ◌≤◌, ◌⊎◌, inl, inr, Bool, List, length, Option, Some, None, sym, ap, subst, arith}
-use Rattle.std.specs.Prelude.{filter, IsSome, if◌then◌else◌, is_some}
-use Rattle.std.specs.BTreeMap.{BTreeMap, IsOrdered, insert_entry, is_at}
+use Rattle.std.proofs.Common.{◌≡◌, ℕ, suc, ◌+◌, ◌≤◌, inl, inr, List, [], ◌∷◌, length, Option, Some, None, refl, sym, ap, subst, ◌∙◌, arith}
+use Rattle.std.specs.Prelude.{filter, not, IsSome, if◌then◌else◌, is_some}
+use Rattle.std.specs.BTreeMap.{BTreeMap, insert_entry, is_at}
 use Rattle.std.specs.List.{AllByRecursion}
-use Rattle.std.specs.Map.{remove_entry}
+use Rattle.std.specs.Map.{lookup, remove_entry}
 use Rattle.std.specs.Ordering.{nat_cmp}
+use Rattle.std.proofs.lemmas.Bool.{false≢true}
 use Rattle.std.proofs.lemmas.List.Sums.{length-filter, count_by-le-length}
 use Rattle.basic_tree.specs.declared.programs.Line.{Line}
 use Rattle.basic_values.specs.declared.limits.TheConstants.{MOST_LINES}
-use Rattle.basic_tree.specs.ProgramLines.{Lines, line}
+use Rattle.basic_tree.specs.ProgramLines.{Lines, line, stored, removed, is_within, without}
 use Rattle.line_editor.specs.Lines.{IsProgramLine, IsProgram, IsTreeOf, AreTrees}
 use Rattle.line_editor.specs.Edits.{HasRoom}
+use Rattle.line_editor.specs.Marks.{IsOrderly}
 use Rattle.line_editor.specs.Seen.{AreWhole}
-use Rattle.line_editor.proofs.MapLemmas.{trees_inserted, each_inserted, trees_removed, each_removed, trees_filtered, each_filtered}
+use Rattle.line_editor.proofs.MapLemmas.{trees_inserted, each_inserted, remove_inserted, trees_removed, trees_filtered, each_filtered, absent}
+use Rattle.line_editor.proofs.PlaceLemmas.{without_one, orderly_without}
 
-room_kept : (o : Option (List ℕ)) (old new : ℕ) → (IsSome o) ⊎ (old < MOST_LINES) → old ≤ MOST_LINES → new ≡ old + (if is_some o then 0 else 1) → new ≤ MOST_LINES
-room_kept (Some x) old new room most is = omega arith
-room_kept None old new (inl there) most is = absurd (cc)
-room_kept None old new (inr few) most is = omega arith
+-- there are as many trees as lines
+as_many : (ls : Lines) (ts : List (ℕ × Line)) → AreTrees ls ts → length ls ≡ length ts
+as_many [] [] beside = refl
+as_many (l ∷ ls) (t ∷ ts) beside = ap suc (as_many ls ts beside.2)
+as_many [] (t ∷ ts) beside = absurd beside
+as_many (l ∷ ls) [] beside = absurd beside
 
-pub room_for : (number : ℕ) (lines : Lines) (o : Option (List ℕ)) (new : ℕ) → o ≡ line number lines → HasRoom number lines → length lines ≤ MOST_LINES → new ≡ length lines + (if is_some o then 0 else 1) → new ≤ MOST_LINES
-room_for number lines o new same room most is =
-    room_kept o (length lines) new (subst (λ (o : Option (List ℕ)). (IsSome o) ⊎ (length lines < MOST_LINES)) (sym same) room) most is
+-- room for a line that has no tree, or has one
+room_kept : (number : ℕ) (lines : Lines) (trees : List (ℕ × Line)) (o : Option Line) (new : ℕ) → AreTrees lines trees → o ≡ lookup (is_at (nat_cmp number)) trees → HasRoom number lines → length lines ≤ MOST_LINES → new ≡ length lines + (if is_some o then 0 else 1) → new ≤ MOST_LINES
+room_kept number lines trees (Some tree) new beside same room most is = omega arith
+room_kept number lines trees None new beside same (inl there) most is =
+    let none : line number lines ≡ None = absent (is_at (nat_cmp number)) lines trees beside (sym same) in
+    absurd (false≢true (subst (λ (o : Option (List ℕ)). IsSome o) none there))
+room_kept number lines trees None new beside same (inr few) most is = omega arith
 
 -- one line more
-pub whole_stored : (rests : BTreeMap ℕ (List ℕ)) (trees : BTreeMap ℕ Line) (rests' : BTreeMap ℕ (List ℕ)) (trees' : BTreeMap ℕ Line) (number : ℕ) (rest : List ℕ) (tree : Line)
-    → AreWhole rests trees → IsProgramLine (number, rest) → IsTreeOf rest tree
-    → rests'.entries ≡ insert_entry nat_cmp rests.entries number rest → trees'.entries ≡ insert_entry nat_cmp trees.entries number tree
-    → IsOrdered nat_cmp rests' → length rests'.entries ≤ MOST_LINES → AreWhole rests' trees'
-whole_stored rests trees rests' trees' number rest tree whole new of made made' ordered few = record {
-  program = record {
-    ordered = ordered;
-    each = subst (λ (lines : Lines). AllByRecursion IsProgramLine lines) (sym made) (each_inserted number rest rests.entries new whole.program.each);
-    few = few;
-  };
-  beside = subst (λ (lines : Lines). AreTrees lines trees'.entries) (sym made) (subst (λ (ts : List (ℕ × Line)). AreTrees (insert_entry nat_cmp rests.entries number rest) ts) (sym made') (trees_inserted number rest tree rests.entries trees.entries of whole.beside));
+pub whole_stored : (lines lines' : Lines) (trees trees' : BTreeMap ℕ Line) (number : ℕ) (rest : List ℕ) (tree : Line) (o : Option Line)
+    → AreWhole lines trees → IsProgramLine (number, rest) → IsTreeOf rest tree → HasRoom number lines → lines' ≡ stored number rest lines → IsOrderly lines'
+    → trees'.entries ≡ insert_entry nat_cmp trees.entries number tree → o ≡ lookup (is_at (nat_cmp number)) trees.entries → length trees'.entries ≡ length trees.entries + (if is_some o then 0 else 1) → AreWhole lines' trees'
+whole_stored lines lines' trees trees' number rest tree o whole new of room made orderly made' old count =
+    let beside : AreTrees lines' trees'.entries = subst (λ (ls : Lines). AreTrees ls trees'.entries) (sym made) (subst (λ (ts : List (ℕ × Line)). AreTrees (stored number rest lines) ts) (sym made') (trees_inserted number rest tree lines trees.entries of whole.beside)) in
+    let counted : length lines' ≡ length lines + (if is_some o then 0 else 1) = as_many lines' trees'.entries beside ∙ count ∙ ap (λ (k : ℕ). k + (if is_some o then 0 else 1)) (sym (as_many lines trees.entries whole.beside)) in
+    record {
+      program = record {
+        ordered = orderly;
+        each = subst (λ (ls : Lines). AllByRecursion IsProgramLine ls) (sym made) (each_inserted number rest lines new whole.program.each);
+        few = room_kept number lines trees.entries o (length lines') whole.beside old room whole.program.few counted;
+      };
+      beside = beside;
+    }
+
+program_without : (lines lines' : Lines) (from to : ℕ) → IsProgram lines → lines' ≡ without from to lines → IsProgram lines'
+program_without lines lines' from to program made = record {
+  ordered = subst (λ (ls : Lines). IsOrderly ls) (sym made) (orderly_without from to lines program.ordered);
+  each = subst (λ (ls : Lines). AllByRecursion IsProgramLine ls) (sym made) (each_filtered IsProgramLine (λ line. not (is_within from to line.0)) lines program.each);
+  few =
+    let p = λ (line : ℕ × List ℕ). not (is_within from to line.0) in
+    let most = program.few in
+    let h : length lines' ≤ MOST_LINES = omega (arith, ap length made, length-filter p lines, count_by-le-length p lines) in
+    h;
 }
 
 -- a line less
-pub whole_removed : (rests : BTreeMap ℕ (List ℕ)) (trees : BTreeMap ℕ Line) (rests' : BTreeMap ℕ (List ℕ)) (trees' : BTreeMap ℕ Line) (number : ℕ)
-    → AreWhole rests trees
-    → rests'.entries ≡ remove_entry (is_at (nat_cmp number)) rests.entries → trees'.entries ≡ remove_entry (is_at (nat_cmp number)) trees.entries
-    → IsOrdered nat_cmp rests' → length rests'.entries ≤ length rests.entries → AreWhole rests' trees'
-whole_removed rests trees rests' trees' number whole made made' ordered fewer = record {
-  program = record {
-    ordered = ordered;
-    each = subst (λ (lines : Lines). AllByRecursion IsProgramLine lines) (sym made) (each_removed (is_at (nat_cmp number)) IsProgramLine rests.entries whole.program.each);
-    few = (let most = whole.program.few in let h : length rests'.entries ≤ MOST_LINES = omega arith in h);
-  };
-  beside = subst (λ (lines : Lines). AreTrees lines trees'.entries) (sym made) (subst (λ (ts : List (ℕ × Line)). AreTrees (remove_entry (is_at (nat_cmp number)) rests.entries) ts) (sym made') (trees_removed (is_at (nat_cmp number)) rests.entries trees.entries whole.beside));
+pub whole_removed : (lines : Lines) (trees : BTreeMap ℕ Line) (lines' : Lines) (trees' : BTreeMap ℕ Line) (number : ℕ)
+    → AreWhole lines trees → lines' ≡ without number number lines → trees'.entries ≡ remove_entry (is_at (nat_cmp number)) trees.entries → AreWhole lines' trees'
+whole_removed lines trees lines' trees' number whole made made' = record {
+  program = program_without lines lines' number number whole.program made;
+  beside = subst (λ (ls : Lines). AreTrees ls trees'.entries) (sym (made ∙ without_one number lines whole.program.ordered)) (subst (λ (ts : List (ℕ × Line)). AreTrees (removed number lines) ts) (sym made') (trees_removed (is_at (nat_cmp number)) lines trees.entries whole.beside));
 }
 
--- the lines that pass
-pub whole_filtered : (rests : BTreeMap ℕ (List ℕ)) (trees : BTreeMap ℕ Line) (rests' : BTreeMap ℕ (List ℕ)) (trees' : BTreeMap ℕ Line) (test : ℕ → Bool)
-    → AreWhole rests trees
-    → rests'.entries ≡ filter (λ line. test line.0) rests.entries → trees'.entries ≡ filter (λ line. test line.0) trees.entries
-    → IsOrdered nat_cmp rests' → AreWhole rests' trees'
-whole_filtered rests trees rests' trees' test whole made made' ordered = record {
-  program = record {
-    ordered = ordered;
-    each = subst (λ (lines : Lines). AllByRecursion IsProgramLine lines) (sym made) (each_filtered IsProgramLine (λ line. test line.0) rests.entries whole.program.each);
-    few = (let most = whole.program.few in let h : length rests'.entries ≤ MOST_LINES = omega (arith, ap length made, length-filter (λ (line : ℕ × List ℕ). test line.0) rests.entries, count_by-le-length (λ (line : ℕ × List ℕ). test line.0) rests.entries) in h);
-  };
-  beside = subst (λ (lines : Lines). AreTrees lines trees'.entries) (sym made) (subst (λ (ts : List (ℕ × Line)). AreTrees (filter (λ line. test line.0) rests.entries) ts) (sym made') (trees_filtered test rests.entries trees.entries whole.beside));
+-- without the lines of a range
+pub whole_without : (lines : Lines) (trees : BTreeMap ℕ Line) (lines' : Lines) (trees' : BTreeMap ℕ Line) (from to : ℕ)
+    → AreWhole lines trees → lines' ≡ without from to lines → trees'.entries ≡ filter (λ line. not (is_within from to line.0)) trees.entries → AreWhole lines' trees'
+whole_without lines trees lines' trees' from to whole made made' = record {
+  program = program_without lines lines' from to whole.program made;
+  beside = subst (λ (ls : Lines). AreTrees ls trees'.entries) (sym made) (subst (λ (ts : List (ℕ × Line)). AreTrees (without from to lines) ts) (sym made') (trees_filtered (λ number. not (is_within from to number)) lines trees.entries whole.beside));
 }
+
+-- a line that was not there is stored and deleted again
+pub taken_back : (number : ℕ) (rest : List ℕ) (lines lines' lines'' : Lines) → line number lines ≡ None → lines' ≡ stored number rest lines → IsOrderly lines' → lines'' ≡ without number number lines' → lines'' ≡ lines
+taken_back number rest lines lines' lines'' none made orderly made' =
+    made' ∙ without_one number lines' orderly ∙ ap (removed number) made ∙ remove_inserted number rest lines none
 
 -- the same lines and trees
-pub whole_same : (rests : BTreeMap ℕ (List ℕ)) (trees : BTreeMap ℕ Line) (rests' : BTreeMap ℕ (List ℕ)) (trees' : BTreeMap ℕ Line) → AreWhole rests trees → rests'.entries ≡ rests.entries → trees'.entries ≡ trees.entries → AreWhole rests' trees'
-whole_same rests trees rests' trees' whole made made' = record {
-  program = subst (λ (lines : Lines). IsProgram lines) (sym made) whole.program;
-  beside = subst (λ (lines : Lines). AreTrees lines trees'.entries) (sym made) (subst (λ (ts : List (ℕ × Line)). AreTrees rests.entries ts) (sym made') whole.beside);
+pub whole_same : (lines : Lines) (trees : BTreeMap ℕ Line) (lines' : Lines) (trees' : BTreeMap ℕ Line) → AreWhole lines trees → lines' ≡ lines → trees'.entries ≡ trees.entries → AreWhole lines' trees'
+whole_same lines trees lines' trees' whole made made' = record {
+  program = subst (λ (ls : Lines). IsProgram ls) (sym made) whole.program;
+  beside = subst (λ (ls : Lines). AreTrees ls trees'.entries) (sym made) (subst (λ (ts : List (ℕ × Line)). AreTrees lines ts) (sym made') whole.beside);
 }

@@ -28,8 +28,7 @@ impl ProgramText {
         // It is read again as the same lines, where none of them has a zero byte or an LF.
         ensures again { IfOk result (λ pages. ArePlain self.now → IsFileOf pages.items self.now) }
     {
-        let bytes = self.list(1, MOST_NUMBER)?;
-        pages_of(self.alloc, bytes.as_slice())
+        pages_of(self.alloc, self.list(1, MOST_NUMBER))
     }
 
     /// Reads a file. Zero bytes are dropped, a line ends at LF or at the end, one CR before the LF

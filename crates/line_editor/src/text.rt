@@ -1,19 +1,18 @@
 //! The lines of a program and their trees.
 
-ghost use Rattle.std.specs.Prelude.{◌≡◌, ◌≤◌, ◌++◌, [], length, filter, not, IfOk, OnOk, OnErr, IsTrue, ◌↔◌};
-ghost use Rattle.std.specs.BTreeMap.{IsOrdered};
+ghost use Rattle.std.specs.Prelude.{◌≡◌, ◌≤◌, [], length, filter, not, MatchOption, OnOk, OnErr, IsTrue, ◌↔◌};
 ghost use Rattle.std.specs.Fmt.{decimal};
-ghost use Rattle.std.specs.Ordering.{nat_cmp};
 ghost use Rattle.line_editor.specs.Edits.{Edits, Keeps, HasRoom, Deletes};
-ghost use Rattle.basic_tree.specs.ProgramLines.{stored, removed, is_within, within, without, listed, listing};
+ghost use Rattle.basic_tree.specs.ProgramLines.{line, stored, is_within, within, without, listing};
 ghost use Rattle.line_editor.specs.Lines.{IsNumber, IsProgram, IsProgramLine, IsTreeOf, AreTrees};
 ghost use Rattle.line_editor.specs.Seen.{AreWhole};
 ghost use Rattle.line_editor.specs.Judging.{IsEditVerdict};
 
+use crate::buffer::LineBuffer;
 use basic_line::read_line;
 use basic_tree::{Line, Program, Refusal};
 use basic_values::limits::{MOST_LINES, MOST_NUMBER};
-use basic_values::{LINE_LENGTH, NoMemory, Text2, Trouble};
+use basic_values::{LINE_LENGTH, NoMemory, Trouble};
 use itoa::Buffer;
 use std::alloc::Global;
 use std::collections::BTreeMap;
@@ -32,11 +31,11 @@ pub enum EditRefusal {
     TooMany,
 }
 
-/// The text of a program: what stands behind the number of each line, and the trees of the lines.
+/// The text of a program: its listing in one buffer, and the trees of the lines.
 #[derive(Drop)]
 pub struct ProgramText {
     pub(crate) alloc: Global,
-    pub(crate) rests: BTreeMap<u16, Text2>,
+    pub(crate) buffer: LineBuffer,
     pub(crate) program: Program,
 }
 
@@ -59,7 +58,7 @@ impl ProgramText {
     {
         ProgramText {
             alloc,
-            rests: BTreeMap::new(alloc),
+            buffer: LineBuffer::new(alloc),
             program: Program {
                 lines: BTreeMap::new(alloc),
             },
@@ -82,22 +81,26 @@ impl ProgramText {
     pub fn delete(&mut self, from: u16, to: u16)
         ensures { self.new ≡ without from to self.old }
     {
-        delete_from(&mut self.rests, from, to);
-        delete_from(&mut self.program.lines, from, to);
+        self.buffer.remove(from, to);
+        delete_trees(&mut self.program.lines, from, to);
     }
 
     /// The lines from one number to another as they are listed: the number, the bytes behind it, CR
-    /// and LF.
-    pub fn list(&self, from: u16, to: u16) -> Result<Text2, NoMemory>
-        ensures { IfOk result (λ bytes. bytes ≡ listing (within from to self.now)) }
+    /// and LF. They are lent, and it takes no memory.
+    pub fn list(&self, from: u16, to: u16) -> &[u8]
+        ensures { result.now ≡ listing (within from to self.entry.now) }
     {
-        let mut bytes = Vec::new(self.alloc);
-        for (number, rest) in self.rests.iter() {
-            if is_within(from, to, *number) {
-                append_line(&mut bytes, *number, rest.as_slice())?;
-            }
-        }
-        Ok(Text2::from_vec(bytes))
+        self.buffer.list(from, to)
+    }
+
+    /// The bytes behind a number, which are lent; none where the line is not there. It takes no
+    /// memory.
+    pub fn line(&self, number: u16) -> Option<&[u8]>
+        ensures { MatchOption result
+            (line number self.entry.now ≡ None)
+            (λ rest. line number self.entry.now ≡ Some rest.now) }
+    {
+        self.buffer.line(number)
     }
 
     /// The trees of the lines, by their numbers.
@@ -116,8 +119,14 @@ impl ProgramText {
         if !self.has_room(number) {
             return Err(Trouble::Refused(EditRefusal::TooMany));
         }
-        let rest = copy_of(self.alloc, rest)?;
-        store(&mut self.rests, &mut self.program.lines, number, rest, tree)?;
+        store(
+            self.alloc,
+            &mut self.buffer,
+            &mut self.program.lines,
+            number,
+            rest,
+            tree,
+        )?;
         Ok(())
     }
 
@@ -127,7 +136,7 @@ impl ProgramText {
         if !is_number(number) {
             return Err(Trouble::Refused(EditRefusal::Number));
         }
-        self.rests.remove(&number);
+        self.buffer.remove(number, number);
         self.program.lines.remove(&number);
         Ok(())
     }
@@ -135,49 +144,42 @@ impl ProgramText {
     fn has_room(&self, number: u16) -> bool
         ensures { IsTrue result ↔ HasRoom number self.now }
     {
-        self.rests.contains_key(&number) || self.rests.len() < MOST_LINES
+        self.buffer.line(number).is_some() || self.buffer.len() < MOST_LINES
     }
-}
-
-fn copy_of(alloc: Global, bytes: &[u8]) -> Result<Text2, NoMemory>
-    ensures { IfOk result (λ copy. copy ≡ bytes.now) }
-{
-    Ok(Text2::from_vec(Vec::from_slice(alloc, bytes)?))
 }
 
 /// Stores a line and its tree, or neither where memory runs out.
 fn store(
-    rests: &mut BTreeMap<u16, Text2>,
+    alloc: Global,
+    buffer: &mut LineBuffer,
     trees: &mut BTreeMap<u16, Line>,
     number: u16,
-    rest: Text2,
+    rest: &[u8],
     tree: Line,
 ) -> Result<(), NoMemory>
-    requires whole { AreWhole rests.old trees.old }
-    requires line { IsProgramLine (number, rest) }
-    requires tree { IsTreeOf rest tree }
-    requires room { HasRoom number rests.old.entries }
-    ensures whole { AreWhole rests.new trees.new }
-    ensures ok { OnOk result (rests.new.entries ≡ stored number rest rests.old.entries) }
-    ensures memory { OnErr result (rests.new.entries ≡ rests.old.entries) }
+    requires whole { AreWhole buffer.old trees.old }
+    requires line { IsProgramLine (number, rest.now) }
+    requires tree { IsTreeOf rest.now tree }
+    requires room { HasRoom number buffer.old }
+    ensures whole { AreWhole buffer.new trees.new }
+    ensures ok { OnOk result (buffer.new ≡ stored number rest.now buffer.old) }
+    ensures memory { OnErr result (buffer.new ≡ buffer.old) }
 {
-    rests.insert(number, rest)?;
+    buffer.store(alloc, number, rest)?;
     match trees.insert(number, tree) {
         Ok(_) => Ok(()),
         Err(_) => {
-            rests.remove(&number);
+            buffer.remove(number, number);
             Err(NoMemory)
         }
     }
 }
 
-/// Deletes what is there from one number to another.
-fn delete_from<T: Drop>(lines: &mut BTreeMap<u16, T>, from: u16, to: u16)
-    ensures entries { lines.new.entries
-        ≡ filter (λ line. not (is_within from to line.0)) lines.old.entries }
-    ensures ordered { IsOrdered nat_cmp lines.new }
+/// Deletes the trees from one number to another.
+fn delete_trees(trees: &mut BTreeMap<u16, Line>, from: u16, to: u16)
+    ensures { trees.new.entries ≡ filter (λ line. not (is_within from to line.0)) trees.old.entries }
 {
-    lines.retain(|number, _| !is_within(from, to, *number));
+    trees.retain(|number, _| !is_within(from, to, *number));
 }
 
 /// Whether the number is none before or behind these.
@@ -217,14 +219,4 @@ fn digits_of(number: u16) -> usize
     ensures few { result ≤ 5 }
 {
     Buffer::new().format(number).len()
-}
-
-/// Lists a line behind other bytes.
-fn append_line(bytes: &mut Vec<u8>, number: u16, rest: &[u8]) -> Result<(), NoMemory>
-    ensures { OnOk result (bytes.new.items ≡ bytes.old.items ++ listed (number, rest.now)) }
-{
-    bytes.extend_from_slice(Buffer::new().format(number).as_bytes())?;
-    bytes.extend_from_slice(rest)?;
-    bytes.extend_from_slice(b"\r\n")?;
-    Ok(())
 }

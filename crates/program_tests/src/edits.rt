@@ -36,8 +36,17 @@ fn refused(refusal: EditRefusal) -> Put {
     }
 }
 
-fn lists(text: &ProgramText, from: u16, to: u16, listing: &[u8]) -> Result<bool, Fail> {
-    Ok(text.list(from, to)?.as_slice() == listing)
+fn lists(text: &ProgramText, from: u16, to: u16, listing: &[u8]) -> bool {
+    text.list(from, to) == listing
+}
+
+/// Whether a line is lent as these bytes behind its number, or is not there.
+fn lends(text: &ProgramText, number: u16, rest: Option<&[u8]>) -> bool {
+    match (text.line(number), rest) {
+        (Some(lent), Some(rest)) => lent == rest,
+        (None, None) => true,
+        _ => false,
+    }
 }
 
 /// The number of a line, the rest of it, and the listing when it has been put.
@@ -51,13 +60,17 @@ static STORED: [(u16, &[u8], &[u8]); 7] = [
     (1, b"!", b"1!\r\n20 STOP\r\n32767  \r\n"),
 ];
 
-fn first_wrong_store(text: &mut ProgramText) -> Result<Option<usize>, Fail> {
-    for (place, (number, rest, listing)) in STORED.iter().enumerate() {
-        if line_put(text, *number, rest) != Put::Done || !lists(text, 1, 32767, listing)? {
-            return Ok(Some(place));
+fn first_wrong_store(text: &mut ProgramText, rows: &[(u16, &[u8], &[u8])]) -> Option<usize> {
+    for (place, (number, rest, listing)) in rows.iter().enumerate() {
+        let wanted = if rest.is_empty() { None } else { Some(*rest) };
+        if line_put(text, *number, rest) != Put::Done
+            || !lists(text, 1, 32767, listing)
+            || !lends(text, *number, wanted)
+        {
+            return Some(place);
         }
     }
-    Ok(None)
+    None
 }
 
 /// How many lines a program has.
@@ -68,7 +81,7 @@ fn count(text: &ProgramText) -> usize {
 #[test]
 fn lines_are_stored_in_order(rt: HostRuntime) -> Result<(), Fail> {
     let mut text = ProgramText::new(rt.alloc());
-    let wrong = first_wrong_store(&mut text)?;
+    let wrong = first_wrong_store(&mut text, &STORED);
     assert_eq!(rt; wrong, None);
     assert_eq!(rt; count(&text), 3);
     Ok(())
@@ -103,9 +116,9 @@ fn is_listed_and_deleted(
     left: &[u8],
 ) -> Result<bool, Fail> {
     let mut text = three_lines(alloc).ok_or("a line is refused")?;
-    let is_listed = lists(&text, from, to, listed)?;
+    let is_listed = lists(&text, from, to, listed);
     text.delete(from, to);
-    Ok(is_listed && lists(&text, 0, 65535, left)?)
+    Ok(is_listed && lists(&text, 0, 65535, left))
 }
 
 fn first_wrong_range(alloc: Global) -> Result<Option<usize>, Fail> {
@@ -120,6 +133,54 @@ fn first_wrong_range(alloc: Global) -> Result<Option<usize>, Fail> {
 #[test]
 fn ranges_are_listed_and_deleted(rt: HostRuntime) -> Result<(), Fail> {
     let wrong = first_wrong_range(rt.alloc())?;
+    assert_eq!(rt; wrong, None);
+    Ok(())
+}
+
+/// Lines that grow, shrink and go, at both ends of three lines and between them.
+static CHANGED: [(u16, &[u8], &[u8]); 11] = [
+    (20, b" PRINT 2%", b"10!\r\n20 PRINT 2%\r\n30!\r\n"),
+    (10, b" A%=1%", b"10 A%=1%\r\n20 PRINT 2%\r\n30!\r\n"),
+    (30, b" END", b"10 A%=1%\r\n20 PRINT 2%\r\n30 END\r\n"),
+    (20, b"!!", b"10 A%=1%\r\n20!!\r\n30 END\r\n"),
+    (10, b" ", b"10 \r\n20!!\r\n30 END\r\n"),
+    (30, b"!", b"10 \r\n20!!\r\n30!\r\n"),
+    (5, b" STOP", b"5 STOP\r\n10 \r\n20!!\r\n30!\r\n"),
+    (20, b"", b"5 STOP\r\n10 \r\n30!\r\n"),
+    (30, b"", b"5 STOP\r\n10 \r\n"),
+    (5, b"", b"10 \r\n"),
+    (10, b"", b""),
+];
+
+#[test]
+fn lines_grow_and_shrink_in_place(rt: HostRuntime) -> Result<(), Fail> {
+    let mut text = three_lines(rt.alloc()).ok_or("a line is refused")?;
+    let wrong = first_wrong_store(&mut text, &CHANGED);
+    assert_eq!(rt; wrong, None);
+    Ok(())
+}
+
+/// A number, and what is lent of its line among three.
+static LENT: [(u16, Option<&[u8]>); 8] = [
+    (10, Some(b"!")),
+    (20, Some(b"!")),
+    (30, Some(b"!")),
+    (0, None),
+    (9, None),
+    (21, None),
+    (31, None),
+    (65535, None),
+];
+
+fn first_wrong_line(text: &ProgramText) -> Option<usize> {
+    LENT.iter()
+        .position(|(number, rest)| !lends(text, *number, *rest))
+}
+
+#[test]
+fn a_line_is_lent_where_it_is_there(rt: HostRuntime) -> Result<(), Fail> {
+    let text = three_lines(rt.alloc()).ok_or("a line is refused")?;
+    let wrong = first_wrong_line(&text);
     assert_eq!(rt; wrong, None);
     Ok(())
 }
@@ -143,7 +204,7 @@ fn is_refused(alloc: Global, number: u16, rest: &[u8], answer: Put) -> Result<bo
     let mut text = ProgramText::new(alloc);
     let is_put = line_put(&mut text, 10, b" STOP") == Put::Done;
     let is_refused = line_put(&mut text, number, rest) == answer;
-    Ok(is_put && is_refused && lists(&text, 1, 32767, b"10 STOP\r\n")?)
+    Ok(is_put && is_refused && lists(&text, 1, 32767, b"10 STOP\r\n"))
 }
 
 fn first_wrong_refusal(alloc: Global) -> Result<Option<usize>, Fail> {
@@ -195,6 +256,50 @@ fn full_text(alloc: Global) -> Option<ProgramText> {
         }
     }
     Some(text)
+}
+
+/// The same lines, entered in falling order.
+fn fallen_text(alloc: Global) -> Option<ProgramText> {
+    let mut text = ProgramText::new(alloc);
+    for number in (1..=1000).rev() {
+        if line_put(&mut text, number, b"!") != Put::Done {
+            return None;
+        }
+    }
+    Some(text)
+}
+
+#[test]
+fn lines_may_be_entered_in_falling_order(rt: HostRuntime) -> Result<(), Fail> {
+    let risen = full_text(rt.alloc()).ok_or("a line is refused")?;
+    let fallen = fallen_text(rt.alloc()).ok_or("a line is refused")?;
+    assert!(rt; lists(&fallen, 1, 32767, risen.list(1, 32767)));
+    assert!(rt; lists(&fallen, 499, 501, b"499!\r\n500!\r\n501!\r\n"));
+    assert_eq!(rt; count(&fallen), 1000);
+    Ok(())
+}
+
+/// 1,000 lines of 255 bytes with their numbers, from 1000 on.
+fn long_text(alloc: Global, rest: &[u8]) -> Option<ProgramText> {
+    let mut text = ProgramText::new(alloc);
+    for number in 1000..2000 {
+        if line_put(&mut text, number, rest) != Put::Done {
+            return None;
+        }
+    }
+    Some(text)
+}
+
+#[test]
+fn long_lines_are_listed_whole(rt: HostRuntime) -> Result<(), Fail> {
+    let rest = vec![in rt.alloc(); b'!'; 251]?;
+    let text = long_text(rt.alloc(), &rest).ok_or("a line is refused")?;
+    assert_eq!(rt; text.list(1, 32767).len(), 257_000);
+    assert_eq!(rt; text.list(1500, 1500).len(), 257);
+    assert!(rt; lends(&text, 1000, Some(&rest)));
+    assert!(rt; lends(&text, 1999, Some(&rest)));
+    assert!(rt; lends(&text, 2000, None));
+    Ok(())
 }
 
 /// Lines that are put into a text of 1,000 lines one after another, and their answers.

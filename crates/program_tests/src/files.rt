@@ -52,7 +52,7 @@ fn listing(alloc: Global, pages: &[Page]) -> Result<Option<Vec<u8>>, Fail> {
 }
 
 fn listed(alloc: Global, text: &ProgramText) -> Result<Vec<u8>, Fail> {
-    Ok(text.list(1, 32767)?.as_slice().to_vec(alloc)?)
+    Ok(text.list(1, 32767).to_vec(alloc)?)
 }
 
 fn is_same(listing: &Option<Vec<u8>>, wanted: &Option<&[u8]>) -> bool {

@@ -13,7 +13,7 @@ ok_map (Err e) f p = tt
 pub returns-clause-pages : goal.returns-clause-pages
 returns-clause-pages c =
     let program : IsProgram c.args.self.now = subst (λ (lines : Lines). IsProgram lines) c.self.view_is c.self.invariant.program in
-    let bytes : c.as_slice.result.now ≡ listing c.args.self.now = c.as_slice.ensures ∙ c.in_ok-bytes.ensures ∙ ap listing (within_all c.args.self.now program.each) in
+    let bytes : c.list.result.now ≡ listing c.args.self.now = c.list.ensures ∙ ap listing (within_all c.args.self.now program.each) in
     subst (λ (b : List ℕ). IfOk c.pages_of.result (λ pages. IsPaged b pages.items)) bytes c.pages_of.ensures
 
 pub returns-clause-again : goal.returns-clause-again

@@ -1,0 +1,228 @@
+//! The lines of a program in one buffer, as they are listed.
+
+ghost use Rattle.std.specs.Prelude.{◌≡◌, ◌+◌, ◌<◌, ◌≤◌, [], ◌∷◌, ◌++◌, length, take, drop, map, MatchOption, IfOk, OnOk, OnErr, vec_len, vec_capacity};
+ghost use Rattle.std.specs.List.{AllWithin, remove_range, splice};
+ghost use Rattle.basic_tree.specs.ProgramLines.{line, stored, within, without, listed, listing};
+ghost use Rattle.line_editor.specs.Marks.{moved, CanMove, IsOrderly, IsPlaced};
+
+use basic_values::NoMemory;
+use itoa::Buffer;
+use std::alloc::Global;
+use std::marker::Model;
+
+/// How many bytes a listed line has behind its text: CR and LF.
+const LINE_END: usize = 2;
+
+/// Where a line stands in the buffer.
+#[derive(Clone, Copy)]
+pub(crate) struct Mark {
+    pub(crate) number: u16,
+    /// Where the text behind the number begins.
+    pub(crate) begins: usize,
+    /// How many bytes the text has.
+    pub(crate) count: usize,
+}
+
+/// The lines from one number to another: the place of the first, and the place behind the last.
+#[derive(Clone, Copy)]
+pub(crate) struct Places {
+    pub(crate) first: usize,
+    pub(crate) behind: usize,
+}
+
+/// The listing of all lines without a gap, and beside it where each of them stands, in the order of
+/// their numbers.
+#[derive(Drop)]
+pub(crate) struct LineBuffer {
+    bytes: Vec<u8>,
+    marks: Vec<Mark>,
+}
+
+impl Model for LineBuffer {
+    ghost use Rattle.basic_tree.specs.ProgramLines.{Lines};
+
+    ghost Value = { Lines };
+
+    ghost use Rattle.line_editor.specs.Marked.{lines_marked, IsMarked};
+
+    ghost view = { lines_marked };
+
+    ghost invariant = { IsMarked };
+}
+
+impl LineBuffer {
+    /// A buffer without a line. It takes no memory.
+    pub(crate) fn new(alloc: Global) -> LineBuffer
+        ensures { result ≡ [] }
+    {
+        LineBuffer {
+            bytes: Vec::new(alloc),
+            marks: Vec::new(alloc),
+        }
+    }
+
+    /// How many lines there are.
+    pub(crate) fn len(&self) -> usize
+        ensures { result ≡ length self.now }
+    {
+        self.marks.len()
+    }
+
+    /// The lines from one number to another as they are listed.
+    pub(crate) fn list(&self, from: u16, to: u16) -> &[u8]
+        ensures { result.now ≡ listing (within from to self.entry.now) }
+    {
+        let places = self.places(from, to);
+        let start = self.start_of(places.first);
+        let end = self.start_of(places.behind);
+        &self.bytes.as_slice()[start..end]
+    }
+
+    /// What stands behind a number, where the line is there.
+    pub(crate) fn line(&self, number: u16) -> Option<&[u8]>
+        ensures { MatchOption result
+            (line number self.entry.now ≡ None)
+            (λ rest. line number self.entry.now ≡ Some rest.now) }
+    {
+        let places = self.places(number, number);
+        if places.first == places.behind {
+            return None;
+        }
+        let mark = self.marks[places.first];
+        let begins = mark.begins;
+        Some(&self.bytes.as_slice()[begins..begins + mark.count])
+    }
+
+    /// Stores a line, in the place of the one with its number. What stands behind moves once.
+    pub(crate) fn store(&mut self, alloc: Global, number: u16, rest: &[u8]) -> Result<(), NoMemory>
+        ensures ok { OnOk result (self.new ≡ stored number rest.now self.old) }
+        ensures memory { OnErr result (self.new ≡ self.old) }
+        ensures orderly { OnOk result (IsOrderly self.new) }
+    {
+        let listed = listed_line(alloc, number, rest)?;
+        let added = listed.len();
+        let places = self.places(number, number);
+        let start = self.start_of(places.first);
+        let end = self.start_of(places.behind);
+        self.marks.reserve(1)?;
+        put_bytes(&mut self.bytes, start, end, listed)?;
+        let count = rest.len();
+        let mark = Mark {
+            number,
+            begins: start + added - LINE_END - count,
+            count,
+        };
+        put_mark(&mut self.marks, places, mark);
+        shift(&mut self.marks, places.first + 1, end - start, added);
+        Ok(())
+    }
+
+    /// Deletes the lines from one number to another.
+    pub(crate) fn remove(&mut self, from: u16, to: u16)
+        ensures { self.new ≡ without from to self.old }
+    {
+        let places = self.places(from, to);
+        let start = self.start_of(places.first);
+        let end = self.start_of(places.behind);
+        take_out(&mut self.bytes, start, end);
+        take_out(&mut self.marks, places.first, places.behind);
+        shift(&mut self.marks, places.first, end - start, 0);
+    }
+
+    /// Where the lines from one number to another stand.
+    fn places(&self, from: u16, to: u16) -> Places
+        ensures { IsPlaced from to self.now result }
+    {
+        let first = self.place_of(u32::from(from));
+        let behind = self.place_of(u32::from(to) + 1);
+        Places {
+            first,
+            behind: behind.max(first),
+        }
+    }
+
+    /// How many lines have a number below this.
+    fn place_of(&self, number: u32) -> usize
+        ensures within { result ≤ length self.now }
+        ensures below { AllWithin (λ line. line.0 < number) self.now 0 result }
+        ensures others { AllWithin (λ line. number ≤ line.0) self.now result (length self.now) }
+    {
+        self.marks
+            .as_slice()
+            .partition_point(|mark| u32::from(mark.number) < number)
+    }
+
+    /// Where a line begins, or where the last one ends.
+    fn start_of(&self, place: usize) -> usize
+        requires { place ≤ length self.now }
+        ensures { result ≡ length (listing (take place self.now)) }
+    {
+        if place == 0 {
+            return 0;
+        }
+        let before = self.marks[place - 1];
+        before.begins + before.count + LINE_END
+    }
+}
+
+/// Takes out what stands from one place to another.
+fn take_out<T: Drop>(items: &mut Vec<T>, start: usize, end: usize)
+    requires rises { start ≤ end }
+    requires within { end ≤ length items.old.items }
+    ensures { items.new.items ≡ remove_range items.old.items start end }
+{
+    items.drain(start..end);
+}
+
+/// Puts a line in the place of what stands from one byte to another.
+fn put_bytes(bytes: &mut Vec<u8>, start: usize, end: usize, line: Vec<u8>) -> Result<(), NoMemory>
+    requires rises { start ≤ end }
+    requires within { end ≤ length bytes.old.items }
+    ensures ok { OnOk result (bytes.new.items ≡ splice bytes.old.items start end line.items) }
+    ensures memory { OnErr result (bytes.new.items ≡ bytes.old.items) }
+{
+    bytes.splice(start..end, line)?;
+    Ok(())
+}
+
+/// Puts a mark in the place of the one that is there, or between the others, in room that is there.
+fn put_mark(marks: &mut Vec<Mark>, places: Places, mark: Mark)
+    requires rises { places.first ≤ places.behind }
+    requires one { places.behind ≤ places.first + 1 }
+    requires within { places.behind ≤ length marks.old.items }
+    requires room { vec_len marks.old < vec_capacity marks.old }
+    ensures { marks.new.items ≡ splice marks.old.items places.first places.behind (mark ∷ []) }
+{
+    if places.first < places.behind {
+        marks[places.first] = mark;
+    } else {
+        let _ = marks.insert(places.first, mark);
+    }
+}
+
+/// Moves the marks from this place on, as the bytes behind a change have moved.
+fn shift(marks: &mut Vec<Mark>, from: usize, removed: usize, added: usize)
+    requires within { from ≤ length marks.old.items }
+    requires moves { AllWithin (CanMove removed added) marks.old.items from (length marks.old.items) }
+    ensures { marks.new.items
+        ≡ take from marks.old.items ++ map (moved removed added) (drop from marks.old.items) }
+{
+    for place in from..marks.len() {
+        let mark = marks[place];
+        marks[place] = Mark {
+            number: mark.number,
+            begins: mark.begins - removed + added,
+            count: mark.count,
+        };
+    }
+}
+
+/// A line as it is listed: the number, the bytes behind it, CR and LF.
+fn listed_line(alloc: Global, number: u16, rest: &[u8]) -> Result<Vec<u8>, NoMemory>
+    ensures { IfOk result (λ bytes. bytes.items ≡ listed (number, rest.now)) }
+{
+    let mut bytes = Vec::from_slice(alloc, Buffer::new().format(number).as_bytes())?;
+    bytes.extend_from_slice(rest)?;
+    bytes.extend_from_slice(b"\r\n")?;
+    Ok(bytes)
+}
