@@ -1,0 +1,3 @@
+pub mod EndedLines
+pub mod HistoryReading
+pub mod ReadingLaw
