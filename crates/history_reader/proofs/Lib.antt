@@ -1,0 +1,8 @@
+pub mod CountLaws
+pub mod EndedLaws
+pub mod FieldLaws
+pub mod FormLaws
+pub mod HistoryLaws
+pub mod LineLaws
+pub mod RequestLaws
+pub mod WordLaws
