@@ -248,7 +248,7 @@ fn each_broken_line_is_refused(rt: HostRuntime) -> Result<(), Fail> {
 }
 
 /// Texts that are no history's.
-static TEXTS: [Row; 26] = [
+static TEXTS: [Row; 28] = [
     (b"", 0),
     (b"HISTORY 0", 0),
     (b"HISTORY 0\n0 TICK = DONE\n", 1),
@@ -275,6 +275,8 @@ static TEXTS: [Row; 26] = [
     (b"HISTORY 2\n0 TICK = DONE\n0 TICK\n0 TICK = DONE\n", 2),
     (b"HISTORY 3\n0 TICK = DONE\n0 TICK = DONE\n0 TICK = DONE \n", 3),
     (b"HISTORY 99999999999999999999999999\n0 TICK = DONE\n", 2),
+    (b"HISTORY 1000000000000000000000000000000000000000000000000000000000000000\n", 1),
+    (b"HISTORY 10000000000000000000000000000000000000000000000000000000000000000\n", 0),
 ];
 
 #[test]

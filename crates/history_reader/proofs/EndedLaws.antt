@@ -1,11 +1,11 @@
 -- Lines that end by a LF are found again, and a text has its first line in front.
-use Rattle.std.proofs.Common.{◌≡◌, ℕ, zero, suc, ◌+◌, ◌<◌, ◌≤◌, Bool, true, false, cond, eqb, List, [], ◌∷◌, ◌++◌, length, take, Option, Some, refl, sym, ap, subst, ◌∙◌, append_assoc, arith}
-use Rattle.std.specs.List.{AllByRecursion, flat_map}
+use Rattle.std.proofs.Common.{◌≡◌, ℕ, zero, suc, ◌≤◌, Bool, true, false, cond, eqb, List, [], ◌∷◌, ◌++◌, length, take, Some, refl, sym, ap, subst, ◌∙◌, append_assoc, arith}
+use Rattle.std.specs.List.{AllByRecursion}
 use Rattle.std.proofs.lemmas.Bool.{eqb-true}
-use Rattle.std.proofs.lemmas.List.{append-nil, take_at, length-append}
+use Rattle.std.proofs.lemmas.List.{append-nil, take_at}
 use Rattle.basic_values.specs.Cuts.{cut}
 use Rattle.basic_values.proofs.CutLaws.{Lacks, cut_again}
-use Rattle.history_reader.specs.EndedLines.{in_front, ended_lines, with_feeds, first_ended}
+use Rattle.history_reader.specs.EndedLines.{onto_line, ended_lines, with_feeds, first_ended}
 
 pub ended_line : (line rest : List ℕ) → Lacks 10 line → ended_lines (line ++ 10 ∷ rest) ≡ line ∷ ended_lines rest
 ended_line [] rest lacks = refl
@@ -34,7 +34,7 @@ behind_feed b text line lines feed e =
     let are_lines : ended_lines text ≡ lines = cc in
     subst (λ (l : List ℕ). Fronted (b ∷ text) l lines) is_line (text, ap (λ (x : ℕ). x ∷ text) feed, tt, are_lines)
 
-behind_byte : (b : ℕ) (text : List ℕ) → HasFirst text → eqb b 10 ≡ false → (ls : List (List ℕ)) → ended_lines text ≡ ls → (line : List ℕ) (lines : List (List ℕ)) → in_front b ls ≡ line ∷ lines → Fronted (b ∷ text) line lines
+behind_byte : (b : ℕ) (text : List ℕ) → HasFirst text → eqb b 10 ≡ false → (ls : List (List ℕ)) → ended_lines text ≡ ls → (line : List ℕ) (lines : List (List ℕ)) → onto_line b ls ≡ line ∷ lines → Fronted (b ∷ text) line lines
 behind_byte b text has other [] same line lines e = absurd cc
 behind_byte b text has other (first ∷ others) same line lines e =
     let f = has first others same in
@@ -42,7 +42,7 @@ behind_byte b text has other (first ∷ others) same line lines e =
     let are_lines : others ≡ lines = cc in
     subst (λ (l : List ℕ). Fronted (b ∷ text) l lines) is_line (f.0, ap (λ (t : List ℕ). b ∷ t) f.1, (other, f.2), f.3 ∙ are_lines)
 
-behind_first : (b : ℕ) (text : List ℕ) → HasFirst text → (t : Bool) → eqb b 10 ≡ t → (line : List ℕ) (lines : List (List ℕ)) → cond t ([] ∷ ended_lines text) (in_front b (ended_lines text)) ≡ line ∷ lines → Fronted (b ∷ text) line lines
+behind_first : (b : ℕ) (text : List ℕ) → HasFirst text → (t : Bool) → eqb b 10 ≡ t → (line : List ℕ) (lines : List (List ℕ)) → cond t ([] ∷ ended_lines text) (onto_line b (ended_lines text)) ≡ line ∷ lines → Fronted (b ∷ text) line lines
 behind_first b text has true same line lines e = behind_feed b text line lines (eqb-true b 10 same) e
 behind_first b text has false other line lines e = behind_byte b text has other (ended_lines text) refl line lines e
 

@@ -1,48 +1,47 @@
 -- What was written in a field is read of it.
-use Rattle.std.proofs.Common.{◌≡◌, ℕ, zero, suc, ◌+◌, ◌-◌, ◌<◌, ◌≤◌, ◌^◌, Bool, true, false, cond, eqb, List, [], ◌∷◌, ◌++◌, length, get_or, take, drop, Option, Some, None, refl, sym, ap, subst, ◌∙◌, append_assoc, arith}
-use Rattle.std.specs.Prelude.{◌*◌, ◌/◌, ◌%◌, ◌&&◌, ◌||◌, nat_le, nat_lt, bytes_eq, codes}
+use Rattle.std.proofs.Common.{◌≡◌, ℕ, ◌+◌, ◌-◌, ◌<◌, ◌≤◌, ◌^◌, Bool, true, false, cond, List, [], ◌∷◌, ◌++◌, length, get_or, take, drop, Option, Some, None, refl, sym, ap, subst, ◌∙◌, append_assoc, arith}
+use Rattle.std.specs.Prelude.{◌*◌, ◌/◌, ◌%◌, ◌&&◌, ◌||◌, nat_le, nat_lt, bytes_eq}
 use Rattle.std.specs.List.{list_all, flat_map, concat, AllByRecursion}
-use Rattle.std.specs.Char.{is_ascii_alphanumeric, is_ascii_digit}
+use Rattle.std.specs.Char.{is_ascii_alphanumeric}
 use Rattle.std.specs.Fmt.{decimal}
 use Rattle.std.specs.Cmp.Lexicographic.{bytes_decides}
 use Rattle.std.proofs.lemmas.Bool.{leb-true, ltb-true, ltb-false, lt-ltb, le-leb, lt-leb, eq-eqb}
 use Rattle.std.proofs.lemmas.List.{append-nil, take_all, take_at, drop_at, length-append}
-use Rattle.basic_values.specs.Cuts.{behind, cut}
-use Rattle.basic_values.proofs.CutLaws.{Lacks, lacks_both, kind_lacks, and_left, and_right, and_both, cut_again, cut_nowhere, behind_again, number_again, decimal_lacks}
+use Rattle.basic_values.specs.Cuts.{cut}
+use Rattle.basic_values.proofs.CutLaws.{Lacks, lacks_both, kind_lacks, and_left, and_right, and_both, cut_again, cut_nowhere, number_again, decimal_lacks}
 use Rattle.monitor_calls.specs.declared.names.Account.{Account}
 use Rattle.monitor_calls.specs.declared.files.FileName.{FileName}
 use Rattle.monitor_calls.specs.declared.files.OpenKind.{OpenKind}
 use Rattle.monitor_calls.specs.declared.files.OpenKind.TheVariants.{Input, Output, Either, Fresh}
-use Rattle.monitor_calls.specs.Names.{is_short_text}
-use Rattle.monitor_calls.specs.NameTexts.{extension_text, name_text}
+use Rattle.monitor_calls.specs.NameTexts.{extension_text}
 use Rattle.monitor_calls.specs.Proper.{IsByte, IsOptionalByte, AreOptionalBlocks, IsAccount, IsShort, IsName, IsText, IsPage}
 use Rattle.deck_model.specs.Files.{pages_of}
 use Rattle.deck_model.specs.Histories.{hex_sign, hex_text, hex_or_dash, pages_text, account_digits, truth_text, number_or_dash, letters_or_dash, printed_name, kind_text}
-use Rattle.history_reader.specs.LineFields.{field_by, byte_in, half_in, long_in, account_in, short_in, stem_of, name_in, letters_in, truth_in, kind_in, code_in, blocks_in, sign_value, hex_bytes, password_in, message_in, page_in, pages_in}
+use Rattle.history_reader.specs.LineFields.{field_by, byte_read, half_read, long_read, account_read, short_read, stem_of, name_read, letters_read, truth_read, kind_read, code_read, blocks_read, sign_value, hex_bytes, password_read, message_read, one_page_read, page_run_read}
 use Rattle.history_reader.proofs.WordLaws.{joined, is_plain, plain_both, decimal_plain, field_again}
 
 -- ---- numbers
 
-pub byte_again : (n : ℕ) → n < 2 ^ 8 → byte_in (decimal n) ≡ Some n
-unfolding byte_in
+pub byte_again : (n : ℕ) → n < 2 ^ 8 → byte_read (decimal n) ≡ Some n
+unfolding byte_read
 byte_again n small = number_again 0 255 n (omega arith) (omega arith) (omega arith)
 
-pub half_again : (n : ℕ) → n < 2 ^ 16 → half_in (decimal n) ≡ Some n
-unfolding half_in
+pub half_again : (n : ℕ) → n < 2 ^ 16 → half_read (decimal n) ≡ Some n
+unfolding half_read
 half_again n small = number_again 0 65535 n (omega arith) (omega arith) (omega arith)
 
-pub long_again : (n : ℕ) → n < 2 ^ 32 → long_in (decimal n) ≡ Some n
-unfolding long_in
+pub long_again : (n : ℕ) → n < 2 ^ 32 → long_read (decimal n) ≡ Some n
+unfolding long_read
 long_again n small = number_again 0 4294967295 n (omega arith) (omega arith) small
 
-pub byte_field : (n : ℕ) (words : List (List ℕ)) → n < 2 ^ 8 → field_by byte_in (joined (decimal n ∷ words)) ≡ Some (n, joined words)
-byte_field n words small = field_again byte_in n (decimal n) words (decimal_plain n (omega arith)) (byte_again n small)
+pub byte_field : (n : ℕ) (words : List (List ℕ)) → n < 2 ^ 8 → field_by byte_read (joined (decimal n ∷ words)) ≡ Some (n, joined words)
+byte_field n words small = field_again byte_read n (decimal n) words (decimal_plain n (omega arith)) (byte_again n small)
 
-pub half_field : (n : ℕ) (words : List (List ℕ)) → n < 2 ^ 16 → field_by half_in (joined (decimal n ∷ words)) ≡ Some (n, joined words)
-half_field n words small = field_again half_in n (decimal n) words (decimal_plain n (omega arith)) (half_again n small)
+pub half_field : (n : ℕ) (words : List (List ℕ)) → n < 2 ^ 16 → field_by half_read (joined (decimal n ∷ words)) ≡ Some (n, joined words)
+half_field n words small = field_again half_read n (decimal n) words (decimal_plain n (omega arith)) (half_again n small)
 
-pub long_field : (n : ℕ) (words : List (List ℕ)) → n < 2 ^ 32 → field_by long_in (joined (decimal n ∷ words)) ≡ Some (n, joined words)
-long_field n words small = field_again long_in n (decimal n) words (decimal_plain n (omega arith)) (long_again n small)
+pub long_field : (n : ℕ) (words : List (List ℕ)) → n < 2 ^ 32 → field_by long_read (joined (decimal n ∷ words)) ≡ Some (n, joined words)
+long_field n words small = field_again long_read n (decimal n) words (decimal_plain n (omega arith)) (long_again n small)
 
 -- ---- accounts
 
@@ -50,14 +49,14 @@ pub account_plain : (a : Account) → IsAccount a → is_plain (account_digits a
 account_plain a good =
     plain_both (decimal a.project ++ 44 ∷ []) (decimal a.programmer) (plain_both (decimal a.project) (44 ∷ []) (decimal_plain a.project (omega arith)) refl) (decimal_plain a.programmer (omega arith))
 
-account_again : (a : Account) → IsAccount a → account_in (account_digits a) ≡ Some a
-unfolding account_in
+account_again : (a : Account) → IsAccount a → account_read (account_digits a) ≡ Some a
+unfolding account_read
 account_again a good =
-    ap account_in (append_assoc (decimal a.project) (44 ∷ []) (decimal a.programmer))
+    ap account_read (append_assoc (decimal a.project) (44 ∷ []) (decimal a.programmer))
     ∙ rw (cut_again 44 (decimal a.project) (decimal a.programmer) (decimal_lacks 44 a.project (λ r. omega arith) (omega arith)), byte_again a.project good.0, byte_again a.programmer good.1) refl
 
-pub account_field : (a : Account) (words : List (List ℕ)) → IsAccount a → field_by account_in (joined (account_digits a ∷ words)) ≡ Some (a, joined words)
-account_field a words good = field_again account_in a (account_digits a) words (account_plain a good) (account_again a good)
+pub account_field : (a : Account) (words : List (List ℕ)) → IsAccount a → field_by account_read (joined (account_digits a ∷ words)) ≡ Some (a, joined words)
+account_field a words good = field_again account_read a (account_digits a) words (account_plain a good) (account_again a good)
 
 -- ---- short names
 
@@ -88,8 +87,8 @@ letters_bytes (b ∷ text) all =
 short_letters : (text : List ℕ) → IsShort text → list_all is_ascii_alphanumeric text ≡ true
 short_letters text e = and_right (nat_le 0 (length text) && nat_le (length text) 6) (list_all is_ascii_alphanumeric text) e
 
-short_again : (text : List ℕ) → IsShort text → short_in text ≡ Some text
-unfolding short_in
+short_again : (text : List ℕ) → IsShort text → short_read text ≡ Some text
+unfolding short_read
 short_again text e = ap (λ (b : Bool). cond b (Some text) None) e
 
 not_dash : (text : List ℕ) → Lacks 45 text → bytes_eq text (45 ∷ []) ≡ false
@@ -103,14 +102,14 @@ pub short_plain : (text : List ℕ) → IsShort text → is_plain (letters_or_da
 short_plain [] e = refl
 short_plain (b ∷ text) e = letters_plain (b ∷ text) (short_letters (b ∷ text) e)
 
-pub letters_again : (text : List ℕ) → IsShort text → letters_in (letters_or_dash text) ≡ Some text
-unfolding letters_in
+pub letters_again : (text : List ℕ) → IsShort text → letters_read (letters_or_dash text) ≡ Some text
+unfolding letters_read
 letters_again [] e = refl
 letters_again (b ∷ text) e =
     rw (not_dash (b ∷ text) (kind_lacks is_ascii_alphanumeric 45 refl (b ∷ text) (short_letters (b ∷ text) e))) (short_again (b ∷ text) e)
 
-pub letters_field : (text : List ℕ) (words : List (List ℕ)) → IsShort text → field_by letters_in (joined (letters_or_dash text ∷ words)) ≡ Some (text, joined words)
-letters_field text words e = field_again letters_in text (letters_or_dash text) words (short_plain text e) (letters_again text e)
+pub letters_field : (text : List ℕ) (words : List (List ℕ)) → IsShort text → field_by letters_read (joined (letters_or_dash text ∷ words)) ≡ Some (text, joined words)
+letters_field text words e = field_again letters_read text (letters_or_dash text) words (short_plain text e) (letters_again text e)
 
 -- ---- names of files
 
@@ -122,8 +121,8 @@ name_shape : (name : FileName) → printed_name name ≡ 91 ∷ (account_digits 
 unfolding printed_name
 name_shape name = simp append_assoc
 
-name_again : (name : FileName) → IsName name → name_in (printed_name name) ≡ Some name
-unfolding name_in
+name_again : (name : FileName) → IsName name → name_read (printed_name name) ≡ Some name
+unfolding name_read
 name_again name good =
     let rest : List ℕ = name.stem ++ extension_text name.extension in
     let digits : List ℕ = account_digits name.owner in
@@ -148,8 +147,8 @@ name_plain name good =
 pub printed_plain : (name : FileName) → IsName name → is_plain (printed_name name) ≡ true
 printed_plain name good = name_plain name good
 
-pub name_field : (name : FileName) (words : List (List ℕ)) → IsName name → field_by name_in (joined (printed_name name ∷ words)) ≡ Some (name, joined words)
-name_field name words good = field_again name_in name (printed_name name) words (name_plain name good) (name_again name good)
+pub name_field : (name : FileName) (words : List (List ℕ)) → IsName name → field_by name_read (joined (printed_name name ∷ words)) ≡ Some (name, joined words)
+name_field name words good = field_again name_read name (printed_name name) words (name_plain name good) (name_again name good)
 
 -- ---- truth, kinds, and numbers that a dash may stand for
 
@@ -157,13 +156,13 @@ pub truth_plain : (truth : Bool) → is_plain (truth_text truth) ≡ true
 truth_plain true = refl
 truth_plain false = refl
 
-truth_again : (truth : Bool) → truth_in (truth_text truth) ≡ Some truth
-unfolding truth_in
+truth_again : (truth : Bool) → truth_read (truth_text truth) ≡ Some truth
+unfolding truth_read
 truth_again true = refl
 truth_again false = refl
 
-pub truth_field : (truth : Bool) (words : List (List ℕ)) → field_by truth_in (joined (truth_text truth ∷ words)) ≡ Some (truth, joined words)
-truth_field truth words = field_again truth_in truth (truth_text truth) words (truth_plain truth) (truth_again truth)
+pub truth_field : (truth : Bool) (words : List (List ℕ)) → field_by truth_read (joined (truth_text truth ∷ words)) ≡ Some (truth, joined words)
+truth_field truth words = field_again truth_read truth (truth_text truth) words (truth_plain truth) (truth_again truth)
 
 pub kind_plain : (kind : OpenKind) → is_plain (kind_text kind) ≡ true
 kind_plain Input = refl
@@ -171,15 +170,15 @@ kind_plain Output = refl
 kind_plain Either = refl
 kind_plain Fresh = refl
 
-kind_again : (kind : OpenKind) → kind_in (kind_text kind) ≡ Some kind
-unfolding kind_in
+kind_again : (kind : OpenKind) → kind_read (kind_text kind) ≡ Some kind
+unfolding kind_read
 kind_again Input = refl
 kind_again Output = refl
 kind_again Either = refl
 kind_again Fresh = refl
 
-pub kind_field : (kind : OpenKind) (words : List (List ℕ)) → field_by kind_in (joined (kind_text kind ∷ words)) ≡ Some (kind, joined words)
-kind_field kind words = field_again kind_in kind (kind_text kind) words (kind_plain kind) (kind_again kind)
+pub kind_field : (kind : OpenKind) (words : List (List ℕ)) → field_by kind_read (joined (kind_text kind ∷ words)) ≡ Some (kind, joined words)
+kind_field kind words = field_again kind_read kind (kind_text kind) words (kind_plain kind) (kind_again kind)
 
 number_no_dash : (n : ℕ) → n < 2 ^ 32 → bytes_eq (decimal n) (45 ∷ []) ≡ false
 number_no_dash n small = not_dash (decimal n) (decimal_lacks 45 n (λ r. omega arith) small)
@@ -188,25 +187,25 @@ pub code_plain : (code : Option ℕ) → IsOptionalByte code → is_plain (numbe
 code_plain None good = refl
 code_plain (Some n) good = decimal_plain n (omega arith)
 
-code_again : (code : Option ℕ) → IsOptionalByte code → code_in (number_or_dash code) ≡ Some code
-unfolding code_in
+code_again : (code : Option ℕ) → IsOptionalByte code → code_read (number_or_dash code) ≡ Some code
+unfolding code_read
 code_again None good = refl
 code_again (Some n) good = rw (number_no_dash n (omega arith), byte_again n good) refl
 
-pub code_field : (code : Option ℕ) (words : List (List ℕ)) → IsOptionalByte code → field_by code_in (joined (number_or_dash code ∷ words)) ≡ Some (code, joined words)
-code_field code words good = field_again code_in code (number_or_dash code) words (code_plain code good) (code_again code good)
+pub code_field : (code : Option ℕ) (words : List (List ℕ)) → IsOptionalByte code → field_by code_read (joined (number_or_dash code ∷ words)) ≡ Some (code, joined words)
+code_field code words good = field_again code_read code (number_or_dash code) words (code_plain code good) (code_again code good)
 
 pub blocks_plain : (blocks : Option ℕ) → AreOptionalBlocks blocks → is_plain (number_or_dash blocks) ≡ true
 blocks_plain None good = refl
 blocks_plain (Some n) good = decimal_plain n (omega arith)
 
-blocks_again : (blocks : Option ℕ) → AreOptionalBlocks blocks → blocks_in (number_or_dash blocks) ≡ Some blocks
-unfolding blocks_in
+blocks_again : (blocks : Option ℕ) → AreOptionalBlocks blocks → blocks_read (number_or_dash blocks) ≡ Some blocks
+unfolding blocks_read
 blocks_again None good = refl
 blocks_again (Some n) good = rw (number_no_dash n (omega arith), half_again n good) refl
 
-pub blocks_field : (blocks : Option ℕ) (words : List (List ℕ)) → AreOptionalBlocks blocks → field_by blocks_in (joined (number_or_dash blocks ∷ words)) ≡ Some (blocks, joined words)
-blocks_field blocks words good = field_again blocks_in blocks (number_or_dash blocks) words (blocks_plain blocks good) (blocks_again blocks good)
+pub blocks_field : (blocks : Option ℕ) (words : List (List ℕ)) → AreOptionalBlocks blocks → field_by blocks_read (joined (number_or_dash blocks ∷ words)) ≡ Some (blocks, joined words)
+blocks_field blocks words good = field_again blocks_read blocks (number_or_dash blocks) words (blocks_plain blocks good) (blocks_again blocks good)
 
 -- ---- bytes
 
@@ -252,26 +251,26 @@ pub dash_plain : (bytes : List ℕ) → is_plain (hex_or_dash bytes) ≡ true
 dash_plain [] = refl
 dash_plain (b ∷ bytes) = hex_plain (b ∷ bytes)
 
-password_again : (text : List ℕ) → IsShort text → password_in (hex_or_dash text) ≡ Some text
-unfolding password_in
+password_again : (text : List ℕ) → IsShort text → password_read (hex_or_dash text) ≡ Some text
+unfolding password_read
 password_again text good = rw (dash_back text (letters_bytes text (short_letters text good))) (short_again text good)
 
-pub password_field : (text : List ℕ) (words : List (List ℕ)) → IsShort text → field_by password_in (joined (hex_or_dash text ∷ words)) ≡ Some (text, joined words)
-password_field text words good = field_again password_in text (hex_or_dash text) words (dash_plain text) (password_again text good)
+pub password_field : (text : List ℕ) (words : List (List ℕ)) → IsShort text → field_by password_read (joined (hex_or_dash text ∷ words)) ≡ Some (text, joined words)
+password_field text words good = field_again password_read text (hex_or_dash text) words (dash_plain text) (password_again text good)
 
-message_again : (text : List ℕ) → IsText text → message_in (hex_or_dash text) ≡ Some text
-unfolding message_in
+message_again : (text : List ℕ) → IsText text → message_read (hex_or_dash text) ≡ Some text
+unfolding message_read
 message_again text good = rw (dash_back text good.1, le-leb (length text) 32767 good.0) refl
 
-pub message_field : (text : List ℕ) (words : List (List ℕ)) → IsText text → field_by message_in (joined (hex_or_dash text ∷ words)) ≡ Some (text, joined words)
-message_field text words good = field_again message_in text (hex_or_dash text) words (dash_plain text) (message_again text good)
+pub message_field : (text : List ℕ) (words : List (List ℕ)) → IsText text → field_by message_read (joined (hex_or_dash text ∷ words)) ≡ Some (text, joined words)
+message_field text words good = field_again message_read text (hex_or_dash text) words (dash_plain text) (message_again text good)
 
-page_again : (page : List ℕ) → IsPage page → page_in (hex_or_dash page) ≡ Some page
-unfolding page_in
+page_again : (page : List ℕ) → IsPage page → one_page_read (hex_or_dash page) ≡ Some page
+unfolding one_page_read
 page_again page good = rw (dash_back page good.1, eq-eqb (length page) 512 good.0) refl
 
-pub page_field : (page : List ℕ) (words : List (List ℕ)) → IsPage page → field_by page_in (joined (hex_or_dash page ∷ words)) ≡ Some (page, joined words)
-page_field page words good = field_again page_in page (hex_or_dash page) words (dash_plain page) (page_again page good)
+pub page_field : (page : List ℕ) (words : List (List ℕ)) → IsPage page → field_by one_page_read (joined (hex_or_dash page ∷ words)) ≡ Some (page, joined words)
+page_field page words good = field_again one_page_read page (hex_or_dash page) words (dash_plain page) (page_again page good)
 
 -- ---- pages
 
@@ -306,8 +305,8 @@ unfolding hex_bytes
 run_back [] all = refl
 run_back (page ∷ pages) all = ap hex_bytes (hex_run (page ∷ pages)) ∙ hex_back (concat (page ∷ pages)) (run_bytes (page ∷ pages) all)
 
-pages_again : (pages : List (List ℕ)) → AllByRecursion IsPage pages → pages_in (pages_text pages) ≡ Some pages
-unfolding pages_in
+pages_again : (pages : List (List ℕ)) → AllByRecursion IsPage pages → page_run_read (pages_text pages) ≡ Some pages
+unfolding page_run_read
 pages_again pages all =
     let count : length (concat pages) / 512 ≡ length pages = omega (arith, length-run pages all) in
     rw (run_back pages all, count, cut_run pages all) refl
@@ -316,8 +315,8 @@ pub pages_plain : (pages : List (List ℕ)) → is_plain (pages_text pages) ≡ 
 pages_plain [] = refl
 pages_plain (page ∷ pages) = subst (λ (t : List ℕ). is_plain t ≡ true) (sym (hex_run (page ∷ pages))) (hex_plain (concat (page ∷ pages)))
 
-pub pages_field : (pages : List (List ℕ)) (words : List (List ℕ)) → AllByRecursion IsPage pages → field_by pages_in (joined (pages_text pages ∷ words)) ≡ Some (pages, joined words)
-pages_field pages words all = field_again pages_in pages (pages_text pages) words (pages_plain pages) (pages_again pages all)
+pub pages_field : (pages : List (List ℕ)) (words : List (List ℕ)) → AllByRecursion IsPage pages → field_by page_run_read (joined (pages_text pages ∷ words)) ≡ Some (pages, joined words)
+pages_field pages words all = field_again page_run_read pages (pages_text pages) words (pages_plain pages) (pages_again pages all)
 
 -- ---- two signs of some
 

@@ -1,5 +1,5 @@
 -- What was written of a reply and of an entry is read of its words.
-use Rattle.std.proofs.Common.{◌≡◌, ℕ, ◌<◌, ◌^◌, Bool, true, List, [], ◌∷◌, ◌++◌, Option, Some, None, refl, sym, ap, ◌∙◌, append_assoc, arith}
+use Rattle.std.proofs.Common.{◌≡◌, ℕ, ◌<◌, ◌^◌, Bool, true, List, [], ◌∷◌, ◌++◌, Option, Some, refl, sym, ap, ◌∙◌, append_assoc, arith}
 use Rattle.std.specs.Prelude.{codes}
 use Rattle.std.specs.Fmt.{decimal}
 use Rattle.monitor_calls.specs.declared.names.Account.{Account}
@@ -8,10 +8,9 @@ use Rattle.monitor_calls.specs.declared.calls.Entry.{Entry}
 use Rattle.monitor_calls.specs.declared.calls.Reply.{Reply}
 use Rattle.monitor_calls.specs.declared.calls.Reply.TheVariants.{Done, Opened, Block, Record, Name, Message, State, Failed, Expired}
 use Rattle.monitor_calls.specs.Proper.{IsProperReply, IsProperEntry}
-use Rattle.deck_model.specs.Histories.{hex_or_dash, pages_text, account_digits, truth_text, number_or_dash, printed_name, fields, reply_text, request_text, entry_line}
+use Rattle.deck_model.specs.Histories.{hex_or_dash, pages_text, account_digits, truth_text, number_or_dash, printed_name, fields, reply_text, entry_line}
 use Rattle.basic_values.proofs.CutLaws.{Lacks}
-use Rattle.history_reader.specs.LineFields.{word_in}
-use Rattle.history_reader.specs.LineForms.{opened_in, block_in, record_in, file_reply_in, letter_in, state_in, failed_in, told_reply_in, reply_by, reply_in, entry_in}
+use Rattle.history_reader.specs.LineForms.{opened_read, block_read, record_read, file_reply_read, letter_read, state_read, failed_read, told_reply_read, reply_by, reply_read, entry_read}
 use Rattle.history_reader.proofs.WordLaws.{joined, joined_fields, joined_lacks, is_plain, ArePlain, plain_more, decimal_plain, word_again}
 use Rattle.history_reader.proofs.FieldLaws.{byte_field, half_field, long_field, account_plain, account_field, printed_plain, name_field, truth_plain, truth_field, blocks_plain, blocks_field, dash_plain, message_field, page_field, pages_plain, pages_field}
 use Rattle.history_reader.proofs.RequestLaws.{request_word, request_fields, request_written, request_plain, request_again}
@@ -63,40 +62,40 @@ reply_plain (State job account calls) good = (refl, (short_number job (omega ari
 reply_plain (Failed number) good = (refl, (short_number number (omega arith), tt))
 reply_plain Expired good = (refl, tt)
 
-opened_again : (blocks : ℕ) (read : Bool) (write : Bool) → IsProperReply (Opened blocks read write) → opened_in (joined (decimal blocks ∷ truth_text read ∷ truth_text write ∷ [])) ≡ Some (Opened blocks read write)
-unfolding opened_in
+opened_again : (blocks : ℕ) (read : Bool) (write : Bool) → IsProperReply (Opened blocks read write) → opened_read (joined (decimal blocks ∷ truth_text read ∷ truth_text write ∷ [])) ≡ Some (Opened blocks read write)
+unfolding opened_read
 opened_again blocks read write good = rw (half_field blocks (truth_text read ∷ truth_text write ∷ []) good, truth_field read (truth_text write ∷ []), truth_field write []) refl
 
-block_again : (page : List ℕ) → IsProperReply (Block page) → block_in (joined (hex_or_dash page ∷ [])) ≡ Some (Block page)
-unfolding block_in
+block_again : (page : List ℕ) → IsProperReply (Block page) → block_read (joined (hex_or_dash page ∷ [])) ≡ Some (Block page)
+unfolding block_read
 block_again page good = rw (page_field page [] good) refl
 
-record_again : (pages : List (List ℕ)) → IsProperReply (Record pages) → record_in (joined (pages_text pages ∷ [])) ≡ Some (Record pages)
-unfolding record_in
+record_again : (pages : List (List ℕ)) → IsProperReply (Record pages) → record_read (joined (pages_text pages ∷ [])) ≡ Some (Record pages)
+unfolding record_read
 record_again pages good = rw (pages_field pages [] good) refl
 
-file_reply_again : (name : FileName) (code : ℕ) (blocks : Option ℕ) → IsProperReply (Name name code blocks) → file_reply_in (joined (printed_name name ∷ decimal code ∷ number_or_dash blocks ∷ [])) ≡ Some (Name name code blocks)
-unfolding file_reply_in
+file_reply_again : (name : FileName) (code : ℕ) (blocks : Option ℕ) → IsProperReply (Name name code blocks) → file_reply_read (joined (printed_name name ∷ decimal code ∷ number_or_dash blocks ∷ [])) ≡ Some (Name name code blocks)
+unfolding file_reply_read
 file_reply_again name code blocks good = rw (name_field name (decimal code ∷ number_or_dash blocks ∷ []) good.0, byte_field code (number_or_dash blocks ∷ []) good.1.0, blocks_field blocks [] good.1.1) refl
 
-letter_again : (job : ℕ) (account : Account) (text : List ℕ) → IsProperReply (Message job account text) → letter_in (joined (decimal job ∷ account_digits account ∷ hex_or_dash text ∷ [])) ≡ Some (Message job account text)
-unfolding letter_in
+letter_again : (job : ℕ) (account : Account) (text : List ℕ) → IsProperReply (Message job account text) → letter_read (joined (decimal job ∷ account_digits account ∷ hex_or_dash text ∷ [])) ≡ Some (Message job account text)
+unfolding letter_read
 letter_again job account text good = rw (long_field job (account_digits account ∷ hex_or_dash text ∷ []) good.0, account_field account (hex_or_dash text ∷ []) good.1.0, message_field text [] good.1.1) refl
 
-state_again : (job : ℕ) (account : Account) (calls : ℕ) → IsProperReply (State job account calls) → state_in (joined (decimal job ∷ account_digits account ∷ decimal calls ∷ [])) ≡ Some (State job account calls)
-unfolding state_in
+state_again : (job : ℕ) (account : Account) (calls : ℕ) → IsProperReply (State job account calls) → state_read (joined (decimal job ∷ account_digits account ∷ decimal calls ∷ [])) ≡ Some (State job account calls)
+unfolding state_read
 state_again job account calls good = rw (long_field job (account_digits account ∷ decimal calls ∷ []) good.0, account_field account (decimal calls ∷ []) good.1.0, half_field calls [] good.1.1) refl
 
-failed_again : (number : ℕ) → IsProperReply (Failed number) → failed_in (joined (decimal number ∷ [])) ≡ Some (Failed number)
-unfolding failed_in
+failed_again : (number : ℕ) → IsProperReply (Failed number) → failed_read (joined (decimal number ∷ [])) ≡ Some (Failed number)
+unfolding failed_read
 failed_again number good = rw (byte_field number [] good) refl
 
-by_word : (word : List ℕ) (words : List (List ℕ)) → is_plain word ≡ true → reply_in (joined (word ∷ words)) ≡ reply_by word (joined words)
-unfolding reply_in
+by_word : (word : List ℕ) (words : List (List ℕ)) → is_plain word ≡ true → reply_read (joined (word ∷ words)) ≡ reply_by word (joined words)
+unfolding reply_read
 by_word word words plain = rw (word_again word words plain) refl
 
-reply_again : (r : Reply) → IsProperReply r → reply_in (joined (reply_word r ∷ reply_fields r)) ≡ Some r
-unfolding reply_by told_reply_in
+reply_again : (r : Reply) → IsProperReply r → reply_read (joined (reply_word r ∷ reply_fields r)) ≡ Some r
+unfolding reply_by told_reply_read
 reply_again Done good = by_word (codes "DONE") [] refl
 reply_again (Opened blocks read write) good = by_word (codes "OPENED") (decimal blocks ∷ truth_text read ∷ truth_text write ∷ []) refl ∙ opened_again blocks read write good
 reply_again (Block page) good = by_word (codes "BLOCK") (hex_or_dash page ∷ []) refl ∙ block_again page good
@@ -145,7 +144,7 @@ line_feed e =
     ∙ ap (λ (t : List ℕ). (job ++ 32 ∷ (word ++ t)) ++ 10 ∷ []) (sym (fields_both (request_fields e.request) (behind_request e)))
     ∙ ap (λ (t : List ℕ). t ++ 10 ∷ []) (joined_fields job (word ∷ (request_fields e.request ++ behind_request e)))
 
-pub entry_again : (e : Entry) → IsProperEntry e → entry_in (line_of e) ≡ Some e
-unfolding entry_in
+pub entry_again : (e : Entry) → IsProperEntry e → entry_read (line_of e) ≡ Some e
+unfolding entry_read
 entry_again e good =
     rw (long_field e.job (request_word e.request ∷ (request_fields e.request ++ behind_request e)) good.0, request_again e.request (behind_request e) good.1.0, word_again (codes "=") (reply_word e.reply ∷ reply_fields e.reply) refl, reply_again e.reply good.1.1) refl

@@ -1,6 +1,6 @@
 -- Histories and the lines of a text.
-use Rattle.std.proofs.Common.{◌≡◌, ℕ, zero, suc, ◌+◌, ◌-◌, ◌<◌, ◌≤◌, ◌^◌, Bool, true, false, List, [], ◌∷◌, ◌++◌, length, take, map, replicate, Option, Some, None, Err, refl, sym, ap, subst, ◌∙◌, append_assoc, arith, ◌⊎◌, inl, inr, ltb}
-use Rattle.std.specs.Prelude.{codes, bytes_eq}
+use Rattle.std.proofs.Common.{◌≡◌, ℕ, zero, suc, ◌+◌, ◌-◌, ◌<◌, ◌≤◌, ◌^◌, Bool, true, false, List, [], ◌∷◌, ◌++◌, length, map, replicate, Some, Err, refl, sym, ap, subst, ◌∙◌, append_assoc, arith, ◌⊎◌, inl, inr, ltb}
+use Rattle.std.specs.Prelude.{bytes_eq}
 use Rattle.std.specs.Cmp.Lexicographic.{bytes_decides}
 use Rattle.std.specs.List.{AllByRecursion}
 use Rattle.std.specs.Fmt.{decimal}
@@ -18,10 +18,10 @@ use Rattle.history_reader.specs.declared.failures.LineError.{LineError}
 use Rattle.history_reader.specs.declared.failures.LineError.TheVariants.{Wrong, Memory}
 use Rattle.history_reader.specs.LineErrors.{trouble_at_line}
 use Rattle.history_reader.specs.ReadingLaw.{HistoryIsOne, WrongPlaceIsOne}
-use Rattle.history_reader.specs.LineForms.{entry_in}
+use Rattle.history_reader.specs.LineForms.{entry_read}
 use Rattle.history_reader.specs.SoFar.{heading_text, NoHeading, NoEntry, SoFar, TakesEntry}
 use Rattle.history_reader.proofs.CountLaws.{any_decimal_lacks, decimal_one}
-use Rattle.history_reader.proofs.EndedLaws.{ended_line, one_line, first_line, ended_front, front_is, next_is, fewer_first}
+use Rattle.history_reader.proofs.EndedLaws.{one_line, first_line, ended_front, front_is, next_is, fewer_first}
 use Rattle.history_reader.proofs.FormLaws.{line_of, line_lacks, line_feed, entry_again}
 
 -- ---- entries in front of a text
@@ -64,7 +64,7 @@ left_of (e ∷ es) (h ∷ hs) rest pe ph same =
 
 same_line : (a b : Entry) → IsProperEntry a → IsProperEntry b → line_of a ≡ line_of b → a ≡ b
 same_line a b pa pb same =
-    let both : Some a ≡ Some b = sym (entry_again a pa) ∙ ap entry_in same ∙ entry_again b pb in
+    let both : Some a ≡ Some b = sym (entry_again a pa) ∙ ap entry_read same ∙ entry_again b pb in
     cc
 
 same_entries : (xs ys : List Entry) → Proper xs → Proper ys → entry_lines xs ≡ entry_lines ys → xs ≡ ys

@@ -1,4 +1,5 @@
 pub mod CountLaws
+mod EndedExamples
 pub mod EndedLaws
 pub mod FieldLaws
 pub mod FormLaws

@@ -1,5 +1,5 @@
 -- The first line of a text is a heading or an entry's, or it is found to be none.
-use Rattle.std.proofs.Common.{◌≡◌, ℕ, ◌≤◌, Bool, true, false, List, [], ◌∷◌, ◌++◌, length, Option, Some, None, Ok, Err, refl, sym, ap, ◌∙◌, arith}
+use Rattle.std.proofs.Common.{◌≡◌, ℕ, true, false, List, [], ◌∷◌, ◌++◌, Option, Some, None, Ok, Err, refl, sym, ap, ◌∙◌, arith}
 use Rattle.std.specs.Prelude.{codes, Result, IfOk}
 use Rattle.std.specs.Fmt.{decimal}
 use Rattle.std.proofs.lemmas.List.{append-nil}
@@ -12,7 +12,7 @@ use Rattle.history_reader.specs.Counts.{is_count}
 use Rattle.history_reader.specs.declared.failures.LineError.{LineError}
 use Rattle.history_reader.specs.declared.failures.LineError.TheVariants.{Wrong, Memory}
 use Rattle.history_reader.specs.LineFields.{Gives}
-use Rattle.history_reader.specs.LineForms.{entry_in, taken_in}
+use Rattle.history_reader.specs.LineForms.{entry_read, taken_read}
 use Rattle.history_reader.specs.SoFar.{heading_text, SoFar, NoHeading, NoEntry, TakesEntry}
 use Rattle.history_reader.proofs.CountLaws.{any_decimal_lacks, shown_count, count_shown}
 use Rattle.history_reader.proofs.FormLaws.{line_of, line_lacks, entry_again}
@@ -73,23 +73,23 @@ pub no_line_no_entry : (text : List ℕ) → cut 10 text ≡ None → NoEntry te
 no_line_no_entry text none e more proper same =
     none_some (cut 10 text) (line_of e, more) none (entry_cut e text more proper same)
 
-read_entry : (e : Entry) (text line after more : List ℕ) → cut 10 text ≡ Some (line, after) → IsProperEntry e → text ≡ entry_line e ++ more → entry_in line ≡ Some e
+read_entry : (e : Entry) (text line after more : List ℕ) → cut 10 text ≡ Some (line, after) → IsProperEntry e → text ≡ entry_line e ++ more → entry_read line ≡ Some e
 read_entry e text line after more found proper same =
     let both : Some (line, after) ≡ Some (line_of e, more) = sym found ∙ entry_cut e text more proper same in
     let parts : (line, after) ≡ (line_of e, more) = cc in
-    ap entry_in (ap (λ (p : List ℕ × List ℕ). p.0) parts) ∙ entry_again e proper
+    ap entry_read (ap (λ (p : List ℕ × List ℕ). p.0) parts) ∙ entry_again e proper
 
-taken_again : (e : Entry) (text line after more : List ℕ) → cut 10 text ≡ Some (line, after) → IsProperEntry e → text ≡ entry_line e ++ more → taken_in line text ≡ Some (e, more)
-unfolding taken_in
+taken_again : (e : Entry) (text line after more : List ℕ) → cut 10 text ≡ Some (line, after) → IsProperEntry e → text ≡ entry_line e ++ more → taken_read line text ≡ Some (e, more)
+unfolding taken_read
 taken_again e text line after more found proper same =
     rw (read_entry e text line after more found proper same)
     (ap (λ (t : List ℕ). behind (entry_line e) t >>= (λ rest. Some (e, rest))) same ∙ rw (behind_again (entry_line e) more) refl)
 
 -- what is taken of a first line
-taken_is : (text line : List ℕ) (x : Entry × List ℕ) → taken_in line text ≡ Some x → text ≡ entry_line x.0 ++ x.1
-unfolding taken_in
+taken_is : (text line : List ℕ) (x : Entry × List ℕ) → taken_read line text ≡ Some x → text ≡ entry_line x.0 ++ x.1
+unfolding taken_read
 taken_is text line x e =
-    let a = bind_some (entry_in line) (λ entry. behind (entry_line entry) text >>= (λ rest. Some (entry, rest))) x e in
+    let a = bind_some (entry_read line) (λ entry. behind (entry_line entry) text >>= (λ rest. Some (entry, rest))) x e in
     let b = bind_some (behind (entry_line a.0) text) (λ rest. Some (a.0, rest)) x a.2 in
     let same : (a.0, b.0) ≡ x = some_is (a.0, b.0) x b.2 in
     behind_takes (entry_line a.0) text b.0 b.1 ∙ ap (λ (y : Entry × List ℕ). entry_line y.0 ++ y.1) same
@@ -97,9 +97,9 @@ taken_is text line x e =
     some_is : {A : Type 0} (a b : A) → Some a ≡ Some b → a ≡ b
     some_is a b e = cc
 
-pub takes_entry : {X : Type 0} (view : X → Entry × List ℕ) (text line after : List ℕ) (r : Result X LineError) → cut 10 text ≡ Some (line, after) → Gives view r (taken_in line text) → IfOk r (λ x. IsProperEntry (view x).0) → TakesEntry view text r
+pub takes_entry : {X : Type 0} (view : X → Entry × List ℕ) (text line after : List ℕ) (r : Result X LineError) → cut 10 text ≡ Some (line, after) → Gives view r (taken_read line text) → IfOk r (λ x. IsProperEntry (view x).0) → TakesEntry view text r
 takes_entry view text line after (Ok x) found read proper = (proper, taken_is text line (view x) read)
-takes_entry view text line after (Err Wrong) found read proper = λ e more good same. none_some (taken_in line text) (e, more) read (taken_again e text line after more found good same)
+takes_entry view text line after (Err Wrong) found read proper = λ e more good same. none_some (taken_read line text) (e, more) read (taken_again e text line after more found good same)
 takes_entry view text line after (Err Memory) found read proper = tt
 
 -- the line behind the heading of what is written of one entry

@@ -1,5 +1,5 @@
 -- What was written of a request is read of its words.
-use Rattle.std.proofs.Common.{◌≡◌, ℕ, ◌<◌, ◌^◌, Bool, true, List, [], ◌∷◌, ◌++◌, Option, Some, None, refl, ◌∙◌, arith}
+use Rattle.std.proofs.Common.{◌≡◌, ℕ, ◌<◌, ◌^◌, Bool, true, List, [], ◌∷◌, ◌++◌, Option, Some, refl, ◌∙◌, arith}
 use Rattle.std.specs.Prelude.{codes}
 use Rattle.monitor_calls.specs.declared.names.Account.{Account}
 use Rattle.monitor_calls.specs.declared.files.FileName.{FileName}
@@ -9,8 +9,7 @@ use Rattle.monitor_calls.specs.declared.calls.Request.TheVariants.{Login, Logout
 use Rattle.monitor_calls.specs.Proper.{IsProperRequest}
 use Rattle.std.specs.Fmt.{decimal}
 use Rattle.deck_model.specs.Histories.{hex_or_dash, pages_text, account_digits, truth_text, number_or_dash, letters_or_dash, printed_name, kind_text, fields, request_text}
-use Rattle.history_reader.specs.LineFields.{word_in}
-use Rattle.history_reader.specs.LineForms.{with_rest, bare_in, login_in, open_in, close_in, get_in, put_in, getrec_in, putrec_in, unlock_in, kill_in, rename_in, directory_in, declare_in, send_in, sleep_in, print_in, job_request_in, block_request_in, file_request_in, request_in}
+use Rattle.history_reader.specs.LineForms.{with_rest, bare_read, login_read, open_read, close_read, get_read, put_read, getrec_read, putrec_read, unlock_read, kill_read, rename_read, directory_read, declare_read, send_read, sleep_read, print_read, job_request_read, block_request_read, file_request_read, request_read}
 use Rattle.history_reader.proofs.WordLaws.{joined, is_plain, ArePlain, decimal_plain, word_again}
 use Rattle.history_reader.proofs.FieldLaws.{byte_field, half_field, account_plain, account_field, short_plain, letters_field, printed_plain, name_field, truth_plain, truth_field, kind_plain, kind_field, code_plain, code_field, dash_plain, password_field, message_field, page_field, pages_plain, pages_field}
 
@@ -127,89 +126,89 @@ request_plain Status good = (refl, tt)
 
 -- ---- what is read of the fields
 
-login_again : (account : Account) (password : List ℕ) (words : List (List ℕ)) → IsProperRequest (Login account password) → login_in (joined (account_digits account ∷ hex_or_dash password ∷ words)) ≡ Some (Login account password, joined words)
-unfolding login_in
+login_again : (account : Account) (password : List ℕ) (words : List (List ℕ)) → IsProperRequest (Login account password) → login_read (joined (account_digits account ∷ hex_or_dash password ∷ words)) ≡ Some (Login account password, joined words)
+unfolding login_read
 login_again account password words good =
     rw (account_field account (hex_or_dash password ∷ words) good.0, password_field password words good.1) refl
 
-open_again : (channel : ℕ) (name : FileName) (kind : OpenKind) (update : Bool) (code : Option ℕ) (words : List (List ℕ)) → IsProperRequest (OpenFile channel name kind update code) → open_in (joined (decimal channel ∷ printed_name name ∷ kind_text kind ∷ truth_text update ∷ number_or_dash code ∷ words)) ≡ Some (OpenFile channel name kind update code, joined words)
-unfolding open_in
+open_again : (channel : ℕ) (name : FileName) (kind : OpenKind) (update : Bool) (code : Option ℕ) (words : List (List ℕ)) → IsProperRequest (OpenFile channel name kind update code) → open_read (joined (decimal channel ∷ printed_name name ∷ kind_text kind ∷ truth_text update ∷ number_or_dash code ∷ words)) ≡ Some (OpenFile channel name kind update code, joined words)
+unfolding open_read
 open_again channel name kind update code words good =
     rw (byte_field channel (printed_name name ∷ kind_text kind ∷ truth_text update ∷ number_or_dash code ∷ words) good.0, name_field name (kind_text kind ∷ truth_text update ∷ number_or_dash code ∷ words) good.1.0, kind_field kind (truth_text update ∷ number_or_dash code ∷ words), truth_field update (number_or_dash code ∷ words), code_field code words good.1.1) refl
 
-close_again : (channel : ℕ) (words : List (List ℕ)) → IsProperRequest (CloseFile channel) → close_in (joined (decimal channel ∷ words)) ≡ Some (CloseFile channel, joined words)
-unfolding close_in
+close_again : (channel : ℕ) (words : List (List ℕ)) → IsProperRequest (CloseFile channel) → close_read (joined (decimal channel ∷ words)) ≡ Some (CloseFile channel, joined words)
+unfolding close_read
 close_again channel words good =
     rw (byte_field channel words good) refl
 
-get_again : (channel : ℕ) (block : ℕ) (words : List (List ℕ)) → IsProperRequest (Get channel block) → get_in (joined (decimal channel ∷ decimal block ∷ words)) ≡ Some (Get channel block, joined words)
-unfolding get_in
+get_again : (channel : ℕ) (block : ℕ) (words : List (List ℕ)) → IsProperRequest (Get channel block) → get_read (joined (decimal channel ∷ decimal block ∷ words)) ≡ Some (Get channel block, joined words)
+unfolding get_read
 get_again channel block words good =
     rw (byte_field channel (decimal block ∷ words) good.0, half_field block words good.1) refl
 
-put_again : (channel : ℕ) (block : ℕ) (page : List ℕ) (words : List (List ℕ)) → IsProperRequest (Put channel block page) → put_in (joined (decimal channel ∷ decimal block ∷ hex_or_dash page ∷ words)) ≡ Some (Put channel block page, joined words)
-unfolding put_in
+put_again : (channel : ℕ) (block : ℕ) (page : List ℕ) (words : List (List ℕ)) → IsProperRequest (Put channel block page) → put_read (joined (decimal channel ∷ decimal block ∷ hex_or_dash page ∷ words)) ≡ Some (Put channel block page, joined words)
+unfolding put_read
 put_again channel block page words good =
     rw (byte_field channel (decimal block ∷ hex_or_dash page ∷ words) good.0, half_field block (hex_or_dash page ∷ words) good.1.0, page_field page words good.1.1) refl
 
-getrec_again : (channel : ℕ) (block : ℕ) (count : ℕ) (words : List (List ℕ)) → IsProperRequest (GetRecord channel block count) → getrec_in (joined (decimal channel ∷ decimal block ∷ decimal count ∷ words)) ≡ Some (GetRecord channel block count, joined words)
-unfolding getrec_in
+getrec_again : (channel : ℕ) (block : ℕ) (count : ℕ) (words : List (List ℕ)) → IsProperRequest (GetRecord channel block count) → getrec_read (joined (decimal channel ∷ decimal block ∷ decimal count ∷ words)) ≡ Some (GetRecord channel block count, joined words)
+unfolding getrec_read
 getrec_again channel block count words good =
     rw (byte_field channel (decimal block ∷ decimal count ∷ words) good.0, half_field block (decimal count ∷ words) good.1.0, byte_field count words good.1.1) refl
 
-putrec_again : (channel : ℕ) (block : ℕ) (pages : List (List ℕ)) (words : List (List ℕ)) → IsProperRequest (PutRecord channel block pages) → putrec_in (joined (decimal channel ∷ decimal block ∷ pages_text pages ∷ words)) ≡ Some (PutRecord channel block pages, joined words)
-unfolding putrec_in
+putrec_again : (channel : ℕ) (block : ℕ) (pages : List (List ℕ)) (words : List (List ℕ)) → IsProperRequest (PutRecord channel block pages) → putrec_read (joined (decimal channel ∷ decimal block ∷ pages_text pages ∷ words)) ≡ Some (PutRecord channel block pages, joined words)
+unfolding putrec_read
 putrec_again channel block pages words good =
     rw (byte_field channel (decimal block ∷ pages_text pages ∷ words) good.0, half_field block (pages_text pages ∷ words) good.1.0, pages_field pages words good.1.1) refl
 
-unlock_again : (channel : ℕ) (words : List (List ℕ)) → IsProperRequest (Unlock channel) → unlock_in (joined (decimal channel ∷ words)) ≡ Some (Unlock channel, joined words)
-unfolding unlock_in
+unlock_again : (channel : ℕ) (words : List (List ℕ)) → IsProperRequest (Unlock channel) → unlock_read (joined (decimal channel ∷ words)) ≡ Some (Unlock channel, joined words)
+unfolding unlock_read
 unlock_again channel words good =
     rw (byte_field channel words good) refl
 
-kill_again : (name : FileName) (words : List (List ℕ)) → IsProperRequest (Kill name) → kill_in (joined (printed_name name ∷ words)) ≡ Some (Kill name, joined words)
-unfolding kill_in
+kill_again : (name : FileName) (words : List (List ℕ)) → IsProperRequest (Kill name) → kill_read (joined (printed_name name ∷ words)) ≡ Some (Kill name, joined words)
+unfolding kill_read
 kill_again name words good =
     rw (name_field name words good) refl
 
-rename_again : (old : FileName) (new : FileName) (code : Option ℕ) (words : List (List ℕ)) → IsProperRequest (Rename old new code) → rename_in (joined (printed_name old ∷ printed_name new ∷ number_or_dash code ∷ words)) ≡ Some (Rename old new code, joined words)
-unfolding rename_in
+rename_again : (old : FileName) (new : FileName) (code : Option ℕ) (words : List (List ℕ)) → IsProperRequest (Rename old new code) → rename_read (joined (printed_name old ∷ printed_name new ∷ number_or_dash code ∷ words)) ≡ Some (Rename old new code, joined words)
+unfolding rename_read
 rename_again old new code words good =
     rw (name_field old (printed_name new ∷ number_or_dash code ∷ words) good.0, name_field new (number_or_dash code ∷ words) good.1.0, code_field code words good.1.1) refl
 
-directory_again : (owner : Account) (index : ℕ) (words : List (List ℕ)) → IsProperRequest (Directory owner index) → directory_in (joined (account_digits owner ∷ decimal index ∷ words)) ≡ Some (Directory owner index, joined words)
-unfolding directory_in
+directory_again : (owner : Account) (index : ℕ) (words : List (List ℕ)) → IsProperRequest (Directory owner index) → directory_read (joined (account_digits owner ∷ decimal index ∷ words)) ≡ Some (Directory owner index, joined words)
+unfolding directory_read
 directory_again owner index words good =
     rw (account_field owner (decimal index ∷ words) good.0, half_field index words good.1) refl
 
-declare_again : (name : List ℕ) (most : ℕ) (words : List (List ℕ)) → IsProperRequest (Declare name most) → declare_in (joined (letters_or_dash name ∷ decimal most ∷ words)) ≡ Some (Declare name most, joined words)
-unfolding declare_in
+declare_again : (name : List ℕ) (most : ℕ) (words : List (List ℕ)) → IsProperRequest (Declare name most) → declare_read (joined (letters_or_dash name ∷ decimal most ∷ words)) ≡ Some (Declare name most, joined words)
+unfolding declare_read
 declare_again name most words good =
     rw (letters_field name (decimal most ∷ words) good.0, byte_field most words good.1) refl
 
-send_again : (name : List ℕ) (text : List ℕ) (words : List (List ℕ)) → IsProperRequest (Send name text) → send_in (joined (letters_or_dash name ∷ hex_or_dash text ∷ words)) ≡ Some (Send name text, joined words)
-unfolding send_in
+send_again : (name : List ℕ) (text : List ℕ) (words : List (List ℕ)) → IsProperRequest (Send name text) → send_read (joined (letters_or_dash name ∷ hex_or_dash text ∷ words)) ≡ Some (Send name text, joined words)
+unfolding send_read
 send_again name text words good =
     rw (letters_field name (hex_or_dash text ∷ words) good.0, message_field text words good.1) refl
 
-sleep_again : (seconds : ℕ) (words : List (List ℕ)) → IsProperRequest (Sleep seconds) → sleep_in (joined (decimal seconds ∷ words)) ≡ Some (Sleep seconds, joined words)
-unfolding sleep_in
+sleep_again : (seconds : ℕ) (words : List (List ℕ)) → IsProperRequest (Sleep seconds) → sleep_read (joined (decimal seconds ∷ words)) ≡ Some (Sleep seconds, joined words)
+unfolding sleep_read
 sleep_again seconds words good =
     rw (half_field seconds words good) refl
 
-print_again : (text : List ℕ) (words : List (List ℕ)) → IsProperRequest (Print text) → print_in (joined (hex_or_dash text ∷ words)) ≡ Some (Print text, joined words)
-unfolding print_in
+print_again : (text : List ℕ) (words : List (List ℕ)) → IsProperRequest (Print text) → print_read (joined (hex_or_dash text ∷ words)) ≡ Some (Print text, joined words)
+unfolding print_read
 print_again text words good =
     rw (message_field text words good) refl
 
 -- ---- what is read of the words
 
-by_word : (word : List ℕ) (words : List (List ℕ)) → is_plain word ≡ true → request_in (joined (word ∷ words)) ≡ with_rest (bare_in word) (joined words) (file_request_in word (joined words))
-unfolding request_in
+by_word : (word : List ℕ) (words : List (List ℕ)) → is_plain word ≡ true → request_read (joined (word ∷ words)) ≡ with_rest (bare_read word) (joined words) (file_request_read word (joined words))
+unfolding request_read
 by_word word words plain = rw (word_again word words plain) refl
 
-pub request_again : (r : Request) (words : List (List ℕ)) → IsProperRequest r → request_in (joined (request_word r ∷ (request_fields r ++ words))) ≡ Some (r, joined words)
-unfolding bare_in file_request_in block_request_in job_request_in
+pub request_again : (r : Request) (words : List (List ℕ)) → IsProperRequest r → request_read (joined (request_word r ∷ (request_fields r ++ words))) ≡ Some (r, joined words)
+unfolding bare_read file_request_read block_request_read job_request_read
 request_again (Login account password) words good = by_word (codes "LOGIN") (account_digits account ∷ hex_or_dash password ∷ words) refl ∙ login_again account password words good
 request_again Logout words good = by_word (codes "LOGOUT") words refl
 request_again (OpenFile channel name kind update code) words good = by_word (codes "OPEN") (decimal channel ∷ printed_name name ∷ kind_text kind ∷ truth_text update ∷ number_or_dash code ∷ words) refl ∙ open_again channel name kind update code words good

@@ -1,6 +1,6 @@
 -- Words with a space between them: the first of them is found again.
-use Rattle.std.proofs.Common.{◌≡◌, ℕ, ◌<◌, ◌^◌, Bool, true, List, [], ◌∷◌, ◌++◌, Option, Some, refl, sym, ap, ◌∙◌, arith}
-use Rattle.std.specs.Prelude.{nat_lt, codes}
+use Rattle.std.proofs.Common.{◌≡◌, ℕ, ◌<◌, ◌^◌, Bool, true, List, [], ◌∷◌, ◌++◌, Option, Some, refl, ap, arith}
+use Rattle.std.specs.Prelude.{nat_lt}
 use Rattle.std.specs.List.{list_all, AllByRecursion}
 use Rattle.std.specs.Fmt.{decimal}
 use Rattle.std.specs.Int.{IsInRange}
@@ -11,7 +11,7 @@ use Rattle.std.proofs.lemmas.List.{append-nil}
 use Rattle.std.proofs.lemmas.Str.Parse.{digit_from_value}
 use Rattle.deck_model.specs.Histories.{fields}
 use Rattle.basic_values.proofs.CutLaws.{Lacks, lacks_both, kind_lacks, and_left, and_right, and_both, cut_again, cut_nowhere}
-use Rattle.history_reader.specs.LineFields.{parts_or, word_in, field_by}
+use Rattle.history_reader.specs.LineFields.{parts_or, word_read, field_by}
 
 -- the words with a space between
 abbrev pub joined : List (List ℕ) → List ℕ
@@ -66,8 +66,8 @@ decimal_plain n small = digits_plain (decimal n) (decimal_is_IsNumeral n small).
 
 -- ---- the first word
 
-pub word_again : (word : List ℕ) (words : List (List ℕ)) → is_plain word ≡ true → word_in (joined (word ∷ words)) ≡ (word, joined words)
-unfolding word_in
+pub word_again : (word : List ℕ) (words : List (List ℕ)) → is_plain word ≡ true → word_read (joined (word ∷ words)) ≡ (word, joined words)
+unfolding word_read
 word_again word [] plain = ap (parts_or word) (cut_nowhere 32 word (lacks_space word plain))
 word_again word (next ∷ words) plain =
     ap (parts_or (word ++ 32 ∷ joined (next ∷ words))) (cut_again 32 word (joined (next ∷ words)) (lacks_space word plain))

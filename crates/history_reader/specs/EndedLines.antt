@@ -3,15 +3,15 @@ use Rattle.std.specs.Prelude.{ℕ, ◌==◌, if◌then◌else◌, List, [], ◌�
 use Rattle.std.specs.List.{flat_map}
 
 -- one byte more in front of the first line; a byte that no line has behind it is in none
-abbrev pub in_front : ℕ → List (List ℕ) → List (List ℕ)
-in_front byte [] = []
-in_front byte (line ∷ lines) = (byte ∷ line) ∷ lines
+abbrev pub onto_line : ℕ → List (List ℕ) → List (List ℕ)
+onto_line byte [] = []
+onto_line byte (line ∷ lines) = (byte ∷ line) ∷ lines
 
 -- the lines that end by a LF, each without it
 abbrev pub ended_lines : List ℕ → List (List ℕ)
 ended_lines [] = []
 ended_lines (byte ∷ text) =
-    if byte == 10 then [] ∷ ended_lines text else in_front byte (ended_lines text)
+    if byte == 10 then [] ∷ ended_lines text else onto_line byte (ended_lines text)
 
 -- the lines, each with its LF behind it
 abbrev pub with_feeds : List (List ℕ) → List ℕ

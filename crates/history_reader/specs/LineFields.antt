@@ -29,74 +29,74 @@ parts_or text None = (text, [])
 parts_or text (Some parts) = parts
 
 -- the first word of a text, and what stands behind the space behind it
-unfoldable pub word_in : List ℕ → List ℕ × List ℕ
-word_in text = parts_or text (cut 32 text)
+unfoldable pub word_read : List ℕ → List ℕ × List ℕ
+word_read text = parts_or text (cut 32 text)
 
 -- what the first word says, and what stands behind the space behind it
 unfoldable pub field_by : {A : Type 0} → (List ℕ → Option A) → List ℕ → Option (A × List ℕ)
 field_by read text = do
-  value ← read (word_in text).0
-  Some (value, (word_in text).1)
+  value ← read (word_read text).0
+  Some (value, (word_read text).1)
 
 -- NUMBERS AND NAMES
 
-unfoldable pub byte_in : List ℕ → Option ℕ
-byte_in text = number_between 0 255 text
+unfoldable pub byte_read : List ℕ → Option ℕ
+byte_read text = number_between 0 255 text
 
-unfoldable pub half_in : List ℕ → Option ℕ
-half_in text = number_between 0 65535 text
+unfoldable pub half_read : List ℕ → Option ℕ
+half_read text = number_between 0 65535 text
 
-unfoldable pub long_in : List ℕ → Option ℕ
-long_in text = number_between 0 4294967295 text
+unfoldable pub long_read : List ℕ → Option ℕ
+long_read text = number_between 0 4294967295 text
 
-unfoldable pub account_in : List ℕ → Option Account
-account_in text = do
+unfoldable pub account_read : List ℕ → Option Account
+account_read text = do
   parts ← cut 44 text
-  project ← byte_in parts.0
-  programmer ← byte_in parts.1
+  project ← byte_read parts.0
+  programmer ← byte_read parts.1
   Some (record { project = project; programmer = programmer })
 
-unfoldable pub short_in : List ℕ → Option (List ℕ)
-short_in text = if is_short_text text then Some text else None
+unfoldable pub short_read : List ℕ → Option (List ℕ)
+short_read text = if is_short_text text then Some text else None
 
 -- a stem, and the extension behind the first point
 abbrev pub stem_of : List ℕ → Option (List ℕ × List ℕ) → List ℕ × List ℕ
 stem_of text None = (text, [])
 stem_of text (Some parts) = parts
 
-unfoldable pub name_in : List ℕ → Option FileName
-name_in text = do
+unfoldable pub name_read : List ℕ → Option FileName
+name_read text = do
   inside ← behind (codes "[") text
   parts ← cut 93 inside
-  owner ← account_in parts.0
-  stem ← short_in (stem_of parts.1 (cut 46 parts.1)).0
-  extension ← short_in (stem_of parts.1 (cut 46 parts.1)).1
+  owner ← account_read parts.0
+  stem ← short_read (stem_of parts.1 (cut 46 parts.1)).0
+  extension ← short_read (stem_of parts.1 (cut 46 parts.1)).1
   Some (record { owner = owner; stem = stem; extension = extension })
 
-unfoldable pub letters_in : List ℕ → Option (List ℕ)
-letters_in text = if bytes_eq text (codes "-") then Some [] else short_in text
+unfoldable pub letters_read : List ℕ → Option (List ℕ)
+letters_read text = if bytes_eq text (codes "-") then Some [] else short_read text
 
-unfoldable pub truth_in : List ℕ → Option Bool
-truth_in text =
+unfoldable pub truth_read : List ℕ → Option Bool
+truth_read text =
     if bytes_eq text (codes "1") then Some true
     else if bytes_eq text (codes "0") then Some false else None
 
-unfoldable pub kind_in : List ℕ → Option OpenKind
-kind_in text =
+unfoldable pub kind_read : List ℕ → Option OpenKind
+kind_read text =
     if bytes_eq text (codes "INPUT") then Some Input
     else if bytes_eq text (codes "OUTPUT") then Some Output
     else if bytes_eq text (codes "EITHER") then Some Either
     else if bytes_eq text (codes "FRESH") then Some Fresh else None
 
 -- a number that a dash may stand for
-unfoldable pub code_in : List ℕ → Option (Option ℕ)
-code_in text = if bytes_eq text (codes "-") then Some None else do
-  code ← byte_in text
+unfoldable pub code_read : List ℕ → Option (Option ℕ)
+code_read text = if bytes_eq text (codes "-") then Some None else do
+  code ← byte_read text
   Some (Some code)
 
-unfoldable pub blocks_in : List ℕ → Option (Option ℕ)
-blocks_in text = if bytes_eq text (codes "-") then Some None else do
-  blocks ← half_in text
+unfoldable pub blocks_read : List ℕ → Option (Option ℕ)
+blocks_read text = if bytes_eq text (codes "-") then Some None else do
+  blocks ← half_read text
   Some (Some blocks)
 
 -- BYTES
@@ -112,14 +112,14 @@ hex_bytes [] = []
 hex_bytes (high ∷ []) = []
 hex_bytes (high ∷ low ∷ signs) = (16 * sign_value high + sign_value low) ∷ hex_bytes signs
 
-unfoldable pub password_in : List ℕ → Option (List ℕ)
-password_in text = short_in (hex_bytes text)
+unfoldable pub password_read : List ℕ → Option (List ℕ)
+password_read text = short_read (hex_bytes text)
 
-unfoldable pub message_in : List ℕ → Option (List ℕ)
-message_in text = if nat_le (length (hex_bytes text)) MOST_BYTES then Some (hex_bytes text) else None
+unfoldable pub message_read : List ℕ → Option (List ℕ)
+message_read text = if nat_le (length (hex_bytes text)) MOST_BYTES then Some (hex_bytes text) else None
 
-unfoldable pub page_in : List ℕ → Option (List ℕ)
-page_in text = if length (hex_bytes text) == BLOCK_BYTES then Some (hex_bytes text) else None
+unfoldable pub one_page_read : List ℕ → Option (List ℕ)
+one_page_read text = if length (hex_bytes text) == BLOCK_BYTES then Some (hex_bytes text) else None
 
-unfoldable pub pages_in : List ℕ → Option (List (List ℕ))
-pages_in text = Some (pages_of (length (hex_bytes text) / BLOCK_BYTES) (hex_bytes text))
+unfoldable pub page_run_read : List ℕ → Option (List (List ℕ))
+page_run_read text = Some (pages_of (length (hex_bytes text) / BLOCK_BYTES) (hex_bytes text))

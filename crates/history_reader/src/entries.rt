@@ -5,7 +5,7 @@ ghost use Rattle.basic_values.specs.Cuts.{behind};
 ghost use Rattle.monitor_calls.specs.Proper.{IsProperEntry};
 ghost use Rattle.deck_model.specs.Histories.{entry_line};
 ghost use Rattle.history_reader.specs.LineFields.{Gives};
-ghost use Rattle.history_reader.specs.LineForms.{entry_in, taken_in};
+ghost use Rattle.history_reader.specs.LineForms.{entry_read, taken_read};
 ghost use Rattle.history_reader.specs.SoFar.{TakesEntry};
 
 use crate::failures::LineError;
@@ -30,9 +30,9 @@ pub(crate) fn entry(alloc: Global, text: &[u8]) -> Result<(Entry, &[u8]), LineEr
 }
 
 /// The entry of a line, and what stands behind it in the text that it is in front of.
-#[tactic(auto, unfolding(crate::specs::LineForms::taken_in))]
+#[tactic(auto, unfolding(crate::specs::LineForms::taken_read))]
 fn taken<'a>(alloc: Global, line: &[u8], text: &'a [u8]) -> Result<(Entry, &'a [u8]), LineError>
-    ensures read { Gives (λ x. (x.0, x.1.now)) result (taken_in line.now text.now) }
+    ensures read { Gives (λ x. (x.0, x.1.now)) result (taken_read line.now text.now) }
     ensures proper { IfOk result (λ x. IsProperEntry x.0) }
 {
     let entry = parsed(alloc, line)?;
@@ -41,9 +41,9 @@ fn taken<'a>(alloc: Global, line: &[u8], text: &'a [u8]) -> Result<(Entry, &'a [
 }
 
 /// What a line says, where it is an entry's.
-#[tactic(auto, unfolding(crate::specs::LineForms::entry_in))]
+#[tactic(auto, unfolding(crate::specs::LineForms::entry_read))]
 fn parsed(alloc: Global, line: &[u8]) -> Result<Entry, LineError>
-    ensures read { Gives (λ x. x) result (entry_in line.now) }
+    ensures read { Gives (λ x. x) result (entry_read line.now) }
     ensures proper { IfOk result (λ entry. IsProperEntry entry) }
 {
     let (job, rest) = long_field(line)?;

@@ -2,7 +2,7 @@
 
 ghost use Rattle.std.specs.Prelude.{◌≡◌};
 ghost use Rattle.history_reader.specs.LineFields.{Gives};
-ghost use Rattle.history_reader.specs.LineForms.{opened_in, block_in, record_in, file_reply_in, letter_in, state_in, failed_in, told_reply_in, reply_by, reply_in};
+ghost use Rattle.history_reader.specs.LineForms.{opened_read, block_read, record_read, file_reply_read, letter_read, state_read, failed_read, told_reply_read, reply_by, reply_read};
 
 use crate::failures::LineError;
 use crate::fields::{
@@ -14,9 +14,9 @@ use monitor_calls::Reply;
 use std::alloc::Global;
 
 /// The reply that a text begins with.
-#[tactic(auto, unfolding(crate::specs::LineForms::reply_in))]
+#[tactic(auto, unfolding(crate::specs::LineForms::reply_read))]
 pub(crate) fn reply(alloc: Global, text: &[u8]) -> Result<Reply, LineError>
-    ensures { Gives (λ x. x) result (reply_in text.now) }
+    ensures { Gives (λ x. x) result (reply_read text.now) }
 {
     let (word, rest) = word(text);
     reply_by(alloc, word, rest)
@@ -44,9 +44,9 @@ fn reply_by(alloc: Global, word: &[u8], rest: &[u8]) -> Result<Reply, LineError>
 }
 
 /// A reply that tells of a file, of a message or of the job.
-#[tactic(auto, unfolding(crate::specs::LineForms::told_reply_in))]
+#[tactic(auto, unfolding(crate::specs::LineForms::told_reply_read))]
 fn told_reply(alloc: Global, word: &[u8], rest: &[u8]) -> Result<Reply, LineError>
-    ensures { Gives (λ x. x) result (told_reply_in word.now rest.now) }
+    ensures { Gives (λ x. x) result (told_reply_read word.now rest.now) }
 {
     if word == b"NAME".as_slice() {
         file_reply(rest)
@@ -59,17 +59,17 @@ fn told_reply(alloc: Global, word: &[u8], rest: &[u8]) -> Result<Reply, LineErro
     }
 }
 
-#[tactic(auto, unfolding(crate::specs::LineForms::failed_in))]
+#[tactic(auto, unfolding(crate::specs::LineForms::failed_read))]
 fn failed(text: &[u8]) -> Result<Reply, LineError>
-    ensures { Gives (λ x. x) result (failed_in text.now) }
+    ensures { Gives (λ x. x) result (failed_read text.now) }
 {
     let (number, _) = byte_field(text)?;
     Ok(Reply::Failed(Fault::new(number)))
 }
 
-#[tactic(auto, unfolding(crate::specs::LineForms::opened_in))]
+#[tactic(auto, unfolding(crate::specs::LineForms::opened_read))]
 fn opened(text: &[u8]) -> Result<Reply, LineError>
-    ensures { Gives (λ x. x) result (opened_in text.now) }
+    ensures { Gives (λ x. x) result (opened_read text.now) }
 {
     let (blocks, rest) = half_field(text)?;
     let (read, rest) = truth_field(rest)?;
@@ -81,25 +81,25 @@ fn opened(text: &[u8]) -> Result<Reply, LineError>
     })
 }
 
-#[tactic(auto, unfolding(crate::specs::LineForms::block_in))]
+#[tactic(auto, unfolding(crate::specs::LineForms::block_read))]
 fn block(alloc: Global, text: &[u8]) -> Result<Reply, LineError>
-    ensures { Gives (λ x. x) result (block_in text.now) }
+    ensures { Gives (λ x. x) result (block_read text.now) }
 {
     let (page, _) = page_field(alloc, text)?;
     Ok(Reply::Block(page))
 }
 
-#[tactic(auto, unfolding(crate::specs::LineForms::record_in))]
+#[tactic(auto, unfolding(crate::specs::LineForms::record_read))]
 fn record(alloc: Global, text: &[u8]) -> Result<Reply, LineError>
-    ensures { Gives (λ x. x) result (record_in text.now) }
+    ensures { Gives (λ x. x) result (record_read text.now) }
 {
     let (pages, _) = pages_field(alloc, text)?;
     Ok(Reply::Record(pages))
 }
 
-#[tactic(auto, unfolding(crate::specs::LineFields::field_by, crate::specs::LineForms::file_reply_in))]
+#[tactic(auto, unfolding(crate::specs::LineFields::field_by, crate::specs::LineForms::file_reply_read))]
 fn file_reply(text: &[u8]) -> Result<Reply, LineError>
-    ensures { Gives (λ x. x) result (file_reply_in text.now) }
+    ensures { Gives (λ x. x) result (file_reply_read text.now) }
 {
     let (text, rest) = word(text);
     let name = name(text).ok_or(LineError::Wrong)?;
@@ -108,9 +108,9 @@ fn file_reply(text: &[u8]) -> Result<Reply, LineError>
     Ok(Reply::Name { name, code, blocks })
 }
 
-#[tactic(auto, unfolding(crate::specs::LineForms::letter_in))]
+#[tactic(auto, unfolding(crate::specs::LineForms::letter_read))]
 fn message(alloc: Global, text: &[u8]) -> Result<Reply, LineError>
-    ensures { Gives (λ x. x) result (letter_in text.now) }
+    ensures { Gives (λ x. x) result (letter_read text.now) }
 {
     let (job, rest) = long_field(text)?;
     let (account, rest) = account_field(rest)?;
@@ -122,9 +122,9 @@ fn message(alloc: Global, text: &[u8]) -> Result<Reply, LineError>
     })
 }
 
-#[tactic(auto, unfolding(crate::specs::LineForms::state_in))]
+#[tactic(auto, unfolding(crate::specs::LineForms::state_read))]
 fn state(text: &[u8]) -> Result<Reply, LineError>
-    ensures { Gives (λ x. x) result (state_in text.now) }
+    ensures { Gives (λ x. x) result (state_read text.now) }
 {
     let (job, rest) = long_field(text)?;
     let (account, rest) = account_field(rest)?;

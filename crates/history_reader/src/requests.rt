@@ -2,7 +2,7 @@
 
 ghost use Rattle.std.specs.Prelude.{◌≡◌};
 ghost use Rattle.history_reader.specs.LineFields.{Gives};
-ghost use Rattle.history_reader.specs.LineForms.{bare_in, login_in, open_in, close_in, get_in, put_in, getrec_in, putrec_in, unlock_in, kill_in, rename_in, directory_in, declare_in, send_in, sleep_in, print_in, job_request_in, block_request_in, file_request_in, request_in};
+ghost use Rattle.history_reader.specs.LineForms.{bare_read, login_read, open_read, close_read, get_read, put_read, getrec_read, putrec_read, unlock_read, kill_read, rename_read, directory_read, declare_read, send_read, sleep_read, print_read, job_request_read, block_request_read, file_request_read, request_read};
 
 use crate::failures::LineError;
 use crate::fields::{
@@ -13,9 +13,9 @@ use monitor_calls::Request;
 use std::alloc::Global;
 
 /// The request that a text begins with, and what stands behind it.
-#[tactic(auto, unfolding(crate::specs::LineForms::request_in))]
+#[tactic(auto, unfolding(crate::specs::LineForms::request_read))]
 pub(crate) fn request(alloc: Global, text: &[u8]) -> Result<(Request, &[u8]), LineError>
-    ensures { Gives (λ x. (x.0, x.1.now)) result (request_in text.now) }
+    ensures { Gives (λ x. (x.0, x.1.now)) result (request_read text.now) }
 {
     let (word, rest) = word(text);
     match bare(word) {
@@ -25,9 +25,9 @@ pub(crate) fn request(alloc: Global, text: &[u8]) -> Result<(Request, &[u8]), Li
 }
 
 /// A request of one word.
-#[tactic(auto, unfolding(crate::specs::LineForms::bare_in))]
+#[tactic(auto, unfolding(crate::specs::LineForms::bare_read))]
 fn bare(word: &[u8]) -> Option<Request>
-    ensures { result ≡ bare_in word.now }
+    ensures { result ≡ bare_read word.now }
 {
     if word == b"TICK".as_slice() {
         Some(Request::Tick)
@@ -53,13 +53,13 @@ fn bare(word: &[u8]) -> Option<Request>
 }
 
 /// A request of files, or of what comes behind.
-#[tactic(auto, unfolding(crate::specs::LineForms::file_request_in))]
+#[tactic(auto, unfolding(crate::specs::LineForms::file_request_read))]
 fn file_request<'a>(
     alloc: Global,
     word: &[u8],
     rest: &'a [u8],
 ) -> Result<(Request, &'a [u8]), LineError>
-    ensures { Gives (λ x. (x.0, x.1.now)) result (file_request_in word.now rest.now) }
+    ensures { Gives (λ x. (x.0, x.1.now)) result (file_request_read word.now rest.now) }
 {
     if word == b"OPEN".as_slice() {
         open(rest)
@@ -77,13 +77,13 @@ fn file_request<'a>(
 }
 
 /// A request of blocks, or of what comes behind.
-#[tactic(auto, unfolding(crate::specs::LineForms::block_request_in))]
+#[tactic(auto, unfolding(crate::specs::LineForms::block_request_read))]
 fn block_request<'a>(
     alloc: Global,
     word: &[u8],
     rest: &'a [u8],
 ) -> Result<(Request, &'a [u8]), LineError>
-    ensures { Gives (λ x. (x.0, x.1.now)) result (block_request_in word.now rest.now) }
+    ensures { Gives (λ x. (x.0, x.1.now)) result (block_request_read word.now rest.now) }
 {
     if word == b"GET".as_slice() {
         get(rest)
@@ -101,13 +101,13 @@ fn block_request<'a>(
 }
 
 /// A request of a login, of messages, of rest or of a listing.
-#[tactic(auto, unfolding(crate::specs::LineForms::job_request_in))]
+#[tactic(auto, unfolding(crate::specs::LineForms::job_request_read))]
 fn job_request<'a>(
     alloc: Global,
     word: &[u8],
     rest: &'a [u8],
 ) -> Result<(Request, &'a [u8]), LineError>
-    ensures { Gives (λ x. (x.0, x.1.now)) result (job_request_in word.now rest.now) }
+    ensures { Gives (λ x. (x.0, x.1.now)) result (job_request_read word.now rest.now) }
 {
     if word == b"LOGIN".as_slice() {
         login(alloc, rest)
@@ -124,9 +124,9 @@ fn job_request<'a>(
     }
 }
 
-#[tactic(auto, unfolding(crate::specs::LineFields::field_by, crate::specs::LineForms::login_in))]
+#[tactic(auto, unfolding(crate::specs::LineFields::field_by, crate::specs::LineForms::login_read))]
 fn login(alloc: Global, text: &[u8]) -> Result<(Request, &[u8]), LineError>
-    ensures { Gives (λ x. (x.0, x.1.now)) result (login_in text.now) }
+    ensures { Gives (λ x. (x.0, x.1.now)) result (login_read text.now) }
 {
     let (account, rest) = account_field(text)?;
     let (text, rest) = word(rest);
@@ -134,9 +134,9 @@ fn login(alloc: Global, text: &[u8]) -> Result<(Request, &[u8]), LineError>
     Ok((Request::Login { account, password }, rest))
 }
 
-#[tactic(auto, unfolding(crate::specs::LineFields::field_by, crate::specs::LineForms::open_in))]
+#[tactic(auto, unfolding(crate::specs::LineFields::field_by, crate::specs::LineForms::open_read))]
 fn open(text: &[u8]) -> Result<(Request, &[u8]), LineError>
-    ensures { Gives (λ x. (x.0, x.1.now)) result (open_in text.now) }
+    ensures { Gives (λ x. (x.0, x.1.now)) result (open_read text.now) }
 {
     let (channel, rest) = byte_field(text)?;
     let (text, rest) = word(rest);
@@ -156,26 +156,26 @@ fn open(text: &[u8]) -> Result<(Request, &[u8]), LineError>
     ))
 }
 
-#[tactic(auto, unfolding(crate::specs::LineForms::close_in))]
+#[tactic(auto, unfolding(crate::specs::LineForms::close_read))]
 fn close(text: &[u8]) -> Result<(Request, &[u8]), LineError>
-    ensures { Gives (λ x. (x.0, x.1.now)) result (close_in text.now) }
+    ensures { Gives (λ x. (x.0, x.1.now)) result (close_read text.now) }
 {
     let (channel, rest) = byte_field(text)?;
     Ok((Request::CloseFile { channel }, rest))
 }
 
-#[tactic(auto, unfolding(crate::specs::LineForms::get_in))]
+#[tactic(auto, unfolding(crate::specs::LineForms::get_read))]
 fn get(text: &[u8]) -> Result<(Request, &[u8]), LineError>
-    ensures { Gives (λ x. (x.0, x.1.now)) result (get_in text.now) }
+    ensures { Gives (λ x. (x.0, x.1.now)) result (get_read text.now) }
 {
     let (channel, rest) = byte_field(text)?;
     let (block, rest) = half_field(rest)?;
     Ok((Request::Get { channel, block }, rest))
 }
 
-#[tactic(auto, unfolding(crate::specs::LineForms::put_in))]
+#[tactic(auto, unfolding(crate::specs::LineForms::put_read))]
 fn put(alloc: Global, text: &[u8]) -> Result<(Request, &[u8]), LineError>
-    ensures { Gives (λ x. (x.0, x.1.now)) result (put_in text.now) }
+    ensures { Gives (λ x. (x.0, x.1.now)) result (put_read text.now) }
 {
     let (channel, rest) = byte_field(text)?;
     let (block, rest) = half_field(rest)?;
@@ -190,9 +190,9 @@ fn put(alloc: Global, text: &[u8]) -> Result<(Request, &[u8]), LineError>
     ))
 }
 
-#[tactic(auto, unfolding(crate::specs::LineForms::getrec_in))]
+#[tactic(auto, unfolding(crate::specs::LineForms::getrec_read))]
 fn get_record(text: &[u8]) -> Result<(Request, &[u8]), LineError>
-    ensures { Gives (λ x. (x.0, x.1.now)) result (getrec_in text.now) }
+    ensures { Gives (λ x. (x.0, x.1.now)) result (getrec_read text.now) }
 {
     let (channel, rest) = byte_field(text)?;
     let (block, rest) = half_field(rest)?;
@@ -207,9 +207,9 @@ fn get_record(text: &[u8]) -> Result<(Request, &[u8]), LineError>
     ))
 }
 
-#[tactic(auto, unfolding(crate::specs::LineForms::putrec_in))]
+#[tactic(auto, unfolding(crate::specs::LineForms::putrec_read))]
 fn put_record(alloc: Global, text: &[u8]) -> Result<(Request, &[u8]), LineError>
-    ensures { Gives (λ x. (x.0, x.1.now)) result (putrec_in text.now) }
+    ensures { Gives (λ x. (x.0, x.1.now)) result (putrec_read text.now) }
 {
     let (channel, rest) = byte_field(text)?;
     let (block, rest) = half_field(rest)?;
@@ -224,26 +224,26 @@ fn put_record(alloc: Global, text: &[u8]) -> Result<(Request, &[u8]), LineError>
     ))
 }
 
-#[tactic(auto, unfolding(crate::specs::LineForms::unlock_in))]
+#[tactic(auto, unfolding(crate::specs::LineForms::unlock_read))]
 fn unlock(text: &[u8]) -> Result<(Request, &[u8]), LineError>
-    ensures { Gives (λ x. (x.0, x.1.now)) result (unlock_in text.now) }
+    ensures { Gives (λ x. (x.0, x.1.now)) result (unlock_read text.now) }
 {
     let (channel, rest) = byte_field(text)?;
     Ok((Request::Unlock { channel }, rest))
 }
 
-#[tactic(auto, unfolding(crate::specs::LineFields::field_by, crate::specs::LineForms::kill_in))]
+#[tactic(auto, unfolding(crate::specs::LineFields::field_by, crate::specs::LineForms::kill_read))]
 fn kill(text: &[u8]) -> Result<(Request, &[u8]), LineError>
-    ensures { Gives (λ x. (x.0, x.1.now)) result (kill_in text.now) }
+    ensures { Gives (λ x. (x.0, x.1.now)) result (kill_read text.now) }
 {
     let (text, rest) = word(text);
     let name = name(text).ok_or(LineError::Wrong)?;
     Ok((Request::Kill { name }, rest))
 }
 
-#[tactic(auto, unfolding(crate::specs::LineFields::field_by, crate::specs::LineForms::rename_in))]
+#[tactic(auto, unfolding(crate::specs::LineFields::field_by, crate::specs::LineForms::rename_read))]
 fn rename(text: &[u8]) -> Result<(Request, &[u8]), LineError>
-    ensures { Gives (λ x. (x.0, x.1.now)) result (rename_in text.now) }
+    ensures { Gives (λ x. (x.0, x.1.now)) result (rename_read text.now) }
 {
     let (text, rest) = word(text);
     let old = name(text).ok_or(LineError::Wrong)?;
@@ -253,18 +253,18 @@ fn rename(text: &[u8]) -> Result<(Request, &[u8]), LineError>
     Ok((Request::Rename { old, new, code }, rest))
 }
 
-#[tactic(auto, unfolding(crate::specs::LineForms::directory_in))]
+#[tactic(auto, unfolding(crate::specs::LineForms::directory_read))]
 fn directory(text: &[u8]) -> Result<(Request, &[u8]), LineError>
-    ensures { Gives (λ x. (x.0, x.1.now)) result (directory_in text.now) }
+    ensures { Gives (λ x. (x.0, x.1.now)) result (directory_read text.now) }
 {
     let (owner, rest) = account_field(text)?;
     let (index, rest) = half_field(rest)?;
     Ok((Request::Directory { owner, index }, rest))
 }
 
-#[tactic(auto, unfolding(crate::specs::LineFields::field_by, crate::specs::LineForms::declare_in))]
+#[tactic(auto, unfolding(crate::specs::LineFields::field_by, crate::specs::LineForms::declare_read))]
 fn declare(text: &[u8]) -> Result<(Request, &[u8]), LineError>
-    ensures { Gives (λ x. (x.0, x.1.now)) result (declare_in text.now) }
+    ensures { Gives (λ x. (x.0, x.1.now)) result (declare_read text.now) }
 {
     let (text, rest) = word(text);
     let name = letters(text).ok_or(LineError::Wrong)?;
@@ -272,9 +272,9 @@ fn declare(text: &[u8]) -> Result<(Request, &[u8]), LineError>
     Ok((Request::Declare { name, most }, rest))
 }
 
-#[tactic(auto, unfolding(crate::specs::LineFields::field_by, crate::specs::LineForms::send_in))]
+#[tactic(auto, unfolding(crate::specs::LineFields::field_by, crate::specs::LineForms::send_read))]
 fn send(alloc: Global, text: &[u8]) -> Result<(Request, &[u8]), LineError>
-    ensures { Gives (λ x. (x.0, x.1.now)) result (send_in text.now) }
+    ensures { Gives (λ x. (x.0, x.1.now)) result (send_read text.now) }
 {
     let (text, rest) = word(text);
     let name = letters(text).ok_or(LineError::Wrong)?;
@@ -288,17 +288,17 @@ fn send(alloc: Global, text: &[u8]) -> Result<(Request, &[u8]), LineError>
     ))
 }
 
-#[tactic(auto, unfolding(crate::specs::LineForms::sleep_in))]
+#[tactic(auto, unfolding(crate::specs::LineForms::sleep_read))]
 fn sleep(text: &[u8]) -> Result<(Request, &[u8]), LineError>
-    ensures { Gives (λ x. (x.0, x.1.now)) result (sleep_in text.now) }
+    ensures { Gives (λ x. (x.0, x.1.now)) result (sleep_read text.now) }
 {
     let (seconds, rest) = half_field(text)?;
     Ok((Request::Sleep { seconds }, rest))
 }
 
-#[tactic(auto, unfolding(crate::specs::LineForms::print_in))]
+#[tactic(auto, unfolding(crate::specs::LineForms::print_read))]
 fn print(alloc: Global, text: &[u8]) -> Result<(Request, &[u8]), LineError>
-    ensures { Gives (λ x. (x.0, x.1.now)) result (print_in text.now) }
+    ensures { Gives (λ x. (x.0, x.1.now)) result (print_read text.now) }
 {
     let (message, rest) = text_field(alloc, text)?;
     Ok((Request::Print { text: message }, rest))

@@ -1,7 +1,7 @@
-use Rattle.std.proofs.Common.{◌≡◌, ◌++◌, List, ℕ, sym, ap, subst, ◌∙◌}
+use Rattle.std.proofs.Common.{◌++◌, List, ℕ, ap, subst, ◌∙◌}
 use Rattle.basic_values.specs.Cuts.{behind}
 use Rattle.monitor_calls.specs.declared.calls.Entry.{Entry}
-use Rattle.deck_model.specs.Histories.{entry_line, history_text}
+use Rattle.deck_model.specs.Histories.{history_text}
 use Rattle.history_reader.specs.LineFields.{Gives}
 use Rattle.history_reader.proofs.LineLaws.{line_written, line_is_written}
 use Rattle.history_reader.proofs.entries.behind_line.Goals as goal
