@@ -34,6 +34,7 @@ numbers_rise bytes marks lines is i j d le lt =
     length_map : (ms : List Mark) → length (map (λ (m : Mark). m.number) ms) ≡ length ms
     length_map [] = refl
     length_map (m ∷ ms) = ap suc (length_map ms)
+
     at : (k : ℕ) → k < length marks → map (λ (m : Mark). m.number) marks ≡ keys_of lines → get_or (keys_of lines) k 0 ≡ (get_or marks k d).number
     at k lt' keys = ap (λ (ks : List ℕ). get_or ks k 0) (sym keys) ∙ get_or-map (λ (m : Mark). m.number) marks k d 0 lt'
 
@@ -299,12 +300,14 @@ module _ (number : ℕ) (bytes : List ℕ) (marks : List Mark) (lines : Lines) (
     where
       d : ℕ × List ℕ
       d = (0, [])
+
       stands : get_or lines places.first d ≡ line_marked bytes mark
       stands =
           let inside = placed.inside in
           ap (λ (ls : Lines). get_or ls places.first d) (sym (lines_are bytes marks lines is))
           ∙ get_or-map (line_marked bytes) marks places.first mark d (omega (arith, as_many_marks bytes marks lines is))
           ∙ ap (line_marked bytes) (sym read)
+
       by : IsOne number middle → line number lines ≡ Some (slice_range bytes mark.begins (mark.begins + mark.count))
       by (inl none) = absurd (omega (arith, ap length none, count))
       by (inr some) =

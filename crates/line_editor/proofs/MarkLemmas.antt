@@ -119,9 +119,9 @@ lines_at pre (l ∷ lines) =
     let next : length pre + length (listed l) ≡ length (pre ++ listed l) = sym (length-append pre (listed l)) in
     ap (λ (line : ℕ × List ℕ). line ∷ map (line_marked (pre ++ (listed l ++ listing lines))) (marks_of (length pre + length (listed l)) lines)) (line_at pre l (listing lines))
     ∙ ap (λ (ls : Lines). l ∷ ls)
-      (ap (λ (bytes : List ℕ). map (line_marked bytes) (marks_of (length pre + length (listed l)) lines)) seam
-      ∙ ap (λ (k : ℕ). map (line_marked ((pre ++ listed l) ++ listing lines)) (marks_of k lines)) next
-      ∙ lines_at (pre ++ listed l) lines)
+    (ap (λ (bytes : List ℕ). map (line_marked bytes) (marks_of (length pre + length (listed l)) lines)) seam
+    ∙ ap (λ (k : ℕ). map (line_marked ((pre ++ listed l) ++ listing lines)) (marks_of k lines)) next
+    ∙ lines_at (pre ++ listed l) lines)
 
 pub lines_are : (bytes : List ℕ) (marks : List Mark) (lines : Lines) → IsListing bytes marks lines → map (line_marked bytes) marks ≡ lines
 lines_are bytes marks lines is =

@@ -53,10 +53,10 @@ program_without lines lines' from to program made = record {
   ordered = subst (λ (ls : Lines). IsOrderly ls) (sym made) (orderly_without from to lines program.ordered);
   each = subst (λ (ls : Lines). AllByRecursion IsProgramLine ls) (sym made) (each_filtered IsProgramLine (λ line. not (is_within from to line.0)) lines program.each);
   few =
-    let p = λ (line : ℕ × List ℕ). not (is_within from to line.0) in
-    let most = program.few in
-    let h : length lines' ≤ MOST_LINES = omega (arith, ap length made, length-filter p lines, count_by-le-length p lines) in
-    h;
+      let p = λ (line : ℕ × List ℕ). not (is_within from to line.0) in
+      let most = program.few in
+      let h : length lines' ≤ MOST_LINES = omega (arith, ap length made, length-filter p lines, count_by-le-length p lines) in
+      h;
 }
 
 -- a line less

@@ -173,8 +173,12 @@ static LENT: [(u16, Option<&[u8]>); 8] = [
 ];
 
 fn first_wrong_line(text: &ProgramText) -> Option<usize> {
-    LENT.iter()
-        .position(|(number, rest)| !lends(text, *number, *rest))
+    for (place, (number, rest)) in LENT.iter().enumerate() {
+        if !lends(text, *number, *rest) {
+            return Some(place);
+        }
+    }
+    None
 }
 
 #[test]
@@ -261,8 +265,8 @@ fn full_text(alloc: Global) -> Option<ProgramText> {
 /// The same lines, entered in falling order.
 fn fallen_text(alloc: Global) -> Option<ProgramText> {
     let mut text = ProgramText::new(alloc);
-    for number in (1..=1000).rev() {
-        if line_put(&mut text, number, b"!") != Put::Done {
+    for entered in 0..1000 {
+        if line_put(&mut text, 1000 - entered, b"!") != Put::Done {
             return None;
         }
     }
