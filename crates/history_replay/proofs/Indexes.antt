@@ -1,12 +1,12 @@
 -- The index of a history, made from its end.
-use Rattle.std.proofs.Common.{◌≡◌, ◌≢◌, ℕ, suc, ◌+◌, ◌<◌, ◌≤◌, List, [], ◌∷◌, length, get_or, set, drop, replicate, Some, refl, sym, ap, ◌∙◌, subst, inl, inr, arith, eq-eqb}
+use Rattle.std.proofs.Common.{◌≡◌, ◌≢◌, ℕ, suc, ◌<◌, List, [], length, get_or, set, drop, replicate, Some, sym, ap, ◌∙◌, inl, inr, arith, eq-eqb}
 use Rattle.std.specs.Prelude.{if◌then◌else◌, slice_get}
 use Rattle.std.proofs.lemmas.List.{length-set, length-replicate, get_or-set_same, get_or-set_other, get_or-replicate, drop_all}
 use Rattle.std.proofs.lemmas.Option.{slice_get_within, same_Some}
 use Rattle.std.proofs.lemmas.Bool.{cases_eq, ne_eqb}
 use Rattle.monitor_calls.specs.declared.calls.Entry.{Entry}
 use Rattle.history_replay.specs.Disputes.{entry_position}
-use Rattle.history_replay.specs.Ports.{position_behind, AreLater, AreFirst, IsIndex}
+use Rattle.history_replay.specs.Ports.{position_behind, IsIndex}
 use Rattle.history_replay.proofs.Positions.{drop_item}
 
 pub index_none : (jobs : ℕ) (history : List Entry) → IsIndex (length history) jobs history (replicate jobs (length history)) (replicate (length history) (length history))

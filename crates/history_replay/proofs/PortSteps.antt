@@ -1,5 +1,5 @@
 -- What stays true of a port that replies what a job's entries say, and what it has heard at its end.
-use Rattle.std.proofs.Common.{◌≡◌, ℕ, suc, ◌+◌, ◌^◌, ◌<◌, ◌≤◌, Bool, List, [], ◌∷◌, ◌++◌, length, take, get_or, Option, Some, None, Decides, refl, sym, ap, ◌∙◌, subst, inl, inr, arith, append_assoc}
+use Rattle.std.proofs.Common.{◌≡◌, ℕ, suc, ◌+◌, ◌^◌, ◌<◌, ◌≤◌, Bool, List, [], ◌∷◌, ◌++◌, length, take, get_or, Some, None, Decides, refl, sym, ap, ◌∙◌, subst, inl, inr, arith}
 use Rattle.std.specs.Prelude.{slice_get, slice_index, option_map}
 use Rattle.std.proofs.lemmas.List.{length-map, length-append, length-take-le, take_more, take_all, take_at, append-nil}
 use Rattle.std.proofs.lemmas.Option.{slice_get_within, slice_get-map, slice_get_past, get_or_from_slice_get, none-some, same_Some}
@@ -9,10 +9,10 @@ use Rattle.monitor_calls.specs.declared.calls.Entry.{Entry}
 use Rattle.monitor_calls.specs.declared.calls.Request.{Request}
 use Rattle.monitor_calls.specs.declared.calls.Reply.{Reply}
 use Rattle.monitor_calls.specs.Pairs.{Pair, requests}
-use Rattle.monitor_model.specs.History.{pair_in, part_of}
+use Rattle.monitor_model.specs.History.{pair_in}
 use Rattle.history_replay.specs.Disputes.{entry_position}
 use Rattle.history_replay.specs.Ports.{Listed, part, heard, unheard, position_behind, AreLater, IsOther, IsAtNext, IsNext, PartsHere}
-use Rattle.history_replay.proofs.Positions.{item_within, part_at, own_at, position-le, position_next, position_within, place_within}
+use Rattle.history_replay.proofs.Positions.{item_within, part_at, position-le, position_next, position_within, place_within}
 
 abbrev asked : Pair → Request
 asked pair = pair.0
@@ -75,9 +75,6 @@ next_entry port next later request placed is =
 abbrev pub given_more : Listed → Listed
 given_more port = record port { given = port.given + 1 }
 
-abbrev pub other_more : Listed → Pair → Listed
-other_more port pair = record port { others = port.others ++ pair ∷ [] }
-
 pub placed_next : (port : Listed) (next : ℕ) (later : List ℕ) (request : Request) → IsAtNext port next later → IsNext port request → IsAtNext (given_more port) (slice_index later next) later
 placed_next port next later request placed is =
     let found = next_entry port next later request placed is in
@@ -102,42 +99,26 @@ heard_next port next later request reply entry placed is at same =
     let pair : Pair = (request, reply) in
     let one : entry ≡ found.entry = same_Some entry found.entry (sym at ∙ found.is) in
     let here : get_or pairs port.given pair ≡ pair =
-        get_or_from_slice_get pairs port.given (pair_in found.entry) pair found.pair
-        ∙ (λ i. (found.asks i, sym (same ∙ ap (λ (e : Entry). e.reply) one) i)) in
+    get_or_from_slice_get pairs port.given (pair_in found.entry) pair found.pair
+    ∙ (λ i. (found.asks i, sym (same ∙ ap (λ (e : Entry). e.reply) one) i)) in
     let none = is.none in
     ap (λ l. take (port.given + 1) pairs ++ l) none ∙ append-nil (take (port.given + 1) pairs) ∙ take_more pairs port.given pair found.room
     ∙ ap (λ p. take port.given pairs ++ p ∷ []) here
     ∙ ap (λ l. l ++ pair ∷ []) (sym (append-nil (take port.given pairs)) ∙ ap (λ l. take port.given pairs ++ l) (sym none))
-
-pub placed_other : (port : Listed) (next : ℕ) (later : List ℕ) (request : Request) (reply : Reply) → IsAtNext port next later → (IsNext port request → ⊥) → IsAtNext (other_more port (request, reply)) next later
-placed_other port next later request reply placed not = record {
-  next_is = placed.next_is;
-  within = placed.within;
-  other =
-      elim port.others as (λ l. port.others ≡ l → IsOther (part port) port.given l → IsOther (part port) port.given (l ++ (request, reply) ∷ [])) [
-        | [] ↦ λ none other same. not (record { none = none; same = same })
-        | first ∷ more ↦ λ some other. other
-      ] refl placed.other;
-  small = placed.small;
-  laters = placed.laters;
-}
-
-pub heard_other : (port : Listed) (pair : Pair) → heard (other_more port pair) ≡ heard port ++ pair ∷ []
-heard_other port pair = sym (append_assoc (take port.given (part port)) port.others (pair ∷ []))
 
 -- a port that gave all and was asked nothing else has heard the part
 pub heard_all : (port : Listed) (next : ℕ) (later : List ℕ) → IsAtNext port next later → port.others ≡ [] → next ≡ length port.history → heard port ≡ part port
 heard_all port next later placed none past =
     let pairs = part port in
     let whole : length pairs ≤ port.given =
-        elim (cases_lt port.given (length pairs)) [
-          | inl room ↦
-              let found = position_within port.job port.given port.history room in
-              let inside = slice_get_within port.history (entry_position port.job port.given port.history) found.0 found.1 in
-              let stands = placed.next_is in
-              absurd (omega arith)
-          | inr whole ↦ whole
-        ] in
+    elim (cases_lt port.given (length pairs)) [
+      | inl room ↦
+          let found = position_within port.job port.given port.history room in
+          let inside = slice_get_within port.history (entry_position port.job port.given port.history) found.0 found.1 in
+          let stands = placed.next_is in
+          absurd (omega arith)
+      | inr whole ↦ whole
+    ] in
     ap (λ l. take port.given pairs ++ l) none ∙ append-nil (take port.given pairs) ∙ take_all port.given pairs whole
 
 item_at : {X : Type 0} (front : List X) (x : X) (rest : List X) → slice_get (front ++ x ∷ rest) (length front) ≡ Some x
@@ -158,13 +139,13 @@ departs_here port next later placed not =
           elim port.others as (λ l. port.others ≡ l → IsOther pairs port.given l → slice_get (requests (given ++ l)) port.given ≡ slice_get (requests pairs) port.given → ⊥) [
             | [] ↦ λ none other same.
                 let inside : next < length port.history =
-                    elim (cases_lt next (length port.history)) [
-                      | inl inside ↦ inside
-                      | inr past ↦
-                          let most = position-le port.job port.given port.history in
-                          let stands = placed.next_is in
-                          absurd (not none (omega arith))
-                    ] in
+                elim (cases_lt next (length port.history)) [
+                  | inl inside ↦ inside
+                  | inr past ↦
+                      let most = position-le port.job port.given port.history in
+                      let stands = placed.next_is in
+                      absurd (not none (omega arith))
+                ] in
                 let room = place_within port.job port.given port.history (subst (λ k. k < length port.history) placed.next_is inside) in
                 let found = item_within pairs port.given room in
                 let gone : slice_get (given ++ []) port.given ≡ None = slice_get_past (given ++ []) port.given (omega (arith, length-append given [])) in

@@ -1,9 +1,8 @@
 -- Where the entries of a job stand in a history, and its part.
-use Rattle.std.proofs.Common.{◌≡◌, ℕ, zero, suc, ◌+◌, ◌<◌, ◌≤◌, Bool, true, false, List, [], ◌∷◌, length, drop, eqb, Option, Some, None, refl, sym, ap, ◌∙◌, subst, arith, eqb-true}
+use Rattle.std.proofs.Common.{◌≡◌, ℕ, zero, suc, ◌<◌, ◌≤◌, Bool, true, false, List, [], ◌∷◌, length, drop, Some, None, refl, sym, ap, ◌∙◌, arith, eqb-true}
 use Rattle.std.specs.Prelude.{◌==◌, if◌then◌else◌, map, filter, slice_get, option_map}
 use Rattle.std.proofs.lemmas.Option.{slice_get_within, none-some, same_Some}
 use Rattle.monitor_calls.specs.declared.calls.Entry.{Entry}
-use Rattle.monitor_calls.specs.Pairs.{Pair}
 use Rattle.monitor_model.specs.History.{pair_in, part_of}
 use Rattle.history_replay.specs.Disputes.{entry_position}
 use Rattle.history_replay.specs.Ports.{position_behind}
@@ -69,15 +68,15 @@ pub position_next : (job place : ℕ) (history : List Entry) → entry_position 
 position_next job place [] = λ within. absurd (omega arith)
 position_next job zero (entry ∷ history) =
     elim (own job entry) as (λ v. (if v then 0 else suc (entry_position job zero history)) < suc (length history)
-        → suc (if v then entry_position job zero history else entry_position job (suc zero) history)
-        ≡ position_behind job (if v then 0 else suc (entry_position job zero history)) (entry ∷ history)) [
+    → suc (if v then entry_position job zero history else entry_position job (suc zero) history)
+    ≡ position_behind job (if v then 0 else suc (entry_position job zero history)) (entry ∷ history)) [
       | true ↦ λ within. omega arith
       | false ↦ λ within. let rest = position_next job zero history (omega arith) in omega arith
     ]
 position_next job (suc place) (entry ∷ history) =
     elim (own job entry) as (λ v. suc (if v then entry_position job place history else entry_position job (suc place) history) < suc (length history)
-        → suc (if v then entry_position job (suc place) history else entry_position job (suc (suc place)) history)
-        ≡ position_behind job (suc (if v then entry_position job place history else entry_position job (suc place) history)) (entry ∷ history)) [
+    → suc (if v then entry_position job (suc place) history else entry_position job (suc (suc place)) history)
+    ≡ position_behind job (suc (if v then entry_position job place history else entry_position job (suc place) history)) (entry ∷ history)) [
       | true ↦ λ within. let rest = position_next job place history (omega arith) in omega arith
       | false ↦ λ within. let rest = position_next job (suc place) history (omega arith) in omega arith
     ]

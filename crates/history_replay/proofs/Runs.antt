@@ -1,18 +1,18 @@
 -- Jobs that did their parts, one behind another, and what a replay answers.
-use Rattle.std.proofs.Common.{◌≡◌, ℕ, zero, suc, ◌+◌, ◌<◌, List, [], ◌∷◌, ◌++◌, length, Option, Some, None, Result, Ok, Err, refl, sym, ap, ◌∙◌, subst, arith}
+use Rattle.std.proofs.Common.{◌≡◌, ℕ, zero, suc, ◌+◌, ◌<◌, List, [], ◌∷◌, ◌++◌, length, Result, Ok, Err, refl, sym, ap, ◌∙◌, subst, arith}
 use Rattle.std.specs.Global.{Vec}
 use Rattle.std.proofs.lemmas.List.{length_push}
 use Rattle.basic_values.specs.declared.failures.Trouble.{Trouble}
 use Rattle.basic_values.specs.declared.failures.Trouble.TheVariants as trouble
 use Rattle.monitor_calls.specs.declared.calls.Entry.{Entry}
-use Rattle.monitor_calls.specs.Pairs.{Pair, Grew}
+use Rattle.monitor_calls.specs.Pairs.{Pair}
 use Rattle.monitor_model.specs.State.{State}
 use Rattle.monitor_model.specs.History.{Legal, part_of}
 use Rattle.terminal_runner.specs.Runs.{AllDid}
 use Rattle.history_replay.specs.declared.disputes.Dispute.{Dispute}
 use Rattle.history_replay.specs.declared.disputes.Dispute.TheVariants as dispute
 use Rattle.history_replay.specs.Disputes.{entry_position, Departs, Replays}
-use Rattle.history_replay.specs.Ports.{Listed, part, lister, heard, unheard, PartsHere, DepartsHere, EndsPort, ChecksReplies, JobRan, FirstRan, JobsRan}
+use Rattle.history_replay.specs.Ports.{ChecksReplies, JobRan, FirstRan, JobsRan}
 
 module _ (does : ℕ → List Pair → List ℕ → Type 0) (history : List Entry) where
   did_push : (from job : ℕ) (screens : List (List ℕ)) (screen : List ℕ) → job ≡ from + length screens → AllDid does history from screens → does job (part_of job history) screen → AllDid does history from (screens ++ screen ∷ [])

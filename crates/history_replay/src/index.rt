@@ -16,11 +16,7 @@ pub(crate) struct JobIndex {
 }
 
 /// The index of a history of so many jobs.
-pub(crate) fn index_of(
-    alloc: Global,
-    history: &[Entry],
-    jobs: u32,
-) -> Result<JobIndex, NoMemory>
+pub(crate) fn index_of(alloc: Global, history: &[Entry], jobs: u32) -> Result<JobIndex, NoMemory>
     requires { AreOfJobs jobs history.now }
     ensures { IfOk result (λ index.
         IsIndex 0 jobs history.now index.first.items index.later.items) }

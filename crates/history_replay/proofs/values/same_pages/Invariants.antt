@@ -1,4 +1,4 @@
-use Rattle.std.proofs.Common.{◌≡◌, ℕ, ◌<◌, List, [], get_or}
+use Rattle.std.proofs.Common.{◌≡◌, ℕ, ◌<◌, List, get_or}
 use Rattle.history_replay.proofs.values.same_pages.Given as goal
 
 -- the pages so far are the same

@@ -1,10 +1,9 @@
-use Rattle.std.proofs.Common.{◌≡◌, ℕ, ◌*◌, ◌^◌, ◌<◌, true, length, get_or, rules, refl, sym, ap, ◌∙◌, subst, arith}
+use Rattle.std.proofs.Common.{◌<◌, length, rules, refl, sym, ap, ◌∙◌, subst, arith}
 use Rattle.std.proofs.lemmas.Option.{slice_get_within, get_or_from_slice_get}
 use Rattle.monitor_calls.specs.declared.calls.Entry.{Entry}
-use Rattle.monitor_calls.specs.declared.calls.Request.{Request}
-use Rattle.history_replay.specs.Ports.{Listed, IsNext, IsAtNext}
+use Rattle.history_replay.specs.Ports.{Listed, IsNext}
 use Rattle.history_replay.proofs.Positions.{part-le}
-use Rattle.history_replay.proofs.PortSteps.{NextEntry, next_entry, placed_next, heard_next}
+use Rattle.history_replay.proofs.PortSteps.{next_entry, placed_next, heard_next}
 use Rattle.history_replay.proofs.port.ListPortPort.ask.Goals as goal
 
 pub bounds-self-inside-self-inside : goal.bounds-self-inside-self-inside
@@ -22,7 +21,7 @@ offset_bounds-self-inside-self-inside c =
     let is : IsNext port c.args.request = subst (λ (p : Listed). IsNext p c.args.request) (sym c.self.view_is) (c.is_next.ensures.0 c.if-not-is_next.false) in
     let found = next_entry port inside.next inside.later.now c.args.request c.self.invariant is in
     let within : inside.next < length inside.history.now = slice_get_within inside.history.now inside.next found.entry found.is in
-    first_of (search rules, omega arith, grind arith, omega (arith, c.type_inv.self-inside))
+    search rules
 
 pub bounds-self-inside-self-inside-2 : goal.bounds-self-inside-self-inside-2
 bounds-self-inside-self-inside-2 c =
@@ -41,7 +40,7 @@ offset_bounds-self-inside-self-inside-2 c =
     let found = next_entry port inside.next inside.later.now c.args.request c.self.invariant is in
     let within : inside.next < length inside.history.now = slice_get_within inside.history.now inside.next found.entry found.is in
     let inner : inside.next < length inside.later.now = omega (arith, c.self.invariant.laters.count) in
-    first_of (search rules, omega arith, grind arith, omega (arith, c.type_inv.self-inside))
+    search rules
 
 pub overflow_add-self : goal.overflow_add-self
 overflow_add-self c =
