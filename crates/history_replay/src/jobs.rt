@@ -1,7 +1,8 @@
 //! The jobs of a history, which do again what they did.
 
-ghost use Rattle.std.specs.Prelude.{◌≡◌, ◌<◌, ◌++◌, ◌∷◌, [], OnOk};
-ghost use Rattle.history_replay.specs.Ports.{IsIndex, JobRan, JobsRan};
+ghost use Rattle.std.specs.Prelude.{◌≡◌, ◌^◌, ◌<◌, ◌++◌, ◌∷◌, [], length, OnOk};
+ghost use Rattle.history_replay.specs.Disputes.{entry_position};
+ghost use Rattle.history_replay.specs.Ports.{AreLater, IsIndex, JobRan, JobsRan};
 
 use crate::disputes::Dispute;
 use crate::index::JobIndex;
@@ -24,27 +25,28 @@ pub(crate) fn run_all<B: JobBody>(
 {
     let mut screens = Vec::new(alloc);
     for job in 0..jobs {
-        let screen = run_one(alloc, body, jobs, job, history, index)?;
+        let first = index.first[job as usize];
+        let screen = run_one(alloc, body, job, history, index.later.as_slice(), first)?;
         keep(&mut screens, screen)?;
     }
     Ok(screens)
 }
 
-/// Runs a job over its entries.
+/// Runs a job over its entries, of which the first stands here.
 fn run_one<B: JobBody>(
     alloc: Global,
     body: &B,
-    jobs: u32,
     job: u32,
     history: &[Entry],
-    index: &JobIndex,
+    later: &[usize],
+    first: usize,
 ) -> Result<Screen2, Trouble<Dispute>>
-    requires index { IsIndex 0 jobs history.now index.now.first.items index.now.later.items }
-    requires job { job < jobs }
+    requires first { first ≡ entry_position job 0 history.now }
+    requires small { length history.now < 2 ^ 63 }
+    requires later { AreLater 0 history.now later.now }
     ensures { JobRan (B.does body.now) job history.now result }
 {
-    let first = index.first[job as usize];
-    let mut port = ListPort::new(alloc, history, index.later.as_slice(), job, first);
+    let mut port = ListPort::new(alloc, history, later, job, first);
     let screen = body.run(alloc, job, &mut port)?;
     match port.departure() {
         None => Ok(screen),
