@@ -1,5 +1,5 @@
 -- What stays true of a port that replies what a job's entries say, and what it has heard at its end.
-use Rattle.std.proofs.Common.{◌≡◌, ℕ, suc, ◌+◌, ◌^◌, ◌<◌, ◌≤◌, Bool, List, [], ◌∷◌, ◌++◌, length, take, get_or, Some, None, Decides, refl, sym, ap, ◌∙◌, subst, inl, inr, arith}
+use Rattle.std.proofs.Common.{◌≡◌, ℕ, suc, ◌+◌, ◌<◌, ◌≤◌, Bool, List, [], ◌∷◌, ◌++◌, length, take, get_or, Some, None, Decides, refl, sym, ap, ◌∙◌, subst, inl, inr, arith}
 use Rattle.std.specs.Prelude.{slice_get, slice_index, option_map}
 use Rattle.std.proofs.lemmas.List.{length-map, length-append, length-take-le, take_more, take_all, take_at, append-nil}
 use Rattle.std.proofs.lemmas.Option.{slice_get_within, slice_get-map, slice_get_past, get_or_from_slice_get, none-some, same_Some}
@@ -11,20 +11,11 @@ use Rattle.monitor_calls.specs.declared.calls.Reply.{Reply}
 use Rattle.monitor_calls.specs.Pairs.{Pair, requests}
 use Rattle.monitor_model.specs.History.{pair_in}
 use Rattle.history_replay.specs.Disputes.{entry_position}
-use Rattle.history_replay.specs.Ports.{Listed, part, heard, unheard, position_behind, AreLater, IsOther, IsAtNext, IsNext, PartsHere}
+use Rattle.history_replay.specs.Ports.{Listed, part, heard, position_behind, IsOther, IsAtNext, IsNext, PartsHere}
 use Rattle.history_replay.proofs.Positions.{item_within, part_at, position-le, position_next, position_within, place_within}
 
 abbrev asked : Pair → Request
 asked pair = pair.0
-
-pub placed_none : (history : List Entry) (job first : ℕ) (later : List ℕ) → first ≡ entry_position job 0 history → length history < 2 ^ 63 → AreLater 0 history later → IsAtNext (unheard history job) first later
-placed_none history job first later stands small laters = record {
-  next_is = stands;
-  within = omega arith;
-  other = tt;
-  small = small;
-  laters = laters;
-}
 
 -- what the part has at the place of the port's next entry
 pub pair_next : (port : Listed) (next : ℕ) (later : List ℕ) → IsAtNext port next later → slice_get (part port) port.given ≡ option_map pair_in (slice_get port.history next)

@@ -1,18 +1,16 @@
--- Jobs that did their parts, one behind another, and what a replay answers.
-use Rattle.std.proofs.Common.{◌≡◌, ℕ, zero, suc, ◌+◌, ◌<◌, List, [], ◌∷◌, ◌++◌, length, Result, Ok, Err, refl, sym, ap, ◌∙◌, subst, arith}
-use Rattle.std.specs.Global.{Vec}
+-- Jobs that did their parts, one behind another, and the first that departs.
+use Rattle.std.proofs.Common.{◌≡◌, ℕ, zero, suc, ◌+◌, ◌<◌, List, [], ◌∷◌, ◌++◌, length, Err, sym, ap, ◌∙◌, subst, arith}
 use Rattle.std.proofs.lemmas.List.{length_push}
 use Rattle.basic_values.specs.declared.failures.Trouble.{Trouble}
 use Rattle.basic_values.specs.declared.failures.Trouble.TheVariants as trouble
 use Rattle.monitor_calls.specs.declared.calls.Entry.{Entry}
 use Rattle.monitor_calls.specs.Pairs.{Pair}
-use Rattle.monitor_model.specs.State.{State}
-use Rattle.monitor_model.specs.History.{Legal, part_of}
+use Rattle.monitor_model.specs.History.{part_of}
 use Rattle.terminal_runner.specs.Runs.{AllDid}
 use Rattle.history_replay.specs.declared.disputes.Dispute.{Dispute}
 use Rattle.history_replay.specs.declared.disputes.Dispute.TheVariants as dispute
-use Rattle.history_replay.specs.Disputes.{entry_position, Departs, Replays}
-use Rattle.history_replay.specs.Ports.{ChecksReplies, JobRan, FirstRan, JobsRan}
+use Rattle.history_replay.specs.Disputes.{entry_position, Departs}
+use Rattle.history_replay.specs.Ports.{JobRan, FirstRan, JobsRan}
 
 module _ (does : ℕ → List Pair → List ℕ → Type 0) (history : List Entry) where
   did_push : (from job : ℕ) (screens : List (List ℕ)) (screen : List ℕ) → job ≡ from + length screens → AllDid does history from screens → does job (part_of job history) screen → AllDid does history from (screens ++ screen ∷ [])
@@ -27,9 +25,6 @@ module _ (does : ℕ → List Pair → List ℕ → Type 0) (history : List Entr
       (first, subst (λ j. does j (part_of j history) first) (let same : from ≡ job = omega arith in same) did.0)
   did_at from job (suc k) (first ∷ screens) is below did =
       did_at (suc from) job k screens (omega arith) (omega arith) did.1
-
-  pub ran_none : FirstRan does 0 history []
-  ran_none = record { one_each = refl; all_did = tt }
 
   pub ran_more : (job : ℕ) (screens : List (List ℕ)) (screen : List ℕ) → FirstRan does job history screens → does job (part_of job history) screen → FirstRan does (job + 1) history (screens ++ screen ∷ [])
   ran_more job screens screen ran this = record {
@@ -47,20 +42,3 @@ module _ (does : ℕ → List Pair → List ℕ → Type 0) (history : List Entr
     position_is = here.position_is ∙ ap (λ j. entry_position j place history) (sym here.job_is);
   }
   ran_err jobs job screens trouble.NoMemory below ran here = tt
-
-  -- WHAT A REPLAY ANSWERS
-
-  pub replays_wrong : (m : State) (jobs : ℕ) (error : Trouble Dispute) → ChecksReplies m history (Err error) → Replays does m jobs history (Err error)
-  replays_wrong m jobs (trouble.Refused (dispute.Reply entry)) wrong = wrong
-  replays_wrong m jobs (trouble.Refused (dispute.Meaning job place position)) wrong = absurd wrong
-  replays_wrong m jobs trouble.NoMemory wrong = tt
-
-  pub replays_ran : (m : State) (jobs : ℕ) (result : Result (Vec (List ℕ)) (Trouble Dispute)) → Legal m history → JobsRan does jobs history result → Replays does m jobs history result
-  replays_ran m jobs (Ok screens) legal ran = record {
-    legal = legal;
-    one_each = ran.one_each;
-    all_did = ran.all_did;
-  }
-  replays_ran m jobs (Err (trouble.Refused (dispute.Reply entry))) legal ran = absurd ran
-  replays_ran m jobs (Err (trouble.Refused (dispute.Meaning job place position))) legal ran = (legal, ran)
-  replays_ran m jobs (Err trouble.NoMemory) legal ran = tt
