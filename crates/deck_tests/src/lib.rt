@@ -7,3 +7,5 @@ mod causes;
 mod decks;
 #[cfg(test)]
 mod histories;
+#[cfg(test)]
+mod history_reading;
