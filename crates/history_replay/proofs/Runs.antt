@@ -1,0 +1,44 @@
+-- Jobs that did their parts, one behind another, and the first that departs.
+use Rattle.std.proofs.Common.{◌≡◌, ℕ, zero, suc, ◌+◌, ◌<◌, List, [], ◌∷◌, ◌++◌, length, Err, sym, ap, ◌∙◌, subst, arith}
+use Rattle.std.proofs.lemmas.List.{length_push}
+use Rattle.basic_values.specs.declared.failures.Trouble.{Trouble}
+use Rattle.basic_values.specs.declared.failures.Trouble.TheVariants as trouble
+use Rattle.monitor_calls.specs.declared.calls.Entry.{Entry}
+use Rattle.monitor_calls.specs.Pairs.{Pair}
+use Rattle.monitor_model.specs.History.{part_of}
+use Rattle.terminal_runner.specs.Runs.{AllDid}
+use Rattle.history_replay.specs.declared.disputes.Dispute.{Dispute}
+use Rattle.history_replay.specs.declared.disputes.Dispute.TheVariants as dispute
+use Rattle.history_replay.specs.Disputes.{entry_position, Departs}
+use Rattle.history_replay.specs.Ports.{JobRan, FirstRan, JobsRan}
+
+module _ (does : ℕ → List Pair → List ℕ → Type 0) (history : List Entry) where
+  did_push : (from job : ℕ) (screens : List (List ℕ)) (screen : List ℕ) → job ≡ from + length screens → AllDid does history from screens → does job (part_of job history) screen → AllDid does history from (screens ++ screen ∷ [])
+  did_push from job [] screen is did this =
+      (subst (λ j. does j (part_of j history) screen) (let same : job ≡ from = omega arith in same) this, tt)
+  did_push from job (first ∷ screens) screen is did this =
+      (did.0, did_push (suc from) job screens screen (omega arith) did.1 this)
+
+  did_at : (from job k : ℕ) (screens : List (List ℕ)) → job ≡ from + k → k < length screens → AllDid does history from screens → (screen : List ℕ) × does job (part_of job history) screen
+  did_at from job k [] is below did = absurd (omega arith)
+  did_at from job zero (first ∷ screens) is below did =
+      (first, subst (λ j. does j (part_of j history) first) (let same : from ≡ job = omega arith in same) did.0)
+  did_at from job (suc k) (first ∷ screens) is below did =
+      did_at (suc from) job k screens (omega arith) (omega arith) did.1
+
+  pub ran_more : (job : ℕ) (screens : List (List ℕ)) (screen : List ℕ) → FirstRan does job history screens → does job (part_of job history) screen → FirstRan does (job + 1) history (screens ++ screen ∷ [])
+  ran_more job screens screen ran this = record {
+    one_each = length_push screens screen ∙ ap (λ n. n + 1) ran.one_each;
+    all_did = did_push 0 job screens screen (let many = ran.one_each in omega arith) ran.all_did this;
+  }
+
+  -- where a job departs from its part and those before it did theirs, it is the least
+  pub ran_err : (jobs job : ℕ) (screens : List (List ℕ)) (error : Trouble Dispute) → job < jobs → FirstRan does job history screens → JobRan does job history (Err error) → JobsRan does jobs history (Err error)
+  ran_err jobs job screens (trouble.Refused (dispute.Reply entry)) below ran here = here
+  ran_err jobs job screens (trouble.Refused (dispute.Meaning which place position)) below ran here = record {
+    is_job = subst (λ j. j < jobs) (sym here.job_is) below;
+    earlier = λ j less. did_at 0 j j screens (omega arith) (let many = ran.one_each in let which_is = here.job_is in omega arith) ran.all_did;
+    departs = subst (λ j. Departs does j (part_of j history) place) (sym here.job_is) here.departs;
+    position_is = here.position_is ∙ ap (λ j. entry_position j place history) (sym here.job_is);
+  }
+  ran_err jobs job screens trouble.NoMemory below ran here = tt

@@ -1,0 +1,73 @@
+-- When a list of entries is a history of jobs that do this, and where it first fails.
+use Rattle.std.specs.Prelude.{◌≡◌, ℕ, zero, suc, ◌==◌, ◌<◌, ◌≤◌, if◌then◌else◌, List, [], ◌∷◌, ◌++◌, length, take, slice_get, Result, Ok, Err}
+use Rattle.std.specs.Global.{Vec}
+use Rattle.basic_values.specs.declared.failures.Trouble.{Trouble}
+use Rattle.basic_values.specs.declared.failures.Trouble.TheVariants as trouble
+use Rattle.monitor_calls.specs.declared.calls.Entry.{Entry}
+use Rattle.monitor_calls.specs.Pairs.{Pair, requests}
+use Rattle.monitor_model.specs.State.{State}
+use Rattle.monitor_model.specs.History.{after, IsAnswered, Legal, part_of}
+use Rattle.terminal_runner.specs.Runs.{AllDid}
+use Rattle.history_replay.specs.declared.disputes.Dispute.{Dispute}
+use Rattle.history_replay.specs.declared.disputes.Dispute.TheVariants as dispute
+
+-- THE FIRST WRONG REPLY
+
+-- the entry at this place is the first that the monitor does not answer so: its job is none, or its
+-- reply is another
+pub record WrongReply (m : State) (history : List Entry) (place : ℕ) : Type 0 where
+  pub before : List Entry
+  pub entry : Entry
+  pub behind : List Entry
+  pub split : history ≡ before ++ entry ∷ behind
+  pub place_is : place ≡ length before
+  pub legal : Legal m before
+  pub wrong : IsAnswered (after m before) entry → ⊥
+
+-- THE FIRST JOB THAT DEPARTS
+
+-- Where in the history the entry stands that is a job's so-many-th, counted from 0. Where there is
+-- none, it is the place behind the last entry
+abbrev pub entry_position : ℕ → ℕ → List Entry → ℕ
+entry_position job place [] = 0
+entry_position job zero (entry ∷ history) =
+    if entry.job == job then 0 else suc (entry_position job zero history)
+entry_position job (suc place) (entry ∷ history) =
+    suc (if entry.job == job then entry_position job place history else entry_position job (suc place) history)
+
+module _ (does : ℕ → List Pair → List ℕ → Type 0) where
+  -- The body does other things than this part of a job. With the replies of the part so far it makes
+  -- another request at this place, or none where the part goes on, or one where the part has ended
+  pub record Departs (job : ℕ) (part : List Pair) (place : ℕ) : Type 0 where
+    pub pairs : List Pair
+    pub screen : List ℕ
+    pub done : does job pairs screen
+    pub common : take place pairs ≡ take place part
+    pub within_pairs : place ≤ length pairs
+    pub within_part : place ≤ length part
+    pub differs : slice_get (requests pairs) place ≡ slice_get (requests part) place → ⊥
+
+  -- of the least job that departs from its part: which it is, where in its part, and where in the
+  -- history
+  pub record WrongMeaning (history : List Entry) (jobs job place position : ℕ) : Type 0 where
+    pub is_job : job < jobs
+    pub earlier : (j : ℕ) → j < job → (screen : List ℕ) × does j (part_of j history) screen
+    pub departs : Departs job (part_of job history) place
+    pub position_is : position ≡ entry_position job place history
+
+  -- WHAT A REPLAY ANSWERS
+
+  -- the history is legal, and each job did its part
+  pub record IsReplay (m : State) (history : List Entry) (jobs : ℕ) (screens : List (List ℕ)) : Type 0 where
+    pub legal : Legal m history
+    pub one_each : length screens ≡ jobs
+    pub all_did : AllDid does history 0 screens
+
+  -- the screens of a replay, or the first wrong reply, or where there is none the first job that
+  -- departs; or memory ran out
+  abbrev pub Replays : State → ℕ → List Entry → Result (Vec (List ℕ)) (Trouble Dispute) → Type 0
+  Replays m jobs history (Ok screens) = IsReplay m history jobs screens.items
+  Replays m jobs history (Err (trouble.Refused (dispute.Reply entry))) = WrongReply m history entry
+  Replays m jobs history (Err (trouble.Refused (dispute.Meaning job place entry))) =
+      Legal m history × WrongMeaning history jobs job place entry
+  Replays m jobs history (Err trouble.NoMemory) = Unit {0}
