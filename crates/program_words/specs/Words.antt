@@ -3,7 +3,7 @@ use Rattle.std.specs.Prelude.{ℕ, ◌≤◌, Bool, true, false, not, ◌&&◌, 
 use Rattle.std.specs.Option.{option_and_then}
 use Rattle.program_words.specs.declared.words.Wanted.{Wanted}
 use Rattle.program_words.specs.declared.words.Asked.{Asked}
-use Rattle.program_words.specs.declared.words.Asked.TheVariants.{Run, Check, Drill, Nothing}
+use Rattle.program_words.specs.declared.words.Asked.TheVariants.{Run, Check, Drill, Replay, Nothing}
 use Rattle.program_words.specs.declared.words.TheConstants.{MOST_DRILL_JOBS}
 use Rattle.basic_values.specs.Decimals.{number_between}
 
@@ -70,11 +70,12 @@ said_with (action ∷ count ∷ third ∷ words) wanted = None
 abbrev pub said_in : Wanted → List (List ℕ) → List (List ℕ) → Option Said
 said_in wanted flags plain = option_and_then (said_with plain) (wanted_from wanted flags)
 
--- run, with what is wanted of it, and check, without anything
+-- run, with what is wanted of it, and check and replay, without anything
 abbrev pub asked_alone : List ℕ → Wanted → Asked
 asked_alone action wanted =
     if bytes_eq action (codes "run") then Run wanted
-    else if bytes_eq action (codes "check") && is_nothing wanted then Check else Nothing
+    else if bytes_eq action (codes "check") && is_nothing wanted then Check
+    else if bytes_eq action (codes "replay") && is_nothing wanted then Replay else Nothing
 
 abbrev pub drill_by : Option ℕ → Asked
 drill_by None = Nothing

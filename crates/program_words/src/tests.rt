@@ -26,7 +26,7 @@ const WITH_BOTH: Asked = Asked::Run(Wanted {
 /// Words, and what they ask for.
 type Row = (&'static [&'static str], Asked);
 
-static ROWS: [Row; 52] = [
+static ROWS: [Row; 60] = [
     (&["run"], PLAIN),
     (&["run", "--history"], WITH_HISTORY),
     (&["--history", "run"], WITH_HISTORY),
@@ -46,6 +46,8 @@ static ROWS: [Row; 52] = [
     (&["drill", "1"], Asked::Drill(1)),
     (&["drill", "16"], Asked::Drill(16)),
     (&["drill", "--", "4"], Asked::Drill(4)),
+    (&["replay"], Asked::Replay),
+    (&["--", "replay"], Asked::Replay),
     (&["drill"], Asked::Nothing),
     (&["drill", "0"], Asked::Nothing),
     (&["drill", "17"], Asked::Nothing),
@@ -82,6 +84,12 @@ static ROWS: [Row; 52] = [
     (&["run", "--hist"], Asked::Nothing),
     (&["run", "-h"], Asked::Nothing),
     (&["run", "--help"], Asked::Nothing),
+    (&["REPLAY"], Asked::Nothing),
+    (&["replay", "3"], Asked::Nothing),
+    (&["replay", "replay"], Asked::Nothing),
+    (&["replay", "--history"], Asked::Nothing),
+    (&["--printer", "replay"], Asked::Nothing),
+    (&["replay", "--", "--history"], Asked::Nothing),
 ];
 
 /// What the words ask for.

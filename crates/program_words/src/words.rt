@@ -38,6 +38,8 @@ pub enum Asked {
     Check,
     /// A drill with so many terminals, from 1 to `MOST_DRILL_JOBS`.
     Drill(u32),
+    /// That a run of a deck is checked again.
+    Replay,
     Nothing,
 }
 
@@ -60,6 +62,7 @@ fn asked_of(said: Said<'_>) -> Asked
     match said.count {
         None if said.action == "run" => Asked::Run(said.wanted),
         None if said.action == "check" && said.wanted.is_nothing() => Asked::Check,
+        None if said.action == "replay" && said.wanted.is_nothing() => Asked::Replay,
         Some(count) if said.action == "drill" && said.wanted.is_nothing() => {
             drill_of(count.as_bytes())
         }

@@ -1,4 +1,10 @@
+mod DisputeLemmas
+mod InputLemmas
+mod ReplayExamples
+mod ReplayLemmas
+mod RetoldLemmas
 mod RunLemmas
 mod StreamLemmas
 mod SystemLemmas
+mod TalkLemmas
 mod WritingLemmas

@@ -15,7 +15,7 @@ use Rattle.deck_reader.specs.declared.decks.Deck.{Deck}
 use Rattle.deck_reader.specs.declared.decks.Terminal.{Terminal}
 use Rattle.deck_reader.specs.Seen.{deck_of, terminal_of}
 use Rattle.rsts.specs.Decks.{keys_at}
-use Rattle.rsts.specs.Headline.{Talks, opening_of, IsRun}
+use Rattle.rsts.specs.Runs.{Talks, opening_of, AllTalk, IsRun}
 
 -- the screen at a place is what the job of that number did
 did_at : (does : ℕ → List Pair → List ℕ → Type 0) (history : List Entry) (from : ℕ) (screens : List (List ℕ)) (j : ℕ) (screen : List ℕ) → AllDid does history from screens → slice_get screens j ≡ Some screen → does (from + j) (part_of (from + j) history) screen
@@ -45,26 +45,40 @@ pub as_many : (terminals : List Terminal) → length (map terminal_of terminals)
 as_many [] = refl
 as_many (terminal ∷ terminals) = ap suc (as_many terminals)
 
+-- each terminal of the deck has talked
+module _ (deck : Deck) (terminals : List Terminal) (are : terminals ≡ deck.terminals.items) where
+  own_keys : (j : ℕ) (terminal : model.Terminal) → slice_get (map terminal_of deck.terminals.items) j ≡ Some terminal → keys_at terminals j ≡ terminal.keys
+  own_keys j terminal at = ap (λ (ts : List Terminal). keys_at ts j) are ∙ keys_are deck.terminals.items j terminal at
+
+  -- what the job of a terminal did is its talk
+  pub did_talk : (j : ℕ) (terminal : model.Terminal) (part : List Pair) (screen : List ℕ) → slice_get (map terminal_of deck.terminals.items) j ≡ Some terminal → Talks (keys_at terminals j) part screen → Talks terminal.keys part screen
+  did_talk j terminal part screen at did = subst (λ (keys : List (List ℕ)). Talks keys part screen) (own_keys j terminal at) did
+
+  pub all_talk : (history : List Entry) (screens : List (List ℕ)) → length screens ≡ length deck.terminals.items → AllDid (λ job pairs screen. Talks (keys_at terminals job) pairs screen) history 0 screens → AllTalk history (map terminal_of deck.terminals.items) screens
+  all_talk history screens count all = record {
+    as_many = count ∙ sym (as_many deck.terminals.items);
+    each = λ j terminal screen is_terminal is_screen.
+        let does : ℕ → List Pair → List ℕ → Type 0 = λ job pairs s. Talks (keys_at terminals job) pairs s in
+        let did : does (0 + j) (part_of (0 + j) history) screen = did_at does history 0 screens j screen all is_screen in
+        let place : 0 + j ≡ j = omega arith in
+        did_talk j terminal (part_of j history) screen is_terminal (subst (λ (job : ℕ). does job (part_of job history) screen) place did);
+  }
+
+-- the monitor of the deck's volume is in the deck's opening state
+pub opening_is : (deck : Deck) (opening : monitor.State) (jobs : ℕ) → opening ≡ monitor.opening deck.volume.accounts.items deck.volume.blocks deck.volume.files.items jobs → jobs ≡ length deck.terminals.items → opening ≡ opening_of (deck_of deck)
+opening_is deck opening jobs opened count =
+    let many : jobs ≡ length (map terminal_of deck.terminals.items) = count ∙ sym (as_many deck.terminals.items) in
+    opened ∙ (λ i. monitor.opening deck.volume.accounts.items deck.volume.blocks (sym deck.text_files i) (many i))
+
 pub is_run : (deck : Deck) (terminals : List Terminal) (opening : monitor.State) (jobs : ℕ) (screens : List (List ℕ)) (history : List Entry) → terminals ≡ deck.terminals.items → opening ≡ monitor.opening deck.volume.accounts.items deck.volume.blocks deck.volume.files.items jobs → jobs ≡ length deck.terminals.items
     → runner.IsRun (λ job pairs screen. Talks (keys_at terminals job) pairs screen) opening jobs screens history → IsRun (deck_of deck) history screens
 is_run deck terminals opening jobs screens history are opened count run =
-    let own : (job : ℕ) → keys_at terminals job ≡ keys_at deck.terminals.items job = λ job. ap (λ (ts : List Terminal). keys_at ts job) are in
-    let many : jobs ≡ length (map terminal_of deck.terminals.items) = count ∙ sym (as_many deck.terminals.items) in
-    let state : opening ≡ opening_of (deck_of deck) =
-    opened ∙ (λ i. monitor.opening deck.volume.accounts.items deck.volume.blocks (sym deck.text_files i) (many i)) in
+    let state = opening_is deck opening jobs opened count in
     let legal = run.is_history.legal in
     record {
       legal = rw state at legal;
       proper = run.is_history.proper;
-      talks = record {
-        as_many = run.one_each ∙ many;
-        each = λ j terminal screen is_terminal is_screen.
-            let does : ℕ → List Pair → List ℕ → Type 0 = λ job pairs s. Talks (keys_at terminals job) pairs s in
-            let did : does (0 + j) (part_of (0 + j) history) screen = did_at does history 0 screens j screen run.all_did is_screen in
-            let place : 0 + j ≡ j = omega arith in
-            let here : does j (part_of j history) screen = subst (λ (job : ℕ). does job (part_of job history) screen) place did in
-            subst (λ (keys : List (List ℕ)). Talks keys (part_of j history) screen) (own j ∙ keys_are deck.terminals.items j terminal is_terminal) here;
-      };
+      talks = all_talk deck terminals are history screens (run.one_each ∙ count) run.all_did;
     }
 
 -- the volume of a deck that can be run is good

@@ -18,9 +18,9 @@ next_more a b (Some left) y z p q =
     (r.0, p.1 ∙ ap (λ (t : List ℕ). a ++ t) r.1 ∙ sym (append_assoc a b r.0), r.2)
 
 -- what was taken before, and a buffer's front behind it
-pub took_more : (bytes chunk : List ℕ) (n : ℕ) (old mid new : SourceState) → mid.taken ≡ old.taken + length bytes → AreNext bytes old.left mid.left → n ≤ length chunk → AreNext (take n chunk) mid.left new.left
-    → new.taken ≡ mid.taken + n → new.taken ≤ old.taken + 8388609 → TookNext old new
-took_more bytes chunk n old mid new before p fits q after few =
+pub took_more : (limit : ℕ) (bytes chunk : List ℕ) (n : ℕ) (old mid new : SourceState) → mid.taken ≡ old.taken + length bytes → AreNext bytes old.left mid.left → n ≤ length chunk → AreNext (take n chunk) mid.left new.left
+    → new.taken ≡ mid.taken + n → new.taken ≤ old.taken + (limit + 1) → TookNext limit old new
+took_more limit bytes chunk n old mid new before p fits q after few =
     let len : length (bytes ++ take n chunk) ≡ length bytes + n = omega (arith, length-append bytes (take n chunk), length-take-le n chunk fits) in
     record {
       bytes = bytes ++ take n chunk;

@@ -19,12 +19,15 @@ use Rattle.deck_reader.specs.Seen.{terminal_of, deck_of}
 use Rattle.report_texts.specs.Names.{names_of}
 use Rattle.program_words.specs.declared.words.Wanted.{Wanted}
 use Rattle.program_words.specs.declared.words.Asked.{Asked}
-use Rattle.program_words.specs.declared.words.Asked.TheVariants.{Run, Check, Drill, Nothing}
+use Rattle.program_words.specs.declared.words.Asked.TheVariants.{Run, Check, Drill, Replay, Nothing}
 use Rattle.rsts.specs.Headline as headline
-use Rattle.rsts.specs.Headline.{Ends, NothingGiven, SourceFailed, InputTooLong, SinkFailed, WantedMemory, Answers, IsReport, HasRan, IsGoodLine, HasChecked, FoundDeck, SpellsNone, Does}
+use Rattle.rsts.specs.Headline.{SinkFailed, Answers, IsReport, HasRan, IsGoodLine, HasChecked, FoundDeck, SpellsNone, Does}
 use Rattle.rsts.specs.declared.outcomes.Drill.{Drill as DrillEnd}
-use Rattle.rsts.specs.Outcomes.{IfRan, IfDrilled, OnChecked, OnUsage, OnReadFault, OnTooLong, IfDeck, OnWriteFault, OnNoMemory}
+use Rattle.rsts.specs.TwoEnds.{Ends, NothingGiven, SourceFailed, InputTooLong, WantedMemory}
+use Rattle.rsts.specs.declared.streams.TheConstants.{INPUT_LIMIT, REPLAY_LIMIT}
+use Rattle.rsts.specs.Outcomes.{IfRan, IfDrilled, IfReplayed, IfHistory, OnChecked, OnUsage, OnReadFault, OnTooLong, IfDeck, OnWriteFault, OnNoMemory}
 use Rattle.rsts.specs.SourceEnds.{outcome_of, WhyStopped, MustStop, MustFind, MustRefuse}
+use Rattle.rsts.specs.Replays.{Replays}
 use Rattle.rsts.specs.Streams.{AreAll, IsOverLimit, BrokeOff}
 
 -- what a source tells that it has left is what was read of it to its end
@@ -85,8 +88,10 @@ pub stopped_answers : (IsOutput : model.Deck → List ℕ → Type 0) (Succeeds 
 unfolding no_deck
 stopped_answers IsOutput Succeeds why before after cause given stop find refuse = record {
   not_usage = elim why as (λ (w : Stopped). OnUsage (outcome_of w) ⊥) [ stopped.ReadFault ↦ tt | stopped.TooLong ↦ tt | stopped.Deck fault ↦ tt | stopped.NoMemory ↦ tt ];
+  not_replayed = elim why as (λ (w : Stopped). IfReplayed (outcome_of w) (λ history. ⊥)) [ stopped.ReadFault ↦ tt | stopped.TooLong ↦ tt | stopped.Deck fault ↦ tt | stopped.NoMemory ↦ tt ];
+  not_disputed = elim why as (λ (w : Stopped). IfHistory (outcome_of w) (λ fault. ⊥)) [ stopped.ReadFault ↦ tt | stopped.TooLong ↦ tt | stopped.Deck fault ↦ tt | stopped.NoMemory ↦ tt ];
   read_fault = elim why as (λ (w : Stopped). WhyStopped w before.source after.source → OnReadFault (outcome_of w) (SourceFailed before after)) [ stopped.ReadFault ↦ λ c. record { fault = c; given = given } | stopped.TooLong ↦ λ c. tt | stopped.Deck fault ↦ λ c. tt | stopped.NoMemory ↦ λ c. tt ] cause;
-  too_long = elim why as (λ (w : Stopped). WhyStopped w before.source after.source → OnTooLong (outcome_of w) (InputTooLong before after)) [ stopped.ReadFault ↦ λ c. tt | stopped.TooLong ↦ λ c. record { taken = c; given = given } | stopped.Deck fault ↦ λ c. tt | stopped.NoMemory ↦ λ c. tt ] cause;
+  too_long = elim why as (λ (w : Stopped). WhyStopped w before.source after.source → OnTooLong (outcome_of w) (InputTooLong INPUT_LIMIT before after)) [ stopped.ReadFault ↦ λ c. tt | stopped.TooLong ↦ λ c. record { taken = c; given = given } | stopped.Deck fault ↦ λ c. tt | stopped.NoMemory ↦ λ c. tt ] cause;
   deck = elim why as (λ (w : Stopped). WhyStopped w before.source after.source → IfDeck (outcome_of w) (headline.Refused before after)) [ stopped.ReadFault ↦ λ c. tt | stopped.TooLong ↦ λ c. tt | stopped.Deck fault ↦ λ c. record { found = c; given = given } | stopped.NoMemory ↦ λ c. tt ] cause;
   write_fault = elim why as (λ (w : Stopped). OnWriteFault (outcome_of w) (SinkFailed IsOutput before after)) [ stopped.ReadFault ↦ tt | stopped.TooLong ↦ tt | stopped.Deck fault ↦ tt | stopped.NoMemory ↦ tt ];
   no_memory = elim why as (λ (w : Stopped). WhyStopped w before.source after.source → OnNoMemory (outcome_of w) (WantedMemory before after)) [ stopped.ReadFault ↦ λ c. tt | stopped.TooLong ↦ λ c. tt | stopped.Deck fault ↦ λ c. tt | stopped.NoMemory ↦ λ c. record { no_fault = c; given = given } ] cause;
@@ -104,7 +109,7 @@ stopped_neither stopped.NoMemory P Q D = (tt, tt, tt)
 
 -- where a deck was found, and all was written of it
 module _ (deck : Deck) (before after : Ends) (stop : MustStop (Ok deck) before.source after.source) (refuse : MustRefuse (Ok deck) before.source after.source) where
-  not_too_long : IsOverLimit before.source after.source → ⊥
+  not_too_long : IsOverLimit INPUT_LIMIT before.source after.source → ⊥
   unfolding some_deck no_deck
   not_too_long over = is_found deck stopped.TooLong (stop over)
 
@@ -115,6 +120,8 @@ module _ (deck : Deck) (before after : Ends) (stop : MustStop (Ok deck) before.s
   pub ran_answers : (wanted : Wanted) (history : List Entry) → Answers (IsReport wanted) HasRan before after (outcome.Ok history)
   ran_answers wanted history = record {
     not_usage = tt;
+    not_replayed = tt;
+    not_disputed = tt;
     read_fault = tt;
     too_long = tt;
     deck = tt;
@@ -128,6 +135,8 @@ module _ (deck : Deck) (before after : Ends) (stop : MustStop (Ok deck) before.s
   pub checked_answers : Answers IsGoodLine HasChecked before after outcome.Checked
   checked_answers = record {
     not_usage = tt;
+    not_replayed = tt;
+    not_disputed = tt;
     read_fault = tt;
     too_long = tt;
     deck = tt;
@@ -142,6 +151,8 @@ module _ (deck : Deck) (before after : Ends) (stop : MustStop (Ok deck) before.s
   pub broke_answers : (IsOutput : model.Deck → List ℕ → Type 0) (Succeeds : Outcome → Type 0) (output : List ℕ) → FoundDeck (deck_of deck) before.source after.source → IsOutput (deck_of deck) output → BrokeOff output before.sink after.sink → Answers IsOutput Succeeds before after outcome.WriteFault
   broke_answers IsOutput Succeeds output found is broke = record {
     not_usage = tt;
+    not_replayed = tt;
+    not_disputed = tt;
     read_fault = tt;
     too_long = tt;
     deck = tt;
@@ -156,6 +167,8 @@ module _ (deck : Deck) (before after : Ends) (stop : MustStop (Ok deck) before.s
 wanted_answers : (IsOutput : model.Deck → List ℕ → Type 0) (Succeeds : Outcome → Type 0) (e : Ends) → Answers IsOutput Succeeds e e outcome.NoMemory
 wanted_answers IsOutput Succeeds e = record {
   not_usage = tt;
+  not_replayed = tt;
+  not_disputed = tt;
   read_fault = tt;
   too_long = tt;
   deck = tt;
@@ -163,6 +176,26 @@ wanted_answers IsOutput Succeeds e = record {
   no_memory = record { no_fault = refl; given = refl };
   must_be_too_long = λ over. absurd (omega (arith, over));
   must_refuse = λ fault none. inr refl;
+  completes = λ fair. inr refl;
+}
+
+-- a replay for which memory ran out
+pub replay_wanted : (before after : Ends) → WantedMemory before after → (IsOverLimit REPLAY_LIMIT before.source after.source → ⊥) → Replays before after outcome.NoMemory
+replay_wanted before after want not_long = record {
+  replayed = tt;
+  history = tt;
+  deck = tt;
+  read_fault = tt;
+  too_long = tt;
+  write_fault = tt;
+  no_memory = want;
+  not_ran = tt;
+  not_checked = tt;
+  not_drilled = tt;
+  not_usage = tt;
+  must_be_too_long = λ over. absurd (not_long over);
+  must_refuse = λ fault told. inr refl;
+  must_dispute = λ fault told. inr refl;
   completes = λ fair. inr refl;
 }
 
@@ -175,13 +208,16 @@ wanted (Drill jobs) e = record {
     drilled = tt;
     not_ran = tt;
     not_checked = tt;
+    not_replayed = tt;
     not_usage = tt;
     not_read_fault = tt;
     not_too_long = tt;
     not_deck = tt;
+    not_disputed = tt;
     write_fault = tt;
     no_memory = refl;
     completes = λ stays. inr refl;
   };
 }
+wanted Replay e = replay_wanted e e (record { no_fault = refl; given = refl }) (λ over. omega (arith, over))
 wanted Nothing e = record { usage = inr refl; untouched = refl }

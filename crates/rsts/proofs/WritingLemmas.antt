@@ -13,7 +13,7 @@ use Rattle.report_texts.specs.Names.{names_of}
 use Rattle.deck_reader.specs.declared.decks.Deck.{Deck}
 use Rattle.deck_reader.specs.declared.decks.Terminal.{Terminal}
 use Rattle.deck_reader.specs.Seen.{deck_of}
-use Rattle.rsts.specs.Headline.{IsRun}
+use Rattle.rsts.specs.Runs.{IsRun}
 use Rattle.rsts.proofs.RunLemmas.{as_many}
 
 all_named : (names : List (List ℕ)) (m : State) (history : List Entry) → length m.jobs ≡ length names → Legal m history → AreNamed names history

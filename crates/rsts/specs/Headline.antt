@@ -1,76 +1,31 @@
 -- What the program does. Whoever trusts this file, and the definitions that it names, knows it.
 -- `Does`, at the end, is the one clause of the program's call; what stands before it are its words.
-use Rattle.std.specs.Prelude.{◌≡◌, ℕ, ◌≤◌, Bool, if◌then◌else◌, List, [], ◌++◌, length, map, slice_get, Some, ◌⊎◌}
+use Rattle.std.specs.Prelude.{◌≡◌, ℕ, Bool, if◌then◌else◌, List, [], ◌++◌, length, ◌⊎◌}
 use Rattle.monitor_calls.specs.declared.calls.Entry.{Entry}
-use Rattle.monitor_calls.specs.Pairs.{Pair, requests, replies}
-use Rattle.monitor_calls.specs.Proper.{Proper}
-use Rattle.monitor_model.specs.State as monitor
-use Rattle.monitor_model.specs.History.{Legal, part_of}
-use Rattle.session_model.specs.Talk.{IsTalk}
-use Rattle.deck_model.specs.Deck.{Deck, Terminal, volume_files}
+use Rattle.deck_model.specs.Deck.{Deck}
 use Rattle.deck_model.specs.Spelling.{Spelled}
 use Rattle.deck_model.specs.Refusals as refusals
 use Rattle.deck_model.specs.Report.{report, good_line}
 use Rattle.deck_model.specs.Histories.{history_text}
+use Rattle.deck_model.specs.declared.faults.DeckFault.{DeckFault}
 use Rattle.print_spool.specs.Printed.{printed_text}
 use Rattle.program_words.specs.declared.words.Wanted.{Wanted}
 use Rattle.program_words.specs.declared.words.Asked.{Asked}
-use Rattle.program_words.specs.declared.words.Asked.TheVariants.{Run, Check, Drill, Nothing}
+use Rattle.program_words.specs.declared.words.Asked.TheVariants.{Run, Check, Drill, Replay, Nothing}
 use Rattle.rsts_io.specs.Ends.{SourceState, SinkState, Rose}
-use Rattle.deck_model.specs.declared.faults.DeckFault.{DeckFault}
-use Rattle.rsts.specs.declared.outcomes.Outcome.{Outcome}
-use Rattle.rsts.specs.declared.outcomes.Outcome.TheVariants as outcome
-use Rattle.rsts.specs.declared.streams.TheConstants.{INPUT_LIMIT}
 use Rattle.drill_deck.specs.DrillDeck.{drill_deck}
 use Rattle.drill_deck.specs.Tallies.{puts_in, sum_in, drill_line}
 use Rattle.rsts.specs.declared.outcomes.Drill.{Drill as DrillEnd}
-use Rattle.rsts.specs.Outcomes.{IfRan, IfDrilled, OnChecked, OnUsage, IfDeck, OnReadFault, OnTooLong, OnWriteFault, OnNoMemory}
-use Rattle.rsts.specs.Streams.{IsInput, IsOverLimit, IsTooMuch, Written, BrokeOff}
+use Rattle.rsts.specs.declared.outcomes.Outcome.{Outcome}
+use Rattle.rsts.specs.declared.outcomes.Outcome.TheVariants as outcome
+use Rattle.rsts.specs.declared.streams.TheConstants.{INPUT_LIMIT}
+use Rattle.rsts.specs.Outcomes.{IfRan, IfDrilled, IfReplayed, IfHistory, OnChecked, OnUsage, IfDeck, OnReadFault, OnTooLong, OnWriteFault, OnNoMemory}
+use Rattle.rsts.specs.Replays.{Replays}
+use Rattle.rsts.specs.Runs.{IsRun, names_in}
+use Rattle.rsts.specs.Streams.{IsInput, Written, BrokeOff}
+use Rattle.rsts.specs.TwoEnds.{Ends, NothingGiven, SourceFailed, InputTooLong, WantedMemory, IsTold, EndsTooLong}
 
--- THE TWO ENDS
--- The program reads a source and writes to a sink. What they were before a call and what they are
--- after it is all that is said of them.
-
-pub record Ends : Type 0 where
-  pub source : SourceState
-  pub sink : SinkState
-
-abbrev pub ends : SourceState → SinkState → Ends
-ends source sink = record { source = source; sink = sink }
-
--- A RUN OF A DECK
-
--- the talk of these keys, given the replies of the pairs, makes their requests and ends with the
--- screen
-unfoldable pub Talks : List (List ℕ) → List Pair → List ℕ → Type 0
-Talks keys pairs screen = IsTalk keys (replies pairs) (requests pairs) screen
-
--- a job's part of the history is what the terminal's talk makes, and the screen is what it shows
-abbrev pub HasTalked : List Entry → ℕ → Terminal → List ℕ → Type 0
-HasTalked history job terminal screen = Talks terminal.keys (part_of job history) screen
-
--- there are as many screens as terminals, and at each place the terminal has talked so, as the job
--- of that number
-pub record AllTalk (history : List Entry) (terminals : List Terminal) (screens : List (List ℕ))
-    : Type 0 where
-  pub as_many : length screens ≡ length terminals
-  pub each : (j : ℕ) (terminal : Terminal) (screen : List ℕ) → slice_get terminals j ≡ Some terminal
-      → slice_get screens j ≡ Some screen → HasTalked history j terminal screen
-
--- the state of the monitor that the deck gives, with a job for each terminal
-abbrev pub opening_of : Deck → monitor.State
-opening_of deck =
-    monitor.opening deck.accounts deck.blocks (volume_files deck) (length deck.terminals)
-
--- the monitor answered one call at a time, from the deck's opening state, and each job asked what
--- its terminal's keys make given the replies
-pub record IsRun (deck : Deck) (history : List Entry) (screens : List (List ℕ)) : Type 0 where
-  pub legal : Legal (opening_of deck) history
-  pub proper : Proper history
-  pub talks : AllTalk history deck.terminals screens
-
-abbrev pub names_in : Deck → List (List ℕ)
-names_in deck = map (λ (terminal : Terminal). terminal.name) deck.terminals
+-- WHAT IS WRITTEN OF A RUN
 
 abbrev pub where_wanted : Bool → List ℕ → List ℕ
 where_wanted wanted text = if wanted then text else []
@@ -103,7 +58,7 @@ IsGoodLine deck output =
 -- the input was read whole, and spells the deck
 pub record FoundDeck (deck : Deck) (old new : SourceState) : Type 0 where
   pub read : List ℕ
-  pub input : IsInput read old new
+  pub input : IsInput INPUT_LIMIT read old new
   pub spelled : Spelled read deck
 
 -- the input spells a deck, and what was written is the report of a run of it with this history
@@ -124,23 +79,10 @@ pub record Checked (before after : Ends) : Type 0 where
 
 -- THE CAUSES OF EVERY OTHER ANSWER
 
-abbrev pub NothingGiven : Ends → Ends → Type 0
-NothingGiven before after = after.sink ≡ before.sink
-
--- the source failed once, and nothing was given
-pub record SourceFailed (before after : Ends) : Type 0 where
-  pub fault : Rose before.source.faults after.source.faults
-  pub given : NothingGiven before after
-
--- one byte more than an input may have was taken
-pub record InputTooLong (before after : Ends) : Type 0 where
-  pub taken : IsTooMuch before.source after.source
-  pub given : NothingGiven before after
-
 -- the input was read whole, and is refused at this line for this cause
 pub record FoundNone (fault : DeckFault) (old new : SourceState) : Type 0 where
   pub read : List ℕ
-  pub input : IsInput read old new
+  pub input : IsInput INPUT_LIMIT read old new
   pub refused : refusals.Refused read fault.line fault.cause
 
 pub record Refused (before after : Ends) (fault : DeckFault) : Type 0 where
@@ -155,28 +97,17 @@ pub record SinkFailed (IsOutput : Deck → List ℕ → Type 0) (before after : 
   pub is_output : IsOutput deck output
   pub broke_off : BrokeOff output before.sink after.sink
 
--- memory ran out, and no end failed
-pub record WantedMemory (before after : Ends) : Type 0 where
-  pub no_fault : after.source.faults ≡ before.source.faults
-  pub given : NothingGiven before after
-
 -- WHAT MUST COME
-
--- the source tells its bytes, they are no more than an input may have, and it does not fail
-pub record IsTold (read : List ℕ) (old new : SourceState) : Type 0 where
-  pub told : old.left ≡ Some read
-  pub most : length read ≤ INPUT_LIMIT
-  pub no_fault : Rose old.faults new.faults → ⊥
 
 pub record SpellsDeck (old new : SourceState) : Type 0 where
   pub read : List ℕ
   pub deck : Deck
-  pub told : IsTold read old new
+  pub told : IsTold INPUT_LIMIT read old new
   pub spelled : Spelled read deck
 
 pub record SpellsNone (fault : DeckFault) (old new : SourceState) : Type 0 where
   pub read : List ℕ
-  pub told : IsTold read old new
+  pub told : IsTold INPUT_LIMIT read old new
   pub refused : refusals.Refused read fault.line fault.cause
 
 -- a deck between ends that do not fail
@@ -194,10 +125,6 @@ abbrev pub Refuses : Ends → Ends → Outcome → Type 0
 Refuses before after result =
     (fault : DeckFault) → SpellsNone fault before.source after.source
     → (result ≡ outcome.Deck fault) ⊎ (result ≡ outcome.NoMemory)
-
--- one byte more than an input may have is too much
-abbrev pub EndsTooLong : Ends → Ends → Outcome → Type 0
-EndsTooLong before after result = IsOverLimit before.source after.source → result ≡ outcome.TooLong
 
 abbrev pub HasRan : Outcome → Type 0
 HasRan result = (history : List Entry) × (result ≡ outcome.Ok history)
@@ -238,10 +165,12 @@ pub record DrillEnds (jobs : ℕ) (before after : SinkState) (result : Outcome) 
   pub drilled : IfDrilled result (Drilled jobs before after)
   pub not_ran : IfRan result (λ history. ⊥)
   pub not_checked : OnChecked result ⊥
+  pub not_replayed : IfReplayed result (λ history. ⊥)
   pub not_usage : OnUsage result ⊥
   pub not_read_fault : OnReadFault result ⊥
   pub not_too_long : OnTooLong result ⊥
   pub not_deck : IfDeck result (λ fault. ⊥)
+  pub not_disputed : IfHistory result (λ fault. ⊥)
   pub write_fault : OnWriteFault result (DrillBroke jobs before after)
   pub no_memory : OnNoMemory result (after ≡ before)
   pub completes : (Rose before.faults after.faults → ⊥) → HasDrilled result ⊎ (result ≡ outcome.NoMemory)
@@ -253,12 +182,14 @@ pub record DrillEnds (jobs : ℕ) (before after : SinkState) (result : Outcome) 
 pub record Answers (IsOutput : Deck → List ℕ → Type 0) (Succeeds : Outcome → Type 0)
     (before after : Ends) (result : Outcome) : Type 0 where
   pub not_usage : OnUsage result ⊥
+  pub not_replayed : IfReplayed result (λ history. ⊥)
+  pub not_disputed : IfHistory result (λ fault. ⊥)
   pub read_fault : OnReadFault result (SourceFailed before after)
-  pub too_long : OnTooLong result (InputTooLong before after)
+  pub too_long : OnTooLong result (InputTooLong INPUT_LIMIT before after)
   pub deck : IfDeck result (Refused before after)
   pub write_fault : OnWriteFault result (SinkFailed IsOutput before after)
   pub no_memory : OnNoMemory result (WantedMemory before after)
-  pub must_be_too_long : EndsTooLong before after result
+  pub must_be_too_long : EndsTooLong INPUT_LIMIT before after result
   pub must_refuse : Refuses before after result
   pub completes : Completes Succeeds before after result
 
@@ -284,9 +215,10 @@ pub record TellsUsage (before after : Ends) (result : Outcome) : Type 0 where
   pub untouched : after ≡ before
 
 -- as the words ask, a deck is run, and what is wanted of it is written, or it is checked, or a drill
--- is run, or the usage is told
+-- is run, or a run is checked again, or the usage is told
 abbrev pub Does : Asked → Ends → Ends → Outcome → Type 0
 Does (Run wanted) before after result = Runs wanted before after result
 Does Check before after result = Checks before after result
 Does (Drill jobs) before after result = Drills jobs before after result
+Does Replay before after result = Replays before after result
 Does Nothing before after result = TellsUsage before after result

@@ -1,7 +1,13 @@
 pub mod Decks
+pub mod Disputes
 pub mod Headline
+pub mod InputEnds
+pub mod Inputs
 pub mod Outcomes
+pub mod Replays
+pub mod Runs
 pub mod SourceEnds
 pub mod Statuses
 pub mod Steps
 pub mod Streams
+pub mod TwoEnds

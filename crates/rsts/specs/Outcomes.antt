@@ -3,6 +3,7 @@ use Rattle.std.specs.Prelude.{List}
 use Rattle.monitor_calls.specs.declared.calls.Entry.{Entry}
 use Rattle.deck_model.specs.declared.faults.DeckFault.{DeckFault}
 use Rattle.rsts.specs.declared.outcomes.Drill.{Drill}
+use Rattle.rsts.specs.declared.outcomes.HistoryFault.{HistoryFault}
 use Rattle.rsts.specs.declared.outcomes.Outcome.{Outcome}
 use Rattle.rsts.specs.declared.outcomes.Outcome.TheVariants as outcome
 
@@ -20,6 +21,11 @@ abbrev pub IfDrilled : Outcome → (Drill → Type 0) → Type 0
 IfDrilled (outcome.Drilled drill) P = P drill
 IfDrilled _ P = Unit {0}
 
+-- the history of a run that was checked again
+abbrev pub IfReplayed : Outcome → (List Entry → Type 0) → Type 0
+IfReplayed (outcome.Replayed history) P = P history
+IfReplayed _ P = Unit {0}
+
 abbrev pub OnUsage : Outcome → Type 0 → Type 0
 OnUsage outcome.Usage P = P
 OnUsage _ P = Unit {0}
@@ -27,6 +33,11 @@ OnUsage _ P = Unit {0}
 abbrev pub IfDeck : Outcome → (DeckFault → Type 0) → Type 0
 IfDeck (outcome.Deck fault) P = P fault
 IfDeck _ P = Unit {0}
+
+-- where a history is disputed, and why
+abbrev pub IfHistory : Outcome → (HistoryFault → Type 0) → Type 0
+IfHistory (outcome.History fault) P = P fault
+IfHistory _ P = Unit {0}
 
 abbrev pub OnReadFault : Outcome → Type 0 → Type 0
 OnReadFault outcome.ReadFault P = P

@@ -9,6 +9,7 @@ use Rattle.rsts.specs.declared.systems.Stopped.{Stopped}
 use Rattle.rsts.specs.declared.systems.Stopped.TheVariants as stopped
 use Rattle.deck_reader.specs.Seen.{deck_of}
 use Rattle.rsts.specs.Headline.{FoundDeck, FoundNone, SpellsDeck, SpellsNone}
+use Rattle.rsts.specs.declared.streams.TheConstants.{INPUT_LIMIT}
 use Rattle.rsts.specs.Streams.{IsOverLimit, IsTooMuch}
 
 abbrev pub outcome_of : Stopped → Outcome
@@ -19,7 +20,7 @@ outcome_of stopped.NoMemory = outcome.NoMemory
 
 abbrev pub WhyStopped : Stopped → SourceState → SourceState → Type 0
 WhyStopped stopped.ReadFault old new = Rose old.faults new.faults
-WhyStopped stopped.TooLong old new = IsTooMuch old new
+WhyStopped stopped.TooLong old new = IsTooMuch INPUT_LIMIT old new
 WhyStopped (stopped.Deck fault) old new = FoundNone fault old new
 WhyStopped stopped.NoMemory old new = new.faults ≡ old.faults
 
@@ -31,7 +32,7 @@ FoundInSource (Err why) old new = WhyStopped why old new
 -- unless memory runs out: too much stops the reading, a deck is found, and where there is none that
 -- is told
 abbrev pub MustStop : Result Deck Stopped → SourceState → SourceState → Type 0
-MustStop result old new = IsOverLimit old new → result ≡ Err stopped.TooLong
+MustStop result old new = IsOverLimit INPUT_LIMIT old new → result ≡ Err stopped.TooLong
 
 abbrev pub MustFind : Result Deck Stopped → SourceState → SourceState → Type 0
 MustFind result old new = SpellsDeck old new → IsOk result ⊎ (result ≡ Err stopped.NoMemory)

@@ -5,7 +5,8 @@ use Rattle.program_words.specs.declared.words.Asked.TheVariants.{Run, Drill}
 use Rattle.program_words.specs.declared.words.TheConstants.{MOST_DRILL_JOBS}
 use Rattle.rsts.specs.declared.top.Step.{Step}
 use Rattle.rsts.specs.declared.top.Step.TheVariants as step
-use Rattle.rsts.specs.Headline.{Ends, Does}
+use Rattle.rsts.specs.Headline.{Does}
+use Rattle.rsts.specs.TwoEnds.{Ends}
 
 -- all that the words ask is done; or they ask for a run or a drill, and nothing was done yet
 abbrev pub Begins : Asked → Ends → Ends → Step → Type 0

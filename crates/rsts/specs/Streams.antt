@@ -4,7 +4,6 @@ use Rattle.std.specs.Global.{Vec}
 use Rattle.rsts_io.specs.Ends.{SourceState, SinkState, Rose, AreNext, Appended}
 use Rattle.rsts.specs.declared.streams.ReadEnd.{ReadEnd}
 use Rattle.rsts.specs.declared.streams.ReadEnd.TheVariants as end
-use Rattle.rsts.specs.declared.streams.TheConstants.{INPUT_LIMIT}
 
 -- the bytes were all that was left, where that is told
 abbrev pub AreAll : List ℕ → Option (List ℕ) → Option (List ℕ) → Type 0
@@ -13,34 +12,34 @@ AreAll bytes (Some left) after = (left ≡ bytes) × (after ≡ Some [])
 
 -- the source was read to its end and did not fail, and these bytes are what it had: no more than an
 -- input may have
-pub record IsInput (read : List ℕ) (old new : SourceState) : Type 0 where
+pub record IsInput (limit : ℕ) (read : List ℕ) (old new : SourceState) : Type 0 where
   pub all : AreAll read old.left new.left
   pub count : new.taken ≡ old.taken + length read
-  pub most : length read ≤ INPUT_LIMIT
+  pub most : length read ≤ limit
   pub no_fault : new.faults ≡ old.faults
 
 -- one byte more than an input may have was taken
-abbrev pub IsOverLimit : SourceState → SourceState → Type 0
-IsOverLimit old new = new.taken ≡ old.taken + (INPUT_LIMIT + 1)
+abbrev pub IsOverLimit : ℕ → SourceState → SourceState → Type 0
+IsOverLimit limit old new = new.taken ≡ old.taken + (limit + 1)
 
 -- and the source did not fail
-pub record IsTooMuch (old new : SourceState) : Type 0 where
-  pub count : IsOverLimit old new
+pub record IsTooMuch (limit : ℕ) (old new : SourceState) : Type 0 where
+  pub count : IsOverLimit limit old new
   pub no_fault : new.faults ≡ old.faults
 
 -- how reading a source ends
-abbrev pub ReadSo : Result (Vec ℕ) ReadEnd → SourceState → SourceState → Type 0
-ReadSo (Ok bytes) old new = IsInput bytes.items old new
-ReadSo (Err end.Fault) old new = Rose old.faults new.faults
-ReadSo (Err end.TooLong) old new = IsTooMuch old new
-ReadSo (Err end.NoMemory) old new = new.faults ≡ old.faults
+abbrev pub ReadSo : ℕ → Result (Vec ℕ) ReadEnd → SourceState → SourceState → Type 0
+ReadSo limit (Ok bytes) old new = IsInput limit bytes.items old new
+ReadSo limit (Err end.Fault) old new = Rose old.faults new.faults
+ReadSo limit (Err end.TooLong) old new = IsTooMuch limit old new
+ReadSo limit (Err end.NoMemory) old new = new.faults ≡ old.faults
 
 -- what was taken stood next, where that is told, and is at most one byte more than an input may
 -- have
-pub record TookNext (old new : SourceState) : Type 0 where
+pub record TookNext (limit : ℕ) (old new : SourceState) : Type 0 where
   pub bytes : List ℕ
   pub count : new.taken ≡ old.taken + length bytes
-  pub most : length bytes ≤ INPUT_LIMIT + 1
+  pub most : length bytes ≤ limit + 1
   pub next : AreNext bytes old.left new.left
 
 -- the bytes were given, and the sink did not fail

@@ -4,12 +4,14 @@ ghost use Rattle.std.specs.Prelude.{◌≡◌, length, IfOk};
 ghost use Rattle.deck_model.specs.Deck.{IsDeck};
 ghost use Rattle.deck_reader.specs.Seen.{deck_of};
 ghost use Rattle.rsts.specs.Decks.{keys_at};
-ghost use Rattle.rsts.specs.Headline.{Talks, IsRun};
+ghost use Rattle.rsts.specs.InputEnds.{RetoldBy};
+ghost use Rattle.rsts.specs.Runs.{Talks, IsRun};
 
-use basic_values::{KeyLine, NoMemory};
+use basic_values::{KeyLine, NoMemory, Trouble};
 use command_level::serve;
 use deck_reader::{Deck, Terminal};
-use monitor_calls::{Port, Screen2};
+use history_replay::{Dispute, replay};
+use monitor_calls::{Entry, Port, Screen2};
 use monitor_core::Monitor;
 use std::alloc::Global;
 use std::sync::Wait;
@@ -26,7 +28,7 @@ impl JobBody for Sessions<'_> {
     ghost does = { λ sessions job pairs screen.
         Talks (keys_at sessions.terminals.now job) pairs screen };
 
-    #[tactic(auto, unfolding(crate::specs::Headline::Talks))]
+    #[tactic(auto, unfolding(crate::specs::Runs::Talks))]
     fn run<P: Port>(&self, alloc: Global, job: u32, port: &mut P) -> Result<Screen2, NoMemory> {
         let screen = serve(alloc, keys_at(self.terminals, job as usize), port)?;
         Ok(screen.close())
@@ -57,4 +59,20 @@ pub(crate) fn run_deck<R: Threads + Wait + Sync, P: Pacer + Sync>(
     let jobs = terminals.len() as u32;
     let monitor = Monitor::open(alloc, &deck.volume, jobs)?;
     run_jobs(rt, alloc, monitor, &Sessions { terminals }, jobs, pacer)
+}
+
+/// Replays entries over the terminals of a deck: the screens, where a run of the deck has these
+/// entries; else where they first fail to be that.
+pub(crate) fn replay_deck(
+    alloc: Global,
+    deck: &Deck,
+    history: &[Entry],
+) -> Result<Vec<Screen2>, Trouble<Dispute>>
+    requires { IsDeck (deck_of deck.now) }
+    ensures { RetoldBy (deck_of deck.now) history.now result }
+{
+    let terminals = deck.terminals.as_slice();
+    let jobs = terminals.len() as u32;
+    let monitor = Monitor::open(alloc, &deck.volume, jobs)?;
+    replay(alloc, monitor, &Sessions { terminals }, jobs, history)
 }

@@ -8,15 +8,18 @@ ghost use Rattle.rsts.specs.Streams.{ReadSo, TookNext, IsOverLimit, Written, Bro
 use rsts_io::{Gave, Sink, Source, Took};
 use std::alloc::{AllocError, Global};
 
-/// The most bytes of an input: 8 MiB.
+/// The most bytes of an input of a run and of a check: 8 MiB.
 pub const INPUT_LIMIT: usize = 8_388_608;
+
+/// The most bytes of an input of a replay, in which a history stands: 256 MiB.
+pub const REPLAY_LIMIT: usize = 268_435_456;
 
 /// Why an input was not read.
 #[derive(Clone, Copy, Debug, PartialEq, Eq)]
 pub enum ReadEnd {
     /// The source failed.
     Fault,
-    /// It has more than `INPUT_LIMIT` bytes.
+    /// It has more bytes than an input may have.
     TooLong,
     NoMemory,
 }
@@ -31,37 +34,41 @@ impl From<AllocError> for ReadEnd {
     }
 }
 
-/// All the bytes of a source, up to its end. It asks for no byte beyond the first that is too many.
-pub fn read_all<S: Source>(alloc: Global, source: &mut S) -> Result<Vec<u8>, ReadEnd>
-    ensures ended { ReadSo result (S.state source.old) (S.state source.new) }
+/// All the bytes of a source, up to its end, of which there may be so many. It asks for no byte
+/// beyond the first that is too many.
+pub fn read_all<S: Source>(alloc: Global, source: &mut S, limit: usize) -> Result<Vec<u8>, ReadEnd>
+    requires { limit ≤ REPLAY_LIMIT }
+    ensures ended { ReadSo limit result (S.state source.old) (S.state source.new) }
     // Whatever the answer, what was taken stood next, and is at most one byte more than an input
     // may have.
-    ensures next { TookNext (S.state source.old) (S.state source.new) }
-    ensures too_long { IsOverLimit (S.state source.old) (S.state source.new)
+    ensures next { TookNext limit (S.state source.old) (S.state source.new) }
+    ensures too_long { IsOverLimit limit (S.state source.old) (S.state source.new)
         → result ≡ Err ReadEnd.TooLong }
 {
     let mut chunk = [0u8; 4096];
-    read_through(alloc, source, &mut chunk)
+    read_through(alloc, source, limit, &mut chunk)
 }
 
 fn read_through<S: Source>(
     alloc: Global,
     source: &mut S,
+    limit: usize,
     chunk: &mut [u8],
 ) -> Result<Vec<u8>, ReadEnd>
-    requires { 0 < length chunk.old }
-    ensures ended { ReadSo result (S.state source.old) (S.state source.new) }
-    ensures next { TookNext (S.state source.old) (S.state source.new) }
-    ensures too_long { IsOverLimit (S.state source.old) (S.state source.new)
+    requires limit { limit ≤ REPLAY_LIMIT }
+    requires room { 0 < length chunk.old }
+    ensures ended { ReadSo limit result (S.state source.old) (S.state source.new) }
+    ensures next { TookNext limit (S.state source.old) (S.state source.new) }
+    ensures too_long { IsOverLimit limit (S.state source.old) (S.state source.new)
         → result ≡ Err ReadEnd.TooLong }
 {
     let mut bytes = Vec::new(alloc);
     'reading: loop {
-        match take_some(source, chunk, INPUT_LIMIT + 1 - bytes.len()) {
+        match take_some(source, chunk, limit + 1 - bytes.len()) {
             Took::End => return Ok(bytes),
             Took::Failed => return Err(ReadEnd::Fault),
             Took::Bytes(count) => {
-                if bytes.len() + count > INPUT_LIMIT {
+                if bytes.len() + count > limit {
                     return Err(ReadEnd::TooLong);
                 }
                 bytes.extend_from_slice(&chunk[..count])?;

@@ -3,12 +3,13 @@
 ghost use Rattle.std.specs.Prelude.{◌≡◌, IfOk};
 ghost use Rattle.deck_model.specs.Deck.{IsDeck};
 ghost use Rattle.deck_reader.specs.Seen.{deck_of};
-ghost use Rattle.rsts.specs.Headline.{ends, Reports, Runs, Checks};
+ghost use Rattle.rsts.specs.Headline.{Reports, Runs, Checks};
 ghost use Rattle.rsts.specs.SourceEnds.{FoundInSource, MustFind, MustRefuse, MustStop, outcome_of};
+ghost use Rattle.rsts.specs.TwoEnds.{ends};
 
 use crate::outcomes::Outcome;
 use crate::runs::run_deck;
-use crate::streams::{ReadEnd, SinkFault, give_all, read_all};
+use crate::streams::{INPUT_LIMIT, ReadEnd, SinkFault, give_all, read_all};
 use crate::writings::written;
 use basic_values::{NoMemory, Trouble};
 use deck_model::DeckFault;
@@ -100,7 +101,7 @@ fn read_system<S: Source>(alloc: Global, source: &mut S) -> Result<Deck, Stopped
     ensures must_find { MustFind result (S.state source.old) (S.state source.new) }
     ensures must_refuse { MustRefuse result (S.state source.old) (S.state source.new) }
 {
-    let bytes = match read_all(alloc, source) {
+    let bytes = match read_all(alloc, source, INPUT_LIMIT) {
         Ok(bytes) => bytes,
         Err(ReadEnd::Fault) => return Err(Stopped::ReadFault),
         Err(ReadEnd::TooLong) => return Err(Stopped::TooLong),

@@ -2,11 +2,13 @@
 
 ghost use Rattle.std.specs.Prelude.{map, string_bytes};
 ghost use Rattle.program_words.specs.Words.{asked};
-ghost use Rattle.rsts.specs.Headline.{ends, Does};
+ghost use Rattle.rsts.specs.Headline.{Does};
 ghost use Rattle.rsts.specs.Steps.{Begins};
+ghost use Rattle.rsts.specs.TwoEnds.{ends};
 
 use crate::drills::run_drill;
 use crate::outcomes::Outcome;
+use crate::replays::replay_system;
 use crate::systems::{check_system, run_system};
 use basic_values::NoMemory;
 use program_words::{Asked, Wanted, asked_by};
@@ -27,7 +29,7 @@ pub enum Step {
     Drills(u32),
 }
 
-/// Does what the words ask where that waits for nobody, as a check and the usage do.
+/// Does what the words ask where that waits for nobody, as a check, a replay and the usage do.
 #[tactic(auto, using(crate::proofs::SystemLemmas::wanted))]
 pub fn begin<S: Source, K: Sink>(
     alloc: Global,
@@ -43,6 +45,7 @@ pub fn begin<S: Source, K: Sink>(
         Ok(Asked::Run(wanted)) => Step::Runs(wanted),
         Ok(Asked::Check) => Step::Ended(check_system(alloc, source, sink)),
         Ok(Asked::Drill(jobs)) => Step::Drills(jobs),
+        Ok(Asked::Replay) => Step::Ended(replay_system(alloc, source, sink)),
         Ok(Asked::Nothing) => Step::Ended(Outcome::Usage),
         Err(NoMemory) => Step::Ended(Outcome::NoMemory),
     }
@@ -50,8 +53,8 @@ pub fn begin<S: Source, K: Sink>(
 
 /// Reads a deck from the source, runs its terminals, each in a thread of its own, and writes the
 /// report to the sink, behind it the text of the history and what the printer printed; or reads a
-/// deck and writes whether it is good; or runs the drill's deck and writes what it came to; as the
-/// words ask.
+/// deck and writes whether it is good; or runs the drill's deck and writes what it came to; or reads a
+/// deck and a history and checks that run again; as the words ask.
 pub fn rsts_main<R: Threads + Wait + Sync, S: Source, K: Sink, P: Pacer + Sync>(
     rt: &R,
     alloc: Global,
@@ -83,6 +86,8 @@ mod hostile;
 mod pacing;
 #[cfg(test)]
 mod printing;
+#[cfg(test)]
+mod replaying;
 #[cfg(test)]
 mod sessions;
 #[cfg(test)]

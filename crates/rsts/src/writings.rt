@@ -5,7 +5,8 @@ ghost use Rattle.deck_model.specs.Histories.{history_text};
 ghost use Rattle.deck_reader.specs.Seen.{deck_of};
 ghost use Rattle.print_spool.specs.Printed.{AreNamed, printed_text};
 ghost use Rattle.report_texts.specs.Names.{names_of};
-ghost use Rattle.rsts.specs.Headline.{IsRun, where_wanted, written_of};
+ghost use Rattle.rsts.specs.Headline.{where_wanted, written_of};
+ghost use Rattle.rsts.specs.Runs.{IsRun};
 
 use basic_values::NoMemory;
 use deck_reader::{Deck, Terminal};

@@ -13,7 +13,7 @@ fn a_source_is_read_to_its_end(rt: HostRuntime) -> Result<(), Fail> {
     for (count, want) in rows {
         let bytes = vec![in rt.alloc(); b'A'; count]?;
         let mut source = PlainSource::new(rt.alloc(), &bytes[..])?;
-        let got = read_all(rt.alloc(), &mut source);
+        let got = read_all(rt.alloc(), &mut source, INPUT_LIMIT);
         assert_eq!(rt; got.as_ref().err().copied(), want);
         if want.is_none() {
             assert_eq!(rt; got.map(|v| v.len()), Ok(count));

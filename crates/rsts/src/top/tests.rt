@@ -28,7 +28,7 @@ fn a_program_that_always_wants_memory_fails_these_rows(rt: HostRuntime) -> Resul
 
 const USAGE: &str = "usage: rsts run [--history] | check | drill N";
 
-static OTHER_WORDS: [&[&str]; 18] = [
+static OTHER_WORDS: [&[&str]; 21] = [
     &[""],
     &["RUN"],
     &["runs"],
@@ -47,6 +47,9 @@ static OTHER_WORDS: [&[&str]; 18] = [
     &["drill", "4", "--printer"],
     &["run", "--printer", "--printer"],
     &["drill", "4", "4"],
+    &["replay", "--history"],
+    &["replay", "3"],
+    &["REPLAY"],
 ];
 
 #[test]
@@ -78,7 +81,7 @@ fn the_history_stands_behind_the_report(rt: HostRuntime) -> Result<(), Fail> {
     expect_all(&rt, rt.alloc(), &HISTORIES)
 }
 
-const TWO: &[u8] = b"RSTS-DECK 1\nDISK 8\nACCOUNT 100,5 DEMO 100\nACCOUNT 1,2 SYS 50\n\
+pub(crate) const TWO: &[u8] = b"RSTS-DECK 1\nDISK 8\nACCOUNT 100,5 DEMO 100\nACCOUNT 1,2 SYS 50\n\
 TERMINAL T1\n>HELLO 100,5;DEMO\n>BYE\nTERMINAL T2\n>HELLO 1,2;SYS\n>BYE\nEND\n";
 
 const TWO_REPORT: &[u8] = b"TERMINAL T1 35\nHELLO 100,5;DEMO\r\nReady\r\nBYE\r\nBye\r\n\n\

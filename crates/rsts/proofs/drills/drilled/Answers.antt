@@ -1,7 +1,7 @@
 use Rattle.std.proofs.Common.{◌≡◌, refl, sym, ap, subst, ◌∙◌}
 use Rattle.deck_model.specs.Deck.{Deck, IsDeck}
 use Rattle.drill_deck.specs.Tallies.{puts_in, sum_in}
-use Rattle.rsts.specs.Headline.{IsRun}
+use Rattle.rsts.specs.Runs.{IsRun}
 use Rattle.rsts.proofs.drills.drilled.Goals as goal
 
 pub run_deck-requires : goal.run_deck-requires

@@ -4,11 +4,11 @@ use Rattle.rsts.proofs.streams.read_through.Given as goal
 
 abbrev pub invariant-reading : goal.invariant-reading
 invariant-reading g l = record {
-  few : vec_len l.bytes ≤ 8388608;
+  few : vec_len l.bytes ≤ l.limit;
   taken : (g.S.Source.state l.source).taken ≡ (g.S.Source.state l.initial.source).taken + vec_len l.bytes;
   next : AreNext l.bytes.items (g.S.Source.state l.initial.source).left (g.S.Source.state l.source).left;
   no_fault : (g.S.Source.state l.source).faults ≡ (g.S.Source.state l.initial.source).faults;
 }
 
 abbrev pub decreases-reading : goal.decreases-reading
-decreases-reading g l = 8388609 - vec_len l.bytes
+decreases-reading g l = (l.limit + 1) - vec_len l.bytes

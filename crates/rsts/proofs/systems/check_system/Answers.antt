@@ -5,7 +5,8 @@ use Rattle.deck_reader.specs.Filed.{file_of}
 use Rattle.deck_reader.specs.Seen.{deck_of, terminal_of}
 use Rattle.rsts.proofs.RunLemmas.{as_many}
 use Rattle.rsts.specs.declared.outcomes.Outcome.{Outcome}
-use Rattle.rsts.specs.Headline.{ends, IsGoodLine, HasChecked, Checked, Checks}
+use Rattle.rsts.specs.TwoEnds.{ends}
+use Rattle.rsts.specs.Headline.{IsGoodLine, HasChecked, Checked, Checks}
 use Rattle.rsts.specs.Streams.{Written, BrokeOff}
 use Rattle.rsts.proofs.SystemLemmas.{stopped_answers, stopped_neither, checked_answers, broke_answers}
 use Rattle.rsts.proofs.systems.check_system.Goals as goal

@@ -1,7 +1,8 @@
 use Rattle.std.proofs.Common.{ℕ, List, refl, sym, subst}
 use Rattle.rsts.specs.declared.outcomes.Outcome.{Outcome}
 use Rattle.deck_reader.specs.Seen.{deck_of}
-use Rattle.rsts.specs.Headline.{ends, IsReport, HasRan, Headline, Runs}
+use Rattle.rsts.specs.TwoEnds.{ends}
+use Rattle.rsts.specs.Headline.{IsReport, HasRan, Headline, Runs}
 use Rattle.rsts.specs.Streams.{Written, BrokeOff}
 use Rattle.rsts.proofs.SystemLemmas.{stopped_answers, stopped_neither, ran_answers, broke_answers}
 use Rattle.rsts.proofs.systems.run_system.Goals as goal

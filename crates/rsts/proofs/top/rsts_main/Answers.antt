@@ -5,7 +5,8 @@ use Rattle.program_words.specs.declared.words.Asked.{Asked}
 use Rattle.program_words.specs.declared.words.Asked.TheVariants.{Run, Drill}
 use Rattle.program_words.specs.Words.{asked}
 use Rattle.rsts_io.specs.Ends.{SinkState}
-use Rattle.rsts.specs.Headline.{Ends, ends, Does, Runs, DrillEnds}
+use Rattle.rsts.specs.Headline.{Does, Runs, DrillEnds}
+use Rattle.rsts.specs.TwoEnds.{Ends, ends}
 use Rattle.rsts.proofs.top.rsts_main.Goals as goal
 
 pub returns-in-Runs : goal.returns-in-Runs

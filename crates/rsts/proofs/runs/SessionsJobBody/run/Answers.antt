@@ -1,5 +1,5 @@
 use Rattle.std.proofs.Common.{ℕ, List, subst, sym}
-use Rattle.rsts.specs.Headline.{Talks}
+use Rattle.rsts.specs.Runs.{Talks}
 use Rattle.rsts.proofs.runs.SessionsJobBody.run.Goals as goal
 
 pub returns : goal.returns

@@ -5,7 +5,8 @@ use Rattle.program_words.specs.Words.{asked}
 use Rattle.program_words.specs.declared.words.Asked.{Asked}
 use Rattle.program_words.specs.declared.words.Asked.TheVariants.{Run}
 use Rattle.rsts_io.specs.Memory.{plain_feed_state, plain_store_state}
-use Rattle.rsts.specs.Headline.{ends, Does}
+use Rattle.rsts.specs.Headline.{Does}
+use Rattle.rsts.specs.TwoEnds.{ends}
 use Rattle.rsts.proofs.top.tests.run_between_plain_ends.Goals as goal
 
 pub returns : goal.returns
