@@ -18,7 +18,7 @@ use Rattle.rsts.specs.declared.streams.TheConstants.{REPLAY_LIMIT}
 use Rattle.rsts.specs.Disputes.{Disputes}
 use Rattle.rsts.specs.InputEnds.{TellsFault, fault_outcome}
 use Rattle.rsts.specs.Inputs.{Divided, line_behind}
-use Rattle.rsts.specs.Replays.{Retells, BehindDeck, TellsRun, TellsDispute, TellsNoDeck, Told, Replays}
+use Rattle.rsts.specs.Replays.{Retells, BehindDeck, TellsRun, TellsDispute, TellsNoDeck, ToldInput, Replays}
 use Rattle.rsts.specs.Streams.{IsInput, IsOverLimit, Written, BrokeOff}
 use Rattle.rsts.specs.TwoEnds.{Ends, NothingGiven}
 use Rattle.rsts.proofs.DisputeLemmas.{one_dispute, never_disputed}
@@ -69,7 +69,7 @@ one_dispute_told input fault other a b = one_dispute a.deck a.text (line_behind 
 -- WHAT IS ANSWERED
 
 -- what an input had, and what it tells
-told_so : (IsSo : List ℕ → Type 0) (read : List ℕ) (old new : SourceState) → IsInput REPLAY_LIMIT read old new → Told IsSo old new → IsSo read
+told_so : (IsSo : List ℕ → Type 0) (read : List ℕ) (old new : SourceState) → IsInput REPLAY_LIMIT read old new → ToldInput IsSo old new → IsSo read
 told_so IsSo read old new input told = subst IsSo (read_is read told.read old.left new.left input.all told.told.told) told.is_so
 
 not_over : (limit : ℕ) (read : List ℕ) (old new : SourceState) → IsInput limit read old new → IsOverLimit limit old new → ⊥

@@ -83,7 +83,7 @@ pub record ReportBroke (before after : Ends) : Type 0 where
 -- WHAT MUST COME
 
 -- the source tells an input, and this is so of it
-pub record Told (IsSo : List ℕ → Type 0) (old new : SourceState) : Type 0 where
+pub record ToldInput (IsSo : List ℕ → Type 0) (old new : SourceState) : Type 0 where
   pub read : List ℕ
   pub told : IsTold REPLAY_LIMIT read old new
   pub is_so : IsSo read
@@ -92,7 +92,7 @@ pub record Told (IsSo : List ℕ → Type 0) (old new : SourceState) : Type 0 wh
 pub record IsFairReplay (before after : Ends) : Type 0 where
   pub history : List Entry
   pub output : List ℕ
-  pub source : Told (TellsRun history output) before.source after.source
+  pub source : ToldInput (TellsRun history output) before.source after.source
   pub sink : Rose before.sink.faults after.sink.faults → ⊥
 
 abbrev pub HasReplayed : Outcome → Type 0
@@ -101,7 +101,7 @@ HasReplayed result = (history : List Entry) × (result ≡ outcome.Replayed hist
 -- unless memory runs out, an input of which this is so is answered so
 abbrev pub MustBe : (List ℕ → Type 0) → Outcome → Ends → Ends → Outcome → Type 0
 MustBe IsSo answer before after result =
-    Told IsSo before.source after.source → (result ≡ answer) ⊎ (result ≡ outcome.NoMemory)
+    ToldInput IsSo before.source after.source → (result ≡ answer) ⊎ (result ≡ outcome.NoMemory)
 
 -- WHAT A REPLAY DOES
 
