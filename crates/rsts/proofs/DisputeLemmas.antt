@@ -1,5 +1,5 @@
 -- What a text tells of a deck: a run, or one dispute.
-use Rattle.std.proofs.Common.{◌≡◌, ℕ, zero, suc, ◌+◌, ◌<◌, List, [], ◌∷◌, ◌++◌, length, Option, Some, None, refl, sym, ap, subst, ◌∙◌, arith}
+use Rattle.std.proofs.Common.{◌≡◌, ℕ, zero, suc, ◌+◌, ◌<◌, List, [], ◌∷◌, ◌++◌, length, Some, refl, sym, ap, subst, ◌∙◌, arith}
 use Rattle.std.specs.Prelude.{slice_get}
 use Rattle.std.proofs.lemmas.Option.{slice_get_within}
 use Rattle.monitor_calls.specs.declared.calls.Entry.{Entry}
@@ -8,7 +8,7 @@ use Rattle.monitor_model.specs.Answer.{next}
 use Rattle.monitor_model.specs.History.{after, IsAnswered, Legal, part_of}
 use Rattle.monitor_model.proofs.Histories.{legal_rest}
 use Rattle.deck_model.specs.Deck.{Deck, Terminal}
-use Rattle.history_reader.specs.HistoryReading.{TellsHistory, WrongAt}
+use Rattle.history_reader.specs.HistoryReading.{TellsHistory}
 use Rattle.history_reader.proofs.HistoryLaws.{history_is_one, wrong_place_is_one}
 use Rattle.history_replay.specs.Disputes.{WrongReply, entry_position}
 use Rattle.rsts.specs.declared.outcomes.HistoryCause.{HistoryCause}

@@ -1,7 +1,7 @@
 -- The lines of bytes that stand one behind the other, and where an input is cut.
-use Rattle.std.proofs.Common.{◌≡◌, ℕ, suc, ◌+◌, ◌<◌, ◌≤◌, ◌-◌, Bool, true, false, cond, eqb, ltb, List, [], ◌∷◌, ◌++◌, length, take, drop, Option, Some, None, inl, inr, ⊎_elim, refl, sym, ap, subst, ◌∙◌, append_assoc, arith}
+use Rattle.std.proofs.Common.{◌≡◌, ℕ, suc, ◌+◌, ◌<◌, ◌≤◌, ◌-◌, Bool, true, false, cond, eqb, ltb, List, [], ◌∷◌, ◌++◌, length, take, Option, Some, None, inl, inr, ⊎_elim, refl, sym, ap, subst, ◌∙◌, append_assoc, arith}
 use Rattle.std.specs.Prelude.{◌⊎◌, not, codes}
-use Rattle.std.specs.List.{AllByRecursion, slice_split, onto_first, position_or_len, before_first}
+use Rattle.std.specs.List.{onto_first, position_or_len, before_first}
 use Rattle.std.specs.Str.Lines.{strip_carriage_return}
 use Rattle.std.proofs.lemmas.List.{append-nil, append_cancel_left, length-append, take_at}
 use Rattle.std.proofs.lemmas.Bool.{ltb-true, ltb-false}

@@ -1,6 +1,5 @@
 -- What an input tells, and what a replay of it answers.
-use Rattle.std.proofs.Common.{◌≡◌, ℕ, ◌+◌, ◌<◌, ◌≤◌, List, [], ◌∷◌, ◌++◌, length, Option, Some, None, Err, inl, inr, refl, sym, ap, subst, ◌∙◌, arith}
-use Rattle.std.specs.Prelude.{◌⊎◌}
+use Rattle.std.proofs.Common.{◌≡◌, ℕ, List, inl, refl, sym, ap, subst, ◌∙◌, arith}
 use Rattle.monitor_calls.specs.declared.calls.Entry.{Entry}
 use Rattle.deck_model.specs.Deck.{Deck}
 use Rattle.deck_model.specs.Spelling.{Spelled}
@@ -10,14 +9,13 @@ use Rattle.deck_model.specs.declared.faults.DeckFault.{DeckFault}
 use Rattle.deck_model.proofs.ReadingLaws.{spelled_told}
 use Rattle.rsts_io.specs.Ends.{SourceState}
 use Rattle.rsts.specs.declared.outcomes.HistoryFault.{HistoryFault}
-use Rattle.rsts.specs.declared.outcomes.Outcome.{Outcome}
 use Rattle.rsts.specs.declared.outcomes.Outcome.TheVariants as outcome
 use Rattle.rsts.specs.declared.replays.InputFault.{InputFault}
 use Rattle.rsts.specs.declared.replays.InputFault.TheVariants as faults
 use Rattle.rsts.specs.declared.streams.TheConstants.{REPLAY_LIMIT}
 use Rattle.rsts.specs.Disputes.{Disputes}
 use Rattle.rsts.specs.InputEnds.{TellsFault, fault_outcome}
-use Rattle.rsts.specs.Inputs.{Divided, line_behind}
+use Rattle.rsts.specs.Inputs.{line_behind}
 use Rattle.rsts.specs.Replays.{Retells, BehindDeck, TellsRun, TellsDispute, TellsNoDeck, ToldInput, Replays}
 use Rattle.rsts.specs.Streams.{IsInput, IsOverLimit, Written, BrokeOff}
 use Rattle.rsts.specs.TwoEnds.{Ends, NothingGiven}

@@ -1,6 +1,6 @@
 -- What a replay of the entries of a text says of the text.
-use Rattle.std.proofs.Common.{◌≡◌, ℕ, suc, ◌+◌, ◌<◌, ◌≤◌, Bool, true, false, eqb, List, [], ◌∷◌, ◌++◌, length, map, Ok, Err, Some, codes, refl, sym, ap, subst, ◌∙◌, arith}
-use Rattle.std.specs.Prelude.{Result, slice_get, if◌then◌else◌}
+use Rattle.std.proofs.Common.{◌≡◌, ℕ, suc, ◌<◌, ◌≤◌, Bool, true, false, eqb, List, [], ◌∷◌, ◌++◌, length, map, Ok, Err, codes, refl, ap, subst, ◌∙◌, arith}
+use Rattle.std.specs.Prelude.{Result, if◌then◌else◌}
 use Rattle.std.specs.Fmt.{decimal}
 use Rattle.std.specs.Global.{Vec}
 use Rattle.std.proofs.lemmas.List.{length-append}
@@ -23,8 +23,6 @@ use Rattle.history_replay.specs.declared.disputes.Dispute.{Dispute}
 use Rattle.history_replay.specs.declared.disputes.Dispute.TheVariants as dispute
 use Rattle.history_replay.proofs.Positions.{position-le}
 use Rattle.report_texts.specs.Names.{names_of}
-use Rattle.rsts.specs.declared.outcomes.HistoryCause.TheVariants as cause
-use Rattle.rsts.specs.declared.outcomes.HistoryFault.{HistoryFault}
 use Rattle.rsts.specs.Decks.{keys_at}
 use Rattle.rsts.specs.Disputes.{WrongRequest, Disputes}
 use Rattle.rsts.specs.InputEnds.{IsRetold, IsDisputed, RetoldBy, entry_of, fault_of}

@@ -1,6 +1,6 @@
 -- What was read, and what a run leaves for its report.
 use Rattle.std.proofs.Common.{◌≡◌, ℕ, true, false, List, ◌∷◌, [], map, Option, Some, None, Ok, Err, inl, inr, ⊎_elim, refl, sym, ap, ◌∙◌, arith}
-use Rattle.std.specs.Prelude.{Bool, Result, IsOk}
+use Rattle.std.specs.Prelude.{Result, IsOk}
 use Rattle.monitor_calls.specs.declared.calls.Entry.{Entry}
 use Rattle.deck_model.specs.declared.faults.DeckCause.{DeckCause}
 use Rattle.deck_model.specs.declared.faults.DeckFault.{DeckFault}

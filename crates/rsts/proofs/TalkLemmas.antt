@@ -1,17 +1,16 @@
 -- What the talk of a terminal asks for, given the replies of a part that is not its own.
-use Rattle.std.proofs.Common.{◌≡◌, ℕ, zero, suc, ◌<◌, ◌≤◌, Bool, true, false, ltb, List, [], ◌∷◌, ◌++◌, length, map, take, drop, Option, Some, None, refl, sym, ap, subst, ◌∙◌, arith}
+use Rattle.std.proofs.Common.{◌≡◌, ℕ, zero, suc, ◌<◌, ◌≤◌, Bool, true, false, ltb, List, [], ◌∷◌, ◌++◌, length, take, drop, Some, refl, sym, ap, subst, ◌∙◌, arith}
 use Rattle.std.specs.Prelude.{slice_get}
 use Rattle.std.proofs.lemmas.Bool.{ltb-true, ltb-false}
 use Rattle.std.proofs.lemmas.List.{take-append-drop, take-append-le, take-map, map-append, length-map, length-take-le}
 use Rattle.monitor_calls.specs.declared.calls.Request.{Request}
 use Rattle.monitor_calls.specs.declared.calls.Reply.{Reply}
 use Rattle.monitor_calls.specs.Pairs.{Pair, requests, replies}
-use Rattle.basic_tree.specs.LineVerdicts.{Judge, Judges}
+use Rattle.basic_tree.specs.LineVerdicts.{Judge}
 use Rattle.job_model.specs.Play.{Outcome, Finished, Waits, Spent, Played}
-use Rattle.job_model.specs.PlayLaws.{Begins, EndsWith, GrowsTo}
+use Rattle.job_model.specs.PlayLaws.{EndsWith, GrowsTo}
 use Rattle.session_model.specs.Talk.{talk}
 use Rattle.session_model.proofs.Talks.{talk_ends_lem, talk_grows_lem}
-use Rattle.history_replay.specs.Disputes.{Departs}
 use Rattle.rsts.specs.Disputes.{DifferAt, TalksOtherwise}
 use Rattle.rsts.specs.Runs.{Talks}
 

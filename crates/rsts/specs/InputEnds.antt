@@ -1,5 +1,5 @@
 -- What reading and replaying an input comes to. Nobody has to believe this file.
-use Rattle.std.specs.Prelude.{◌≡◌, ℕ, ◌+◌, List, Result, Ok, Err}
+use Rattle.std.specs.Prelude.{ℕ, ◌+◌, List, Result, Ok, Err}
 use Rattle.std.specs.Global.{Vec}
 use Rattle.basic_values.specs.declared.failures.Trouble.{Trouble}
 use Rattle.basic_values.specs.declared.failures.Trouble.TheVariants as trouble

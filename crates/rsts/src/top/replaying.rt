@@ -243,7 +243,7 @@ fn one_bit_of_a_page_that_was_read_is_missed(rt: HostRuntime) -> Result<(), Fail
         None => return Err("no page was read")?,
     };
     let changed = format!(in rt.alloc(); "{front}BLOCK 01{behind}")?;
-    let line = 39 + front.lines().count();
+    let line = front.lines().count().saturating_add(39);
     let told = format!(in rt.alloc(); "history line {line}: reply differs")?;
     let ended = replay(&rt, rt.alloc(), drill.as_bytes(), changed.as_bytes(), &[])?;
     expect(ended, refused(7, told.as_str()))

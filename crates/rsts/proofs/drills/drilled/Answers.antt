@@ -1,4 +1,4 @@
-use Rattle.std.proofs.Common.{◌≡◌, refl, sym, ap, subst, ◌∙◌}
+use Rattle.std.proofs.Common.{refl, sym, ap, subst, ◌∙◌}
 use Rattle.deck_model.specs.Deck.{Deck, IsDeck}
 use Rattle.drill_deck.specs.Tallies.{puts_in, sum_in}
 use Rattle.rsts.specs.Runs.{IsRun}

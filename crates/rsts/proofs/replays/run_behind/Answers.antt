@@ -1,4 +1,4 @@
-use Rattle.std.proofs.Common.{◌≡◌, ℕ, List, length, sym, ap, subst, ◌∙◌, arith}
+use Rattle.std.proofs.Common.{◌≡◌, List, length, sym, ap, subst, ◌∙◌, arith}
 use Rattle.monitor_calls.specs.declared.calls.Entry.{Entry}
 use Rattle.deck_model.specs.Report.{report}
 use Rattle.deck_reader.specs.Seen.{deck_of}
