@@ -5,7 +5,7 @@ use Rattle.rsts.specs.Runs.{IsRun}
 use Rattle.rsts.proofs.drills.drilled.Goals as goal
 
 pub run_deck-requires : goal.run_deck-requires
-run_deck-requires g c = (c.type_bounds.sync-R, (c.type_bounds.sync-P, subst IsDeck (sym c.in_ok-deck.ensures.deck) c.in_ok-deck.ensures.good))
+run_deck-requires g c = (c.type_bounds.send-P-Kept, (c.type_bounds.sync-R, (c.type_bounds.sync-P, subst IsDeck (sym c.in_ok-deck.ensures.deck) c.in_ok-deck.ensures.good)))
 
 pub returns-clause-drill : goal.returns-clause-drill
 returns-clause-drill g c =
