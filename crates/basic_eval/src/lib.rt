@@ -24,6 +24,7 @@ mod joints;
 mod lending;
 mod loops;
 mod matrices;
+mod number_runs;
 mod numbers;
 mod on_channels;
 mod printing;

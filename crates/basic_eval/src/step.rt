@@ -19,6 +19,7 @@ impl Running {
     /// items stand up to it and with it. What it leads to is given; where that is no further the state has the reason,
     /// and where memory runs out nothing more is told of it. Each act stays out of line, so that
     /// this has no frame of its own.
+    #[inline(always)]
     pub fn step(
         &mut self,
         words: &[Text],
@@ -152,13 +153,15 @@ impl Running {
 }
 
 /// The place so many items back.
-fn back(behind: usize, count: u32) -> usize
+#[inline(always)]
+pub(crate) fn back(behind: usize, count: u32) -> usize
     ensures { result ≡ behind - 1 - count }
 {
     behind.saturating_sub(1).saturating_sub(count as usize)
 }
 
 /// Whether an item calls a function of the program.
+#[inline(always)]
 pub fn is_call(item: &Item) -> bool
     ensures { result ≡ is_call item.now }
 {
@@ -169,6 +172,7 @@ pub fn is_call(item: &Item) -> bool
 }
 
 /// Whether an item may ask the monitor.
+#[inline(always)]
 pub fn is_ask(item: &Item) -> bool
     ensures { result ≡ is_ask item.now }
 {
@@ -185,6 +189,7 @@ pub fn is_ask(item: &Item) -> bool
 }
 
 /// Whether a function asks the monitor.
+#[inline(always)]
 pub fn is_sys(function: Function) -> bool
     ensures { result ≡ is_sys function }
 {
