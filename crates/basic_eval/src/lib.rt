@@ -9,7 +9,8 @@
 //! is given back without memory. `Running::run_from_number` does items that begin with a number as
 //! long as each takes the last one and leaves another, which never goes over the stack.
 //! `Running::act_jointly` does items that stand behind one another as one act, and reads texts where they
-//! stand. It stands on `polish_code`, which has the items and their acts.
+//! stand; `Running::run_in_place` changes a text where it stands. The crate is over `polish_code`, which has
+//! the items and their acts.
 #![tactic(auto)]
 
 mod asking;
@@ -35,6 +36,7 @@ pub mod spots;
 pub mod stack;
 pub mod state;
 mod step;
+mod text_changes;
 mod traps;
 mod using;
 mod values;

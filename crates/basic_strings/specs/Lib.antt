@@ -1,4 +1,5 @@
 pub mod Bytes
+pub mod CutParts
 pub mod Cuts
 pub mod Laws
 pub mod Pairs

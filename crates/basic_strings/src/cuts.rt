@@ -1,8 +1,9 @@
 //! The length of a text, and its parts by length and place. Bytes are numbered from 1.
 
-ghost use Rattle.std.specs.Prelude.{◌≡◌, ◌≤◌, ◌-◌, length, take, drop, pos};
+ghost use Rattle.std.specs.Prelude.{◌≡◌, ◌≤◌, ◌-◌, ℕ, List, length, take, drop, pos};
 ghost use Rattle.basic_values.specs.Texts.{MakesText};
 ghost use Rattle.basic_strings.specs.Cuts.{length_given, place_given, left_of, right_of, mid_of};
+ghost use Rattle.basic_strings.specs.CutParts.{part_at};
 
 use basic_values::{Halt, Int, MOST_BYTES, Text, Trouble};
 use std::alloc::Global;
@@ -34,6 +35,43 @@ pub fn mid(alloc: Global, bytes: &[u8], n: Int, k: Int) -> Result<Text, Trouble<
     ensures { MakesText (mid_of bytes.now n k) result }
 {
     Text::of(alloc, first(behind(bytes, bytes_before(n)), count_of(k)))
+}
+
+/// A part of a text: so many bytes behind the first ones, or all that are there.
+#[derive(Clone, Copy)]
+pub struct Cut {
+    pub before: usize,
+    pub count: usize,
+}
+
+/// The part that the manual's LEFT gives.
+pub fn left_cut(n: Int) -> Cut
+    ensures { (text : List ℕ) → part_at result text ≡ left_of text n }
+{
+    Cut {
+        before: 0,
+        count: count_of(n),
+    }
+}
+
+/// The part that the manual's RIGHT gives.
+pub fn right_cut(n: Int) -> Cut
+    ensures { (text : List ℕ) → length text ≤ MOST_BYTES → part_at result text ≡ right_of text n }
+{
+    Cut {
+        before: bytes_before(n),
+        count: MOST_BYTES,
+    }
+}
+
+/// The part that the manual's MID gives.
+pub fn mid_cut(n: Int, k: Int) -> Cut
+    ensures { (text : List ℕ) → part_at result text ≡ mid_of text n k }
+{
+    Cut {
+        before: bytes_before(n),
+        count: count_of(k),
+    }
 }
 
 /// How many bytes a length names: below 0 it counts as 0.

@@ -13,7 +13,7 @@ mod signs;
 mod translations;
 
 pub use bytes::{ascii, chr, space, string};
-pub use cuts::{left, len, mid, right};
+pub use cuts::{Cut, left, left_cut, len, mid, mid_cut, right, right_cut};
 pub use numerals::{digits, num, num1};
 pub use pairs::{number_of, text_of};
 pub use places::instr;

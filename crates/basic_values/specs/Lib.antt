@@ -1,4 +1,5 @@
 pub mod Arithmetic
+pub mod Becoming
 pub mod Bits
 pub mod Blanks
 pub mod Cuts

@@ -1,6 +1,7 @@
 //! Texts: lists of at most 32,767 bytes.
 
-ghost use Rattle.std.specs.Prelude.{◌≡◌, ◌≤◌, ◌++◌, ◌↔◌, [], IsTrue, IfOk, length, slice_index_or};
+ghost use Rattle.std.specs.Prelude.{◌≡◌, ◌≤◌, ◌++◌, ◌↔◌, [], IsTrue, IfOk, length, take, drop, slice_index_or};
+ghost use Rattle.basic_values.specs.Becoming.{Becomes};
 ghost use Rattle.basic_values.specs.Texts.{MakesText, order_of, space};
 
 use crate::failures::{Halt, NoMemory, Trouble};
@@ -43,6 +44,30 @@ impl Text {
         Text {
             bytes: Vec::new(alloc),
         }
+    }
+
+    /// Puts bytes behind the text, in its place. Where there are more than 32,767 of them then, which is
+    /// the halt `TooLong`, and where memory runs out, it is as before.
+    pub fn append(&mut self, more: &[u8]) -> Result<(), Trouble<Halt>>
+        ensures { Becomes (self.old ++ more.now) self.old self.new result }
+    {
+        if more.len() > MOST_BYTES - self.bytes.len() {
+            return Err(Trouble::Refused(Halt::TooLong));
+        }
+        match self.bytes.extend_from_slice(more) {
+            Ok(()) => Ok(()),
+            Err(_) => Err(Trouble::NoMemory),
+        }
+    }
+
+    /// Leaves so many bytes behind the first ones, in their place, or all that are there. It takes no memory.
+    pub fn cut(&mut self, before: usize, count: usize)
+        ensures { self.new ≡ take count (drop before self.old) }
+    {
+        let before = before.min(self.bytes.len());
+        let kept = count.min(self.bytes.len() - before);
+        self.bytes.copy_within(before..before + kept, 0);
+        self.bytes.truncate(kept);
     }
 
     /// The bytes of the text.

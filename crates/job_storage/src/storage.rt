@@ -8,7 +8,9 @@ ghost use Rattle.job_memory.specs.Answers.{Changes, Stores, StoresAt};
 ghost use Rattle.job_memory.specs.Calls.{enter, leave};
 ghost use Rattle.job_memory.specs.Contents.{number_in, text_in};
 ghost use Rattle.job_memory.specs.Memory.{empty, variable, made, number_at, text_at};
+ghost use Rattle.job_memory.specs.TextChanges.{Appends, Cuts};
 
+use basic_strings::Cut;
 use basic_tree::{Name, Shape};
 use basic_values::{Fault, Halt, Int, Stop, Text, Trouble};
 use channels::Channels;
@@ -131,6 +133,29 @@ impl Storage {
         ensures common { self.new.common ≡ self.old.common }
     {
         self.memory.set_text(name, value)
+    }
+
+    /// Puts bytes behind the own text of a variable, and tells whether it has one. If not, nothing
+    /// changes.
+    pub fn append(&mut self, name: Name, more: &[u8]) -> Result<bool, Trouble<Halt>>
+        ensures memory { Appends name more.now self.old.memory self.new.memory result }
+        ensures files { self.new.files ≡ self.old.files }
+        ensures account { self.new.account ≡ self.old.account }
+        ensures common { self.new.common ≡ self.old.common }
+    {
+        self.memory.append(name, more)
+    }
+
+    /// Leaves a part of the own text of a variable, and tells whether it has one. If not, nothing
+    /// changes. It takes no memory.
+    pub fn cut(&mut self, name: Name, part: Cut) -> bool
+        ensures memory { Cuts name part.before part.count
+            self.old.memory self.new.memory result }
+        ensures files { self.new.files ≡ self.old.files }
+        ensures account { self.new.account ≡ self.old.account }
+        ensures common { self.new.common ≡ self.old.common }
+    {
+        self.memory.cut(name, part.before, part.count)
     }
 
     /// The number of an element, or error 55.

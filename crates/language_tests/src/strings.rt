@@ -1,8 +1,8 @@
 //! The string functions.
 
 use basic_strings::{
-    abs, ascii, chr, digits, instr, item_number, left, len, mid, num, num1, number_of, right, sgn,
-    space, string, text_of, val, xlate,
+    Cut, abs, ascii, chr, digits, instr, item_number, left, left_cut, len, mid, mid_cut, num, num1,
+    number_of, right, right_cut, sgn, space, string, text_of, val, xlate,
 };
 use basic_values::{Fault, Halt, Int, Text, Trouble};
 use std::alloc::{AllocError, Global};
@@ -68,6 +68,37 @@ fn first_wrong(alloc: Global, rows: &[Row]) -> Option<usize> {
     None
 }
 
+/// The text of which a call gives a part, and that part.
+fn cut_by(call: Made<'_>) -> Option<(&[u8], Cut)> {
+    match call {
+        Left(text, n) => Some((text, left_cut(Int::new(n)))),
+        Right(text, n) => Some((text, right_cut(Int::new(n)))),
+        Mid(text, n, m) => Some((text, mid_cut(Int::new(n), Int::new(m)))),
+        _ => None,
+    }
+}
+
+/// Whether a text that is cut in its place is then what the call gives.
+fn leaves(alloc: Global, call: Made<'_>, bytes: &[u8]) -> bool {
+    let Some((whole, part)) = cut_by(call) else {
+        return false;
+    };
+    let Ok(mut text) = Text::of(alloc, whole) else {
+        return false;
+    };
+    text.cut(part.before, part.count);
+    text.as_bytes() == bytes
+}
+
+fn first_wrong_cut(alloc: Global, rows: &[Row]) -> Option<usize> {
+    for (place, (call, bytes)) in rows.iter().enumerate() {
+        if !leaves(alloc, *call, bytes) {
+            return Some(place);
+        }
+    }
+    None
+}
+
 const LOW: i16 = -32768;
 
 static PARTS: [Row; 46] = [
@@ -121,8 +152,11 @@ static PARTS: [Row; 46] = [
 
 #[test]
 fn parts_by_length_and_place(rt: HostRuntime) -> Result<(), Fail> {
-    let wrong = first_wrong(rt.alloc(), &PARTS);
-    assert_eq!(rt; wrong, None);
+    let wrong = (
+        first_wrong(rt.alloc(), &PARTS),
+        first_wrong_cut(rt.alloc(), &PARTS),
+    );
+    assert_eq!(rt; wrong, (None, None));
     Ok(())
 }
 

@@ -254,9 +254,23 @@ fn length_of_both(alloc: Global, first: usize, second: usize) -> Result<Option<u
     }
 }
 
+/// The same where the second is put behind the first in its place. One that is refused leaves the first as it was.
+fn length_in_place(alloc: Global, first: usize, second: usize) -> Result<Option<usize>, Fail> {
+    let (a, b) = (spaces(alloc, first)?, spaces(alloc, second)?);
+    let Ok(mut text) = Text::of(alloc, &a) else {
+        return Ok(None);
+    };
+    match text.append(&b) {
+        Ok(()) => Ok(Some(text.as_bytes().len())),
+        Err(Trouble::Refused(Halt::TooLong)) if text.as_bytes().len() == first => Ok(None),
+        Err(_) => Err("another answer")?,
+    }
+}
+
 fn first_wrong_length(alloc: Global) -> Result<Option<usize>, Fail> {
     for (place, (first, second, length)) in LENGTHS.iter().enumerate() {
-        if length_of_both(alloc, *first, *second)? != *length {
+        let both = length_of_both(alloc, *first, *second)?;
+        if both != *length || length_in_place(alloc, *first, *second)? != *length {
             return Ok(Some(place));
         }
     }

@@ -30,6 +30,10 @@ pub(crate) enum Step {
     Number(u8),
     SetNumber(u8, i16),
     SetText(u8, u8, usize),
+    /// So many times one byte behind an own text: 1 where there was one, else 0.
+    Append(u8, u8, usize),
+    /// So many bytes behind the first ones are left of an own text: 1 where there was one, else 0.
+    Cut(u8, usize, usize),
     /// An array of numbers with these bounds.
     Dim(u8, u16, Option<u16>),
     DimTexts(u8, u16, Option<u16>),
@@ -73,6 +77,7 @@ pub(crate) enum Told {
     Empty,
     /// The room is full.
     Full,
+    TooLong,
     Fault(u8),
     Other,
 }
@@ -123,6 +128,12 @@ fn told_behind(alloc: Global, memory: &mut Memory, step: Step) -> Result<Told, F
         Step::SetText(letter, byte, length) => {
             Ok(set_text(memory, letter, text(alloc, byte, length)?))
         }
+        Step::Append(letter, byte, length) => {
+            Ok(append(memory, letter, text(alloc, byte, length)?.as_bytes()))
+        }
+        Step::Cut(letter, before, count) => {
+            Ok(changed(memory.cut(text_name(letter), before, count)))
+        }
         Step::Dim(letter, first, second) => Ok(dim(memory, number_name(letter), first, second)),
         Step::DimTexts(letter, first, second) => Ok(dim(memory, text_name(letter), first, second)),
         Step::NumberAt(..) | Step::SetNumberAt(..) | Step::TextAt(..) => Ok(element(memory, step)),
@@ -140,6 +151,19 @@ fn set_number(memory: &mut Memory, letter: u8, value: i16) -> Told {
 
 fn set_text(memory: &mut Memory, letter: u8, value: Text) -> Told {
     made(memory.set_text(text_name(letter), value))
+}
+
+fn append(memory: &mut Memory, letter: u8, more: &[u8]) -> Told {
+    match memory.append(text_name(letter), more) {
+        Ok(done) => changed(done),
+        Err(Trouble::Refused(Halt::RoomFull)) => Told::Full,
+        Err(Trouble::Refused(Halt::TooLong)) => Told::TooLong,
+        Err(_) => Told::Other,
+    }
+}
+
+fn changed(done: bool) -> Told {
+    Told::Is(i16::from(done))
 }
 
 fn dim(memory: &mut Memory, name: Name, first: u16, second: Option<u16>) -> Told {
@@ -348,6 +372,50 @@ static OWN_TEXTS: [Row; 8] = [
 #[test]
 fn own_texts_have_a_length(rt: HostRuntime) -> Result<(), Fail> {
     let wrong = first_wrong(rt.alloc(), &OWN_TEXTS)?;
+    assert_eq!(rt; wrong, None);
+    Ok(())
+}
+
+/// Own texts are changed in their place, up to their greatest length and to the room that is left; a
+/// fielded one, and one that is not stored, are not.
+static CHANGED: [Row; 31] = [
+    (Step::Append(b'A', b'x', 2), Told::Is(0)),
+    (Step::Cut(b'A', 0, 1), Told::Is(0)),
+    (Step::OwnLength(b'A'), Told::Empty),
+    (Step::SetText(b'A', b'a', 3), Told::Done),
+    (Step::SetText(b'B', b'b', 3), Told::Done),
+    (Step::Append(b'A', b'x', 2), Told::Is(1)),
+    (Step::Length(b'A'), Told::Begins(b'a', 5)),
+    (Step::Length(b'B'), Told::Begins(b'b', 3)),
+    (Step::Cut(b'A', 3, 9), Told::Is(1)),
+    (Step::Length(b'A'), Told::Begins(b'x', 2)),
+    (Step::Cut(b'A', 9, 1), Told::Is(1)),
+    (Step::OwnLength(b'A'), Told::Is(0)),
+    (Step::Append(b'A', b'y', 32767), Told::Is(1)),
+    (Step::Append(b'A', b'z', 1), Told::TooLong),
+    (Step::OwnLength(b'A'), Told::Is(32767)),
+    (Step::Append(b'A', b'z', 0), Told::Is(1)),
+    (Step::Bind(b'B'), Told::Done),
+    (Step::Append(b'B', b'x', 1), Told::Is(0)),
+    (Step::Cut(b'B', 0, 1), Told::Is(0)),
+    (Step::Length(b'B'), Told::Begins(0, 512)),
+    (Step::SetText(b'C', b'c', 32767), Told::Done),
+    (Step::SetText(b'D', b'd', 32767), Told::Done),
+    (Step::SetText(b'E', b'e', 32767), Told::Done),
+    (Step::SetText(b'F', b'f', 32767), Told::Done),
+    (Step::SetText(b'G', b'g', 32767), Told::Done),
+    (Step::SetText(b'H', b'h', 32767), Told::Done),
+    // 7 texts of 32,769 bytes of room and a fielded one leave 32,759.
+    (Step::SetText(b'I', b'i', 32756), Told::Done),
+    (Step::Append(b'I', b'i', 2), Told::Full),
+    (Step::Append(b'I', b'i', 1), Told::Is(1)),
+    (Step::Cut(b'I', 1, 100), Told::Is(1)),
+    (Step::Append(b'I', b'i', 2), Told::Is(1)),
+];
+
+#[test]
+fn own_texts_change_in_their_place(rt: HostRuntime) -> Result<(), Fail> {
+    let wrong = first_wrong(rt.alloc(), &CHANGED)?;
     assert_eq!(rt; wrong, None);
     Ok(())
 }

@@ -51,6 +51,11 @@ const FIELDS: Talk = (
             "LSET C$=CVT%$(CVT$%(C$)+1%) : PRINT A$",
             "CDEGABCDEF\nReady\n",
         ),
+        // A sum makes an own text of a fielded one, and leaves the buffer.
+        (
+            "FIELD #1%,3% AS D$ : D$=D$+'Z' : D$=RIGHT(D$,2%) : PRINT D$;'/';A$",
+            "DEZ/CDEGABCDEF\nReady\n",
+        ),
         (
             "CLOSE 1% : PRINT LEN(A$); LEN(C$); B$",
             " 0  0  BA\nReady\n",

@@ -48,3 +48,30 @@ static LEAVES: [Row; 15] = [
 fn leaves_are_taken_where_they_stand(rt: HostRuntime) -> Result<(), Fail> {
     expect_of_lines(rt.alloc(), &LEAVES)
 }
+
+/// A text that is stored to the variable that it was loaded from, in a line and in a program; one that another
+/// variable takes; and one that was never stored.
+static STORED_BACK: [Row; 7] = [
+    ("10 A$='0123' : B$=A$ : A$=A$+'45' : PRINT A$;'/';B$", ""),
+    ("20 B$=A$+'X' : A$=B$+'Y' : PRINT A$;'/';B$", ""),
+    (
+        "30 A$=RIGHT(A$,3%) : C%=4% : A$=LEFT(A$,C%) : A$=MID(A$,2%,2%) : B$=LEFT(A$,1%) : PRINT A$;'/';B$",
+        "",
+    ),
+    (
+        "40 A$=MID(A$,C%,1%) : D$=D$+'D' : E$=RIGHT(E$,1%) : PRINT A$;'/';D$;'/';E$;LEN(E$)",
+        "",
+    ),
+    (
+        "RUNNH",
+        "012345/0123\n012345XY/012345X\n34/3\n/D/ 0 \nReady\n",
+    ),
+    ("D$=D$+'' : D$=RIGHT(D$,-1%) : PRINT D$", "D\nReady\n"),
+    ("D$=LEFT(D$,-1%) : PRINT LEN(D$);B$", " 0 3\nReady\n"),
+];
+
+/// It is changed in its place, and shows what a text would that is made and stored.
+#[test]
+fn texts_are_stored_back(rt: HostRuntime) -> Result<(), Fail> {
+    expect_of_lines(rt.alloc(), &STORED_BACK)
+}
