@@ -6,8 +6,9 @@
 //! that items leave for later ones. `Running::step` carries the promise: the new stack and the new
 //! state are those that the item's act gives, or breaks with; where memory runs out nothing is told
 //! of them. Where a program goes no further the state has the reason, so that what an item leads to
-//! is given back without memory. `Running::run_from_number` does items that begin with a number as
-//! long as each takes the last one and leaves another, which never goes over the stack.
+//! is given back without memory. `Running::run_from_number` does items that begin with a number, or
+//! with a text of which a function gives one, as long as each takes the last number and leaves another,
+//! which never goes over the stack.
 //! `Running::act_jointly` does items that stand behind one another as one act, and reads texts where they
 //! stand; `Running::run_in_place` changes a text where it stands. The crate is over `polish_code`, which has
 //! the items and their acts.

@@ -75,3 +75,48 @@ static STORED_BACK: [Row; 7] = [
 fn texts_are_stored_back(rt: HostRuntime) -> Result<(), Fail> {
     expect_of_lines(rt.alloc(), &STORED_BACK)
 }
+
+/// A number that a function gives of a text: alone, in sums, as a subscript, as a limit, in what two bytes are made of,
+/// and where it is at fault.
+static NUMBERS_OF_TEXTS: [Row; 10] = [
+    (
+        "10 A$='AB' : B%=LEN(A$)*10%+ASCII(A$) : PRINT B%;LEN(A$);-LEN(A$);LEN(B$);ASCII(B$)",
+        "",
+    ),
+    (
+        "20 C%=CVT$%(A$) : PRINT C%;CVT$%(A$)-C%;CVT%$(C%);LEN(CVT%$(C%))",
+        "",
+    ),
+    (
+        "30 IF LEN(A$)=2% THEN PRINT 'TWO'; : IF ASCII(A$)<65% THEN PRINT 'LOW' ELSE PRINT 'HIGH'",
+        "",
+    ),
+    (
+        "40 D%(LEN(A$))=7% : PRINT D%(2%);D%(LEN(A$));D%(LEN(A$)-1%)",
+        "",
+    ),
+    (
+        "50 FOR I%=LEN(A$) TO LEN(A$)+1% : PRINT I%; : NEXT I% : PRINT",
+        "",
+    ),
+    ("60 ON ERROR GOTO 70 : PRINT 1%/LEN(B$)", ""),
+    ("70 PRINT ERR;ERL : RESUME 80", ""),
+    (
+        "80 LSET A$=CVT%$(LEN(A$)+16961%) : PRINT A$ : RSET A$=CVT%$(SWAP%(CVT$%(A$))) : PRINT A$",
+        "",
+    ),
+    (
+        "RUNNH",
+        " 85  2 -2  0  0 \n 16706  0 AB 2 \nTWOHIGH\n 7  7  0 \n 2  3 \n 61  60 \nBC\nCB\nReady\n",
+    ),
+    (
+        "PRINT LEN(A$)+LEN(B$)*2%;ASCII(A$)<>ASCII(B$)",
+        " 2 -1 \nReady\n",
+    ),
+];
+
+/// It stands for itself wherever a number may, and no text is made of it that is stored by its bytes at once.
+#[test]
+fn numbers_of_texts(rt: HostRuntime) -> Result<(), Fail> {
+    expect_of_lines(rt.alloc(), &NUMBERS_OF_TEXTS)
+}
