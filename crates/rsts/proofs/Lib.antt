@@ -4,7 +4,6 @@ mod ReplayExamples
 mod ReplayLemmas
 mod RetoldLemmas
 mod RunLemmas
-mod StreamLemmas
 mod SystemLemmas
 mod TalkLemmas
 mod WritingLemmas

@@ -12,12 +12,12 @@ use Rattle.rsts.specs.declared.outcomes.HistoryFault.{HistoryFault}
 use Rattle.rsts.specs.declared.outcomes.Outcome.TheVariants as outcome
 use Rattle.rsts.specs.declared.replays.InputFault.{InputFault}
 use Rattle.rsts.specs.declared.replays.InputFault.TheVariants as faults
-use Rattle.rsts.specs.declared.streams.TheConstants.{REPLAY_LIMIT}
+use Rattle.rsts_io.specs.declared.whole.TheConstants.{REPLAY_LIMIT}
 use Rattle.rsts.specs.Disputes.{Disputes}
 use Rattle.rsts.specs.InputEnds.{TellsFault, fault_outcome}
 use Rattle.rsts.specs.Inputs.{line_behind}
 use Rattle.rsts.specs.Replays.{Retells, BehindDeck, TellsRun, TellsDispute, TellsNoDeck, ToldInput, Replays}
-use Rattle.rsts.specs.Streams.{IsInput, IsOverLimit, Written, BrokeOff}
+use Rattle.rsts_io.specs.Whole.{IsInput, IsOverLimit, Written, BrokeOff}
 use Rattle.rsts.specs.TwoEnds.{Ends, NothingGiven}
 use Rattle.rsts.proofs.DisputeLemmas.{one_dispute, never_disputed}
 use Rattle.rsts.proofs.InputLemmas.{one_division}

@@ -24,11 +24,11 @@ use Rattle.rsts.specs.Headline as headline
 use Rattle.rsts.specs.Headline.{SinkFailed, Answers, IsReport, HasRan, IsGoodLine, HasChecked, FoundDeck, SpellsNone, Does}
 use Rattle.rsts.specs.declared.outcomes.Drill.{Drill as DrillEnd}
 use Rattle.rsts.specs.TwoEnds.{Ends, NothingGiven, SourceFailed, InputTooLong, WantedMemory}
-use Rattle.rsts.specs.declared.streams.TheConstants.{INPUT_LIMIT, REPLAY_LIMIT}
+use Rattle.rsts_io.specs.declared.whole.TheConstants.{INPUT_LIMIT, REPLAY_LIMIT}
 use Rattle.rsts.specs.Outcomes.{IfRan, IfDrilled, IfReplayed, IfHistory, OnChecked, OnUsage, OnReadFault, OnTooLong, IfDeck, OnWriteFault, OnNoMemory}
 use Rattle.rsts.specs.SourceEnds.{outcome_of, WhyStopped, MustStop, MustFind, MustRefuse}
 use Rattle.rsts.specs.Replays.{Replays}
-use Rattle.rsts.specs.Streams.{AreAll, IsOverLimit, BrokeOff}
+use Rattle.rsts_io.specs.Whole.{AreAll, IsOverLimit, BrokeOff}
 
 -- what a source tells that it has left is what was read of it to its end
 pub read_is : (bytes read : List ℕ) (left left' : Option (List ℕ)) → AreAll bytes left left' → left ≡ Some read → read ≡ bytes

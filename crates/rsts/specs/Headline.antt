@@ -18,11 +18,11 @@ use Rattle.drill_deck.specs.Tallies.{puts_in, sum_in, drill_line}
 use Rattle.rsts.specs.declared.outcomes.Drill.{Drill as DrillEnd}
 use Rattle.rsts.specs.declared.outcomes.Outcome.{Outcome}
 use Rattle.rsts.specs.declared.outcomes.Outcome.TheVariants as outcome
-use Rattle.rsts.specs.declared.streams.TheConstants.{INPUT_LIMIT}
+use Rattle.rsts_io.specs.declared.whole.TheConstants.{INPUT_LIMIT}
 use Rattle.rsts.specs.Outcomes.{IfRan, IfDrilled, IfReplayed, IfHistory, OnChecked, OnUsage, IfDeck, OnReadFault, OnTooLong, OnWriteFault, OnNoMemory}
 use Rattle.rsts.specs.Replays.{Replays}
 use Rattle.rsts.specs.Runs.{IsRun, names_in}
-use Rattle.rsts.specs.Streams.{IsInput, Written, BrokeOff}
+use Rattle.rsts_io.specs.Whole.{IsInput, Written, BrokeOff}
 use Rattle.rsts.specs.TwoEnds.{Ends, NothingGiven, SourceFailed, InputTooLong, WantedMemory, IsTold, EndsTooLong}
 
 -- WHAT IS WRITTEN OF A RUN

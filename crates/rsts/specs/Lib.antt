@@ -9,5 +9,4 @@ pub mod Runs
 pub mod SourceEnds
 pub mod Statuses
 pub mod Steps
-pub mod Streams
 pub mod TwoEnds

@@ -12,12 +12,12 @@ use Rattle.rsts_io.specs.Ends.{SourceState, Rose}
 use Rattle.rsts.specs.declared.outcomes.HistoryFault.{HistoryFault}
 use Rattle.rsts.specs.declared.outcomes.Outcome.{Outcome}
 use Rattle.rsts.specs.declared.outcomes.Outcome.TheVariants as outcome
-use Rattle.rsts.specs.declared.streams.TheConstants.{REPLAY_LIMIT}
+use Rattle.rsts_io.specs.declared.whole.TheConstants.{REPLAY_LIMIT}
 use Rattle.rsts.specs.Disputes.{Disputes}
 use Rattle.rsts.specs.Inputs.{Divided, line_behind}
 use Rattle.rsts.specs.Outcomes.{IfRan, IfDrilled, IfReplayed, IfHistory, OnChecked, OnUsage, IfDeck, OnReadFault, OnTooLong, OnWriteFault, OnNoMemory}
 use Rattle.rsts.specs.Runs.{IsRun, names_in}
-use Rattle.rsts.specs.Streams.{IsInput, Written, BrokeOff}
+use Rattle.rsts_io.specs.Whole.{IsInput, Written, BrokeOff}
 use Rattle.rsts.specs.TwoEnds.{Ends, NothingGiven, SourceFailed, InputTooLong, WantedMemory, IsTold, EndsTooLong}
 
 -- WHAT AN INPUT TELLS

@@ -9,8 +9,8 @@ use Rattle.rsts.specs.declared.systems.Stopped.{Stopped}
 use Rattle.rsts.specs.declared.systems.Stopped.TheVariants as stopped
 use Rattle.deck_reader.specs.Seen.{deck_of}
 use Rattle.rsts.specs.Headline.{FoundDeck, FoundNone, SpellsDeck, SpellsNone}
-use Rattle.rsts.specs.declared.streams.TheConstants.{INPUT_LIMIT}
-use Rattle.rsts.specs.Streams.{IsOverLimit, IsTooMuch}
+use Rattle.rsts_io.specs.declared.whole.TheConstants.{INPUT_LIMIT}
+use Rattle.rsts_io.specs.Whole.{IsOverLimit, IsTooMuch}
 
 abbrev pub outcome_of : Stopped → Outcome
 outcome_of stopped.ReadFault = outcome.ReadFault

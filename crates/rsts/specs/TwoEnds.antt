@@ -3,7 +3,7 @@ use Rattle.std.specs.Prelude.{◌≡◌, ℕ, ◌≤◌, List, length, Some}
 use Rattle.rsts_io.specs.Ends.{SourceState, SinkState, Rose}
 use Rattle.rsts.specs.declared.outcomes.Outcome.{Outcome}
 use Rattle.rsts.specs.declared.outcomes.Outcome.TheVariants as outcome
-use Rattle.rsts.specs.Streams.{IsOverLimit, IsTooMuch}
+use Rattle.rsts_io.specs.Whole.{IsOverLimit, IsTooMuch}
 
 -- The program reads a source and writes to a sink. What they were before a call and what they are
 -- after it is all that is said of them.

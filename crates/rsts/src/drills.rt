@@ -6,10 +6,9 @@ ghost use Rattle.rsts.specs.Headline.{IsDrill, line_of_drill, DrillEnds};
 
 use crate::outcomes::{Drill, Outcome};
 use crate::runs::run_deck;
-use crate::streams::{SinkFault, give_all};
 use basic_values::NoMemory;
 use drill_deck::{drill_deck, drill_line, tally_of};
-use rsts_io::Sink;
+use rsts_io::{Sink, SinkFault, give_all};
 use std::alloc::Global;
 use std::sync::Wait;
 use std::thread::Threads;

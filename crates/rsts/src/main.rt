@@ -1,7 +1,7 @@
 //! The program: time sharing after RSTS/E, with BASIC-PLUS jobs.
 //!
 //! `top::rsts_main` carries the program's promise: its one clause is `Does` of `specs/Headline`.
-//! `streams` reads a source and gives to a sink, `runs` runs the terminals of a deck, or replays their entries, `writings` makes
+//! `runs` runs the terminals of a deck, or replays their entries, `writings` makes
 //! what is written of a run, `inputs` cuts the input of a replay, `systems`, `drills` and `replays` put these together, and `outcomes` tells the
 //! status. It stands on `program_words`, for what is asked, on `deck_reader`, for decks, on `history_reader`, for histories, on `report_texts`,
 //! for what is written, on `command_level`, for the session of a terminal, on `terminal_runner`, for the threads, on `history_replay`, for a run
@@ -14,7 +14,6 @@ mod inputs;
 mod outcomes;
 mod replays;
 mod runs;
-mod streams;
 mod systems;
 mod top;
 mod writings;

@@ -10,7 +10,6 @@ ghost use Rattle.rsts.specs.InputEnds.{entry_of, fault_of, fault_outcome, Retell
 use crate::inputs::divided;
 use crate::outcomes::{HistoryCause, HistoryFault, Outcome};
 use crate::runs::replay_deck;
-use crate::streams::{REPLAY_LIMIT, ReadEnd, SinkFault, give_all, read_all};
 use basic_values::{Series, Trouble};
 use deck_model::DeckFault;
 use deck_reader::{Deck, read_deck};
@@ -18,7 +17,7 @@ use history_reader::read_history;
 use history_replay::Dispute;
 use monitor_calls::RunRecord;
 use report_texts::report;
-use rsts_io::{Sink, Source};
+use rsts_io::{REPLAY_LIMIT, ReadEnd, Sink, SinkFault, Source, give_all, read_all};
 use std::alloc::Global;
 
 /// Why an input tells no run: its deck, or the history behind it.

@@ -9,7 +9,6 @@ ghost use Rattle.rsts.specs.TwoEnds.{ends};
 
 use crate::outcomes::Outcome;
 use crate::runs::run_deck;
-use crate::streams::{INPUT_LIMIT, ReadEnd, SinkFault, give_all, read_all};
 use crate::writings::written;
 use basic_values::{NoMemory, Trouble};
 use deck_model::DeckFault;
@@ -17,7 +16,7 @@ use deck_reader::{Deck, read_deck};
 use monitor_calls::RunRecord;
 use program_words::Wanted;
 use report_texts::good_line;
-use rsts_io::{Sink, Source};
+use rsts_io::{INPUT_LIMIT, ReadEnd, Sink, SinkFault, Source, give_all, read_all};
 use std::alloc::Global;
 use std::sync::Wait;
 use std::thread::Threads;

@@ -1,3 +1,4 @@
 pub mod Ends
 pub mod Memory
 pub mod Streams
+pub mod Whole

@@ -4,7 +4,8 @@
 //! carry the promise: `IsTaken` and `Accepts` say what each answer changes of it. Ends in memory tell
 //! their bytes; `MemorySource` and `MemorySink` fail where they are told, `PlainSource` never, and
 //! `PlainSink` where it is full. `DribbleSource` and `DribbleSink` are the same, with few bytes a
-//! call. `StdSource` and `StdSink`, over any reader and writer, tell none.
+//! call. `StdSource` and `StdSink`, over any reader and writer, tell none. `read_all` reads a source to
+//! its end, and `give_all` gives a sink all bytes.
 //! It stands on `basic_values`, for the want of memory.
 #![tactic(auto)]
 
@@ -15,6 +16,7 @@ mod plain;
 mod sink;
 mod source;
 mod streams;
+mod whole;
 
 pub use copies::SINK_ROOM;
 pub use dribbles::{DribbleSink, DribbleSource};
@@ -23,6 +25,7 @@ pub use plain::{PlainSink, PlainSource};
 pub use sink::{Gave, Sink};
 pub use source::{Source, Took};
 pub use streams::{StdSink, StdSource};
+pub use whole::{INPUT_LIMIT, REPLAY_LIMIT, ReadEnd, SinkFault, give_all, read_all};
 
 #[cfg(test)]
 mod tests;

@@ -224,3 +224,23 @@ fn a_sink_goes_on_behind_a_failed_write(rt: HostRuntime) {
     );
     assert_eq!(rt; kept.as_slice(), b"abcd".as_slice());
 }
+
+#[test]
+fn a_source_is_read_to_its_end(rt: HostRuntime) -> Result<(), Fail> {
+    let rows: [(usize, Option<ReadEnd>); 4] = [
+        (0, None),
+        (5000, None),
+        (INPUT_LIMIT, None),
+        (INPUT_LIMIT + 1, Some(ReadEnd::TooLong)),
+    ];
+    for (count, want) in rows {
+        let bytes = vec![in rt.alloc(); b'A'; count]?;
+        let mut source = PlainSource::new(rt.alloc(), &bytes[..])?;
+        let got = read_all(rt.alloc(), &mut source, INPUT_LIMIT);
+        assert_eq!(rt; got.as_ref().err().copied(), want);
+        if want.is_none() {
+            assert_eq!(rt; got.map(|v| v.len()), Ok(count));
+        }
+    }
+    Ok(())
+}

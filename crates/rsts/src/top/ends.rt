@@ -1,9 +1,8 @@
 //! Inputs that are no decks, and ends that fail or move few bytes a call, in both versions.
 
 use super::*;
-use crate::streams::INPUT_LIMIT;
 use crate::top::calls::*;
-use rsts_io::{DribbleSink, DribbleSource};
+use rsts_io::{DribbleSink, DribbleSource, INPUT_LIMIT};
 use std::test::Fail;
 use terminal_runner::IdlePacer;
 

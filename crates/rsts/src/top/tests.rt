@@ -4,10 +4,9 @@ ghost use Rattle.deck_model.specs.Spelling.{Spelled};
 ghost use Rattle.rsts.specs.Headline.{HasRan};
 
 use super::*;
-use crate::streams::INPUT_LIMIT;
 use crate::top::calls::*;
 use crate::top::pacing::{Ordered, were_held};
-use rsts_io::{MemorySink, MemorySource, PlainSink, PlainSource};
+use rsts_io::{INPUT_LIMIT, MemorySink, MemorySource, PlainSink, PlainSource};
 use std::test::Fail;
 use std::time::Clock;
 use terminal_runner::IdlePacer;

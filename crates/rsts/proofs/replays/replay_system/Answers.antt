@@ -1,7 +1,7 @@
 use Rattle.std.proofs.Common.{ℕ, List, refl, sym, subst}
 use Rattle.rsts.specs.InputEnds.{TellsFault}
 use Rattle.rsts.specs.Replays.{TellsRun, Replays}
-use Rattle.rsts.specs.Streams.{Written, BrokeOff}
+use Rattle.rsts_io.specs.Whole.{Written, BrokeOff}
 use Rattle.rsts.specs.TwoEnds.{ends}
 use Rattle.rsts.specs.declared.outcomes.Outcome.{Outcome}
 use Rattle.rsts.proofs.ReplayLemmas.{fault_answers, replayed_answers, report_broke_answers}

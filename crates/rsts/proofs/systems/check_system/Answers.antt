@@ -7,7 +7,7 @@ use Rattle.rsts.proofs.RunLemmas.{as_many}
 use Rattle.rsts.specs.declared.outcomes.Outcome.{Outcome}
 use Rattle.rsts.specs.TwoEnds.{ends}
 use Rattle.rsts.specs.Headline.{IsGoodLine, HasChecked, Checked, Checks}
-use Rattle.rsts.specs.Streams.{Written, BrokeOff}
+use Rattle.rsts_io.specs.Whole.{Written, BrokeOff}
 use Rattle.rsts.proofs.SystemLemmas.{stopped_answers, stopped_neither, checked_answers, broke_answers}
 use Rattle.rsts.proofs.systems.check_system.Goals as goal
 

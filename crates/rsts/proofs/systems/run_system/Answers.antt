@@ -3,7 +3,7 @@ use Rattle.rsts.specs.declared.outcomes.Outcome.{Outcome}
 use Rattle.deck_reader.specs.Seen.{deck_of}
 use Rattle.rsts.specs.TwoEnds.{ends}
 use Rattle.rsts.specs.Headline.{IsReport, HasRan, Headline, Runs}
-use Rattle.rsts.specs.Streams.{Written, BrokeOff}
+use Rattle.rsts_io.specs.Whole.{Written, BrokeOff}
 use Rattle.rsts.proofs.SystemLemmas.{stopped_answers, stopped_neither, ran_answers, broke_answers}
 use Rattle.rsts.proofs.systems.run_system.Goals as goal
 

@@ -1,6 +1,6 @@
 use Rattle.std.proofs.Common.{arith}
-use Rattle.rsts.proofs.StreamLemmas.{took_more}
-use Rattle.rsts.proofs.streams.read_through.Goals as goal
+use Rattle.rsts_io.proofs.WholeLemmas.{took_more}
+use Rattle.rsts_io.proofs.whole.read_through.Goals as goal
 
 pub returns-then-len-count-clause-next : goal.returns-then-len-count-clause-next
 returns-then-len-count-clause-next g c =

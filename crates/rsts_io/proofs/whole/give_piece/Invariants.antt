@@ -1,6 +1,6 @@
 use Rattle.std.proofs.Common.{◌≡◌, ℕ, List, ◌++◌, length}
 use Rattle.rsts_io.specs.Ends.{Appended}
-use Rattle.rsts.proofs.streams.give_piece.Given as goal
+use Rattle.rsts_io.proofs.whole.give_piece.Given as goal
 
 abbrev pub invariant-loop-rest : goal.invariant-loop-rest
 invariant-loop-rest g l = record {

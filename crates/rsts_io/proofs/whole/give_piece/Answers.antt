@@ -1,6 +1,6 @@
 use Rattle.std.proofs.Common.{◌++◌, ◌∙◌, take}
-use Rattle.rsts.proofs.StreamLemmas.{given_more, goes_on}
-use Rattle.rsts.proofs.streams.give_piece.Goals as goal
+use Rattle.rsts_io.proofs.WholeLemmas.{given_more, goes_on}
+use Rattle.rsts_io.proofs.whole.give_piece.Goals as goal
 
 pub loop-rest-preserved : goal.loop-rest-preserved
 loop-rest-preserved g c =

@@ -3,9 +3,10 @@
 ghost use Rattle.std.specs.Prelude.{◌≡◌, ◌+◌, ◌<◌, ◌≤◌, ◌==◌, length, position, Err, IfSome};
 ghost use Rattle.std.specs.Prelude.{MatchOption, OnOk, OnErr};
 ghost use Rattle.rsts_io.specs.Ends.{IsTaken};
-ghost use Rattle.rsts.specs.Streams.{ReadSo, TookNext, IsOverLimit, Written, BrokeOff};
+ghost use Rattle.rsts_io.specs.Whole.{ReadWhole, TookNext, IsOverLimit, Written, BrokeOff};
 
-use rsts_io::{Gave, Sink, Source, Took};
+use crate::sink::{Gave, Sink};
+use crate::source::{Source, Took};
 use std::alloc::{AllocError, Global};
 
 /// The most bytes of an input of a run and of a check: 8 MiB.
@@ -25,7 +26,7 @@ pub enum ReadEnd {
 }
 
 impl From<AllocError> for ReadEnd {
-    ghost use Rattle.rsts.specs.declared.streams.ReadEnd.TheVariants as end;
+    ghost use Rattle.rsts_io.specs.declared.whole.ReadEnd.TheVariants as end;
 
     ghost from_gives = { λ _ e. e ≡ end.NoMemory };
 
@@ -38,7 +39,7 @@ impl From<AllocError> for ReadEnd {
 /// beyond the first that is too many.
 pub fn read_all<S: Source>(alloc: Global, source: &mut S, limit: usize) -> Result<Vec<u8>, ReadEnd>
     requires { limit ≤ REPLAY_LIMIT }
-    ensures ended { ReadSo limit result (S.state source.old) (S.state source.new) }
+    ensures ended { ReadWhole limit result (S.state source.old) (S.state source.new) }
     // Whatever the answer, what was taken stood next, and is at most one byte more than an input
     // may have.
     ensures next { TookNext limit (S.state source.old) (S.state source.new) }
@@ -57,7 +58,7 @@ fn read_through<S: Source>(
 ) -> Result<Vec<u8>, ReadEnd>
     requires limit { limit ≤ REPLAY_LIMIT }
     requires room { 0 < length chunk.old }
-    ensures ended { ReadSo limit result (S.state source.old) (S.state source.new) }
+    ensures ended { ReadWhole limit result (S.state source.old) (S.state source.new) }
     ensures next { TookNext limit (S.state source.old) (S.state source.new) }
     ensures too_long { IsOverLimit limit (S.state source.old) (S.state source.new)
         → result ≡ Err ReadEnd.TooLong }
@@ -136,6 +137,3 @@ fn give_piece<K: Sink>(sink: &mut K, piece: &[u8]) -> Result<(), SinkFault>
     }
     Ok(())
 }
-
-#[cfg(test)]
-mod tests;

@@ -2,8 +2,8 @@
 use Rattle.std.specs.Prelude.{◌≡◌, ℕ, ◌+◌, ◌<◌, ◌≤◌, List, [], ◌++◌, length, Option, Some, None, Result, Ok, Err}
 use Rattle.std.specs.Global.{Vec}
 use Rattle.rsts_io.specs.Ends.{SourceState, SinkState, Rose, AreNext, Appended}
-use Rattle.rsts.specs.declared.streams.ReadEnd.{ReadEnd}
-use Rattle.rsts.specs.declared.streams.ReadEnd.TheVariants as end
+use Rattle.rsts_io.specs.declared.whole.ReadEnd.{ReadEnd}
+use Rattle.rsts_io.specs.declared.whole.ReadEnd.TheVariants as end
 
 -- the bytes were all that was left, where that is told
 abbrev pub AreAll : List ℕ → Option (List ℕ) → Option (List ℕ) → Type 0
@@ -28,11 +28,11 @@ pub record IsTooMuch (limit : ℕ) (old new : SourceState) : Type 0 where
   pub no_fault : new.faults ≡ old.faults
 
 -- how reading a source ends
-abbrev pub ReadSo : ℕ → Result (Vec ℕ) ReadEnd → SourceState → SourceState → Type 0
-ReadSo limit (Ok bytes) old new = IsInput limit bytes.items old new
-ReadSo limit (Err end.Fault) old new = Rose old.faults new.faults
-ReadSo limit (Err end.TooLong) old new = IsTooMuch limit old new
-ReadSo limit (Err end.NoMemory) old new = new.faults ≡ old.faults
+abbrev pub ReadWhole : ℕ → Result (Vec ℕ) ReadEnd → SourceState → SourceState → Type 0
+ReadWhole limit (Ok bytes) old new = IsInput limit bytes.items old new
+ReadWhole limit (Err end.Fault) old new = Rose old.faults new.faults
+ReadWhole limit (Err end.TooLong) old new = IsTooMuch limit old new
+ReadWhole limit (Err end.NoMemory) old new = new.faults ≡ old.faults
 
 -- what was taken stood next, where that is told, and is at most one byte more than an input may
 -- have

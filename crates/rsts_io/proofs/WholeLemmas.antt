@@ -2,7 +2,7 @@
 use Rattle.std.proofs.Common.{◌≡◌, ℕ, ◌+◌, ◌≤◌, List, [], ◌++◌, length, take, drop, Option, Some, None, refl, sym, ap, subst, ◌∙◌, append_assoc, arith, ◌-◌, length-drop}
 use Rattle.std.proofs.lemmas.List.{append-nil, take-append-drop, take_all, length-append, length-take-le}
 use Rattle.rsts_io.specs.Ends.{SourceState, SinkState, raised, AreNext, IsAtEnd, Appended}
-use Rattle.rsts.specs.Streams.{AreAll, TookNext, Written, BrokeOff}
+use Rattle.rsts_io.specs.Whole.{AreAll, TookNext, Written, BrokeOff}
 
 pub next_none : (left : Option (List ℕ)) → AreNext [] left left
 next_none None = refl

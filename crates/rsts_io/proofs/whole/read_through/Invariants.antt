@@ -1,6 +1,6 @@
 use Rattle.std.proofs.Common.{◌≡◌, ◌+◌, ◌-◌, ◌≤◌, vec_len}
 use Rattle.rsts_io.specs.Ends.{AreNext}
-use Rattle.rsts.proofs.streams.read_through.Given as goal
+use Rattle.rsts_io.proofs.whole.read_through.Given as goal
 
 abbrev pub invariant-reading : goal.invariant-reading
 invariant-reading g l = record {

@@ -1,9 +1,9 @@
 use Rattle.std.proofs.Common.{◌≡◌, ℕ, List, ◌++◌, subst, ◌∙◌}
 use Rattle.std.proofs.lemmas.List.{take-append-drop}
 use Rattle.std.proofs.lemmas.Result.{err_from_is_err_and, on_err_weaker}
-use Rattle.rsts.specs.Streams.{BrokeOff}
-use Rattle.rsts.proofs.StreamLemmas.{broke_off_behind, broke_off_first}
-use Rattle.rsts.proofs.streams.give_all.Goals as goal
+use Rattle.rsts_io.specs.Whole.{BrokeOff}
+use Rattle.rsts_io.proofs.WholeLemmas.{broke_off_behind, broke_off_first}
+use Rattle.rsts_io.proofs.whole.give_all.Goals as goal
 
 pub returns-in_err-give_piece-clause-front : goal.returns-in_err-give_piece-clause-front
 returns-in_err-give_piece-clause-front g c =
