@@ -1,30 +1,15 @@
-//! The program: time sharing after RSTS/E, with BASIC-PLUS jobs.
+//! The program: time sharing after RSTS/E, with BASIC-PLUS jobs, between standard input and output.
 //!
-//! `top::rsts_main` carries the program's promise: its one clause is `Does` of `specs/Headline`.
-//! `runs` runs the terminals of a deck, or replays their entries, `writings` makes
-//! what is written of a run, `inputs` cuts the input of a replay, `systems`, `drills` and `replays` put these together, and `outcomes` tells the
-//! status. It stands on `program_words`, for what is asked, on `deck_reader`, for decks, on `history_reader`, for histories, on `report_texts`,
-//! for what is written, on `command_level`, for the session of a terminal, on `terminal_runner`, for the threads, on `history_replay`, for a run
-//! without them, on `print_spool`, for listings, and on `rsts_io`, for the ends; what they mean stands in `deck_model`, `job_model` and
-//! `monitor_model`.
+//! What it does is promised by `rsts_main` of `time_sharing`, on which it stands; its ends are those of `rsts_io`, and its pacer
+//! is the idle one of `terminal_runner`.
 #![tactic(auto)]
 
-mod drills;
-mod inputs;
-mod outcomes;
-mod replays;
-mod runs;
-mod systems;
-mod top;
-mod writings;
-
-use crate::outcomes::Outcome;
-use crate::top::{Step, begin, rsts_main};
 use rsts_io::{StdSink, StdSource};
 use std::process::ExitCode;
 use std::rt::Env;
 use std::{env, io, str};
 use terminal_runner::IdlePacer;
+use time_sharing::{Outcome, Step, begin, rsts_main};
 
 /// Does what the words ask between standard input and output, says on standard error how it ended,
 /// and ends with its status. What waits for nobody is done without the top call, which may wait.

@@ -1,5 +1,3 @@
-pub mod Matrices
-pub mod OptionForms
 pub mod Pieces
 pub mod Rests
 pub mod Rows

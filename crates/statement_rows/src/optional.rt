@@ -4,10 +4,10 @@ ghost use Rattle.std.specs.Prelude.{◌≤◌, length};
 ghost use Rattle.statement_rows.specs.declared.piece.Piece.TheVariants as piece;
 ghost use Rattle.statement_rows.specs.Pieces.{PieceRead};
 
-use crate::open_options::{option, options};
 use crate::part::Part;
 use basic_expr::{Failure, Words};
 use basic_tree::{Keyword, OpenFor, Separator, Sign, Want};
+use statement_operands::{option, options};
 use statement_parts::{
     Literal, Read, expression, if_key, if_literal, if_sign, take_key, take_sign,
 };

@@ -1,11 +1,11 @@
 //! What the pieces of statements give.
 
-use crate::open_options::OpenOptions;
 use basic_tree::{
     CloseChannel, Expr, FieldPart, FileShape, MatrixValue, Name, OpenFor, Prompt, Separator,
     Series, Shape, Target,
 };
 use basic_values::Text;
+use statement_operands::OpenOptions;
 use statement_parts::{Assigned, LoopRange};
 
 /// Where INPUT reads, and what it writes first.

@@ -1,0 +1,164 @@
+//! How a call of the program ends.
+
+ghost use Rattle.std.specs.Prelude.{◌≡◌, ◌≤◌, length};
+ghost use Rattle.time_sharing.specs.Statuses.{status_of, line_of, cause_text, fault_line, dispute_text, dispute_line};
+
+use arrayvec::ArrayVec;
+use deck_model::{DeckCause, DeckFault};
+use itoa::Buffer;
+use monitor_calls::RunRecord;
+
+/// A drill that ended: its history, how many jobs it had, how many Puts were done, and the number
+/// that the last of them wrote.
+#[derive(Drop)]
+pub struct Drill {
+    pub history: RunRecord,
+    pub jobs: u32,
+    pub puts: u64,
+    pub sum: u32,
+}
+
+/// Why the text behind a deck tells no run of it.
+#[derive(Clone, Copy, Debug, PartialEq, Eq)]
+pub enum HistoryCause {
+    /// It is the text of no history.
+    Form,
+    /// The job of an entry is no terminal, or its reply is not the monitor's.
+    Reply,
+    /// A terminal asks otherwise than its entries say.
+    Meaning,
+}
+
+/// Where the text behind a deck first fails to tell a run of it, by the line of the whole input, from
+/// 1, and why.
+#[derive(Clone, Copy, Debug, PartialEq, Eq)]
+pub struct HistoryFault {
+    pub line: u32,
+    pub cause: HistoryCause,
+}
+
+/// How a call of the program ends.
+#[derive(Drop)]
+pub enum Outcome {
+    /// The deck was run and its report was written.
+    Ok(RunRecord),
+    /// The deck is good, and a line that says so was written.
+    Checked,
+    /// The drill was run, and a line that says what it came to was written.
+    Drilled(Drill),
+    /// The run that the input tells was checked again, and its report was written.
+    Replayed(RunRecord),
+    /// The words ask for nothing that the program does.
+    Usage,
+    /// The input spells no deck: the first line that no deck can have there, and why.
+    Deck(DeckFault),
+    /// The source failed.
+    ReadFault,
+    /// The input has more than 8,388,608 bytes; of a replay, more than 268,435,456.
+    TooLong,
+    /// The sink failed, behind a proper front of the output.
+    WriteFault,
+    NoMemory,
+    /// The text behind the deck tells no run of it.
+    History(HistoryFault),
+}
+
+impl Outcome {
+    /// The status with which the program ends.
+    pub fn status(&self) -> u8
+        ensures { result ≡ status_of self.now }
+    {
+        match self {
+            Outcome::Ok(_) | Outcome::Checked | Outcome::Drilled(_) | Outcome::Replayed(_) => 0,
+            Outcome::Usage => 1,
+            Outcome::Deck(_) => 2,
+            Outcome::ReadFault => 3,
+            Outcome::TooLong => 4,
+            Outcome::WriteFault => 5,
+            Outcome::NoMemory => 6,
+            Outcome::History(_) => 7,
+        }
+    }
+
+    /// What the program says on standard error, without its LF: nothing where the status is 0.
+    pub fn line(&self) -> ArrayVec<u8, 64>
+        ensures { result.items ≡ line_of self.now }
+    {
+        match self {
+            Outcome::Ok(_) | Outcome::Checked | Outcome::Drilled(_) | Outcome::Replayed(_) => {
+                words(b"")
+            }
+            Outcome::Usage => words(b"usage: rsts run [--history] | check | drill N"),
+            Outcome::Deck(fault) => fault_line(*fault),
+            Outcome::ReadFault => words(b"read fault"),
+            Outcome::TooLong => words(b"input too long"),
+            Outcome::WriteFault => words(b"write fault"),
+            Outcome::NoMemory => words(b"no memory"),
+            Outcome::History(fault) => dispute_line(*fault),
+        }
+    }
+}
+
+fn words(text: &[u8]) -> ArrayVec<u8, 64>
+    requires { length text.now ≤ 64 }
+    ensures { result.items ≡ text.now }
+{
+    let mut line = ArrayVec::new();
+    line.try_extend_from_slice(text).unwrap();
+    line
+}
+
+/// `deck line`, the line's number, and the cause.
+fn fault_line(fault: DeckFault) -> ArrayVec<u8, 64>
+    ensures { result.items ≡ fault_line fault }
+{
+    let mut buffer = Buffer::new();
+    let mut line = words(b"deck line ");
+    line.try_extend_from_slice(buffer.format(fault.line).as_bytes())
+        .unwrap();
+    line.try_extend_from_slice(b": ").unwrap();
+    line.try_extend_from_slice(cause_text(fault.cause)).unwrap();
+    line
+}
+
+/// The words of a cause.
+fn cause_text(cause: DeckCause) -> &'static [u8]
+    ensures text { result.now ≡ cause_text cause }
+    ensures short { length result.now ≤ 27 }
+{
+    match cause {
+        DeckCause::Cut => b"input ends early",
+        DeckCause::Version => b"not a version 1 or 2 deck",
+        DeckCause::Shape => b"wrong form",
+        DeckCause::Range => b"number or text out of range",
+        DeckCause::Double => b"name given twice",
+        DeckCause::Owner => b"unknown account",
+        DeckCause::Space => b"no room",
+    }
+}
+
+/// `history line`, the line's number, and the cause.
+fn dispute_line(fault: HistoryFault) -> ArrayVec<u8, 64>
+    ensures { result.items ≡ dispute_line fault }
+{
+    let mut buffer = Buffer::new();
+    let mut line = words(b"history line ");
+    line.try_extend_from_slice(buffer.format(fault.line).as_bytes())
+        .unwrap();
+    line.try_extend_from_slice(b": ").unwrap();
+    line.try_extend_from_slice(dispute_text(fault.cause))
+        .unwrap();
+    line
+}
+
+/// The words of a cause of a history.
+fn dispute_text(cause: HistoryCause) -> &'static [u8]
+    ensures text { result.now ≡ dispute_text cause }
+    ensures short { length result.now ≤ 15 }
+{
+    match cause {
+        HistoryCause::Form => b"wrong form",
+        HistoryCause::Reply => b"reply differs",
+        HistoryCause::Meaning => b"request differs",
+    }
+}

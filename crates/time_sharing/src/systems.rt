@@ -1,0 +1,130 @@
+//! What a run and a check do: a deck is read, and what there is to say of it is written.
+
+ghost use Rattle.std.specs.Prelude.{◌≡◌, IfOk};
+ghost use Rattle.deck_model.specs.Deck.{IsDeck};
+ghost use Rattle.deck_reader.specs.Seen.{deck_of};
+ghost use Rattle.time_sharing.specs.Headline.{Reports, Runs, Checks};
+ghost use Rattle.time_sharing.specs.SourceEnds.{FoundInSource, MustFind, MustRefuse, MustStop, outcome_of};
+ghost use Rattle.time_sharing.specs.TwoEnds.{ends};
+
+use crate::outcomes::Outcome;
+use crate::runs::run_deck;
+use crate::writings::written;
+use basic_values::{NoMemory, Trouble};
+use deck_model::DeckFault;
+use deck_reader::{Deck, read_deck};
+use monitor_calls::RunRecord;
+use program_words::Wanted;
+use report_texts::good_line;
+use rsts_io::{INPUT_LIMIT, ReadEnd, Sink, SinkFault, Source, give_all, read_all};
+use std::alloc::Global;
+use std::sync::Wait;
+use std::thread::Threads;
+use terminal_runner::Pacer;
+
+/// Why no deck was read.
+#[derive(Clone, Copy, PartialEq, Eq)]
+pub(crate) enum Stopped {
+    ReadFault,
+    TooLong,
+    Deck(DeckFault),
+    NoMemory,
+}
+
+impl Stopped {
+    fn outcome(self) -> Outcome
+        ensures { result ≡ outcome_of self }
+    {
+        match self {
+            Stopped::ReadFault => Outcome::ReadFault,
+            Stopped::TooLong => Outcome::TooLong,
+            Stopped::Deck(fault) => Outcome::Deck(fault),
+            Stopped::NoMemory => Outcome::NoMemory,
+        }
+    }
+}
+
+/// Runs the terminals of the deck that the source spells and writes what is wanted of the run, as
+/// the word `run` asks.
+pub(crate) fn run_system<R: Threads + Wait + Sync, S: Source, K: Sink, P: Pacer + Sync>(
+    rt: &R,
+    alloc: Global,
+    wanted: Wanted,
+    source: &mut S,
+    sink: &mut K,
+    pacer: &P,
+) -> Outcome
+    ensures { Runs wanted (ends (S.state source.old) (K.state sink.old))
+        (ends (S.state source.new) (K.state sink.new)) result }
+{
+    let deck = match read_system(alloc, source) {
+        Ok(deck) => deck,
+        Err(stopped) => return stopped.outcome(),
+    };
+    let (record, output) = match run_and_report(rt, alloc, wanted, &deck, pacer) {
+        Ok(ran) => ran,
+        Err(NoMemory) => return Outcome::NoMemory,
+    };
+    match give_all(sink, output.as_slice()) {
+        Ok(()) => Outcome::Ok(record),
+        Err(SinkFault) => Outcome::WriteFault,
+    }
+}
+
+/// Reads a deck and writes `GOOD`, the numbers of its accounts, files and terminals, as the word
+/// `check` asks.
+pub fn check_system<S: Source, K: Sink>(alloc: Global, source: &mut S, sink: &mut K) -> Outcome
+    ensures { Checks (ends (S.state source.old) (K.state sink.old))
+        (ends (S.state source.new) (K.state sink.new)) result }
+{
+    let deck = match read_system(alloc, source) {
+        Ok(deck) => deck,
+        Err(stopped) => return stopped.outcome(),
+    };
+    let volume = &deck.volume;
+    let (accounts, files) = (volume.accounts.len(), volume.files.len());
+    let output = match good_line(alloc, accounts, files, deck.terminals.len()) {
+        Ok(output) => output,
+        Err(NoMemory) => return Outcome::NoMemory,
+    };
+    match give_all(sink, output.as_slice()) {
+        Ok(()) => Outcome::Checked,
+        Err(SinkFault) => Outcome::WriteFault,
+    }
+}
+
+/// The deck that the source spells, read to its end.
+fn read_system<S: Source>(alloc: Global, source: &mut S) -> Result<Deck, Stopped>
+    ensures found { FoundInSource result (S.state source.old) (S.state source.new) }
+    ensures must_stop { MustStop result (S.state source.old) (S.state source.new) }
+    ensures must_find { MustFind result (S.state source.old) (S.state source.new) }
+    ensures must_refuse { MustRefuse result (S.state source.old) (S.state source.new) }
+{
+    let bytes = match read_all(alloc, source, INPUT_LIMIT) {
+        Ok(bytes) => bytes,
+        Err(ReadEnd::Fault) => return Err(Stopped::ReadFault),
+        Err(ReadEnd::TooLong) => return Err(Stopped::TooLong),
+        Err(ReadEnd::NoMemory) => return Err(Stopped::NoMemory),
+    };
+    match read_deck(alloc, bytes.as_slice()) {
+        Ok(deck) => Ok(deck),
+        Err(Trouble::Refused(fault)) => Err(Stopped::Deck(fault)),
+        Err(Trouble::NoMemory) => Err(Stopped::NoMemory),
+    }
+}
+
+/// A run of the deck, and what is written of it.
+fn run_and_report<R: Threads + Wait + Sync, P: Pacer + Sync>(
+    rt: &R,
+    alloc: Global,
+    wanted: Wanted,
+    deck: &Deck,
+    pacer: &P,
+) -> Result<(RunRecord, Vec<u8>), NoMemory>
+    requires { IsDeck (deck_of deck.now) }
+    ensures { IfOk result (λ ran. Reports wanted (deck_of deck.now) ran.0 ran.1.items) }
+{
+    let ran = run_deck(rt, alloc, deck, pacer)?;
+    let output = written(alloc, wanted, deck, &ran)?;
+    Ok((ran.run, output))
+}

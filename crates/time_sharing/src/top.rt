@@ -1,0 +1,75 @@
+//! The top call: what the program does with its words and its two ends.
+
+ghost use Rattle.std.specs.Prelude.{map, string_bytes};
+ghost use Rattle.program_words.specs.Words.{asked};
+ghost use Rattle.time_sharing.specs.Headline.{Does};
+ghost use Rattle.time_sharing.specs.Steps.{Begins};
+ghost use Rattle.time_sharing.specs.TwoEnds.{ends};
+
+use crate::drills::run_drill;
+use crate::outcomes::Outcome;
+use crate::replays::replay_system;
+use crate::systems::{check_system, run_system};
+use basic_values::NoMemory;
+use program_words::{Asked, Wanted, asked_by};
+use rsts_io::{Sink, Source};
+use std::alloc::Global;
+use std::sync::Wait;
+use std::thread::Threads;
+use terminal_runner::Pacer;
+
+/// How far the program gets without waiting.
+#[derive(Drop)]
+pub enum Step {
+    /// It is done.
+    Ended(Outcome),
+    /// A deck is to be run, and this written of it; nothing was read yet.
+    Runs(Wanted),
+    /// A drill is to be run, with so many terminals.
+    Drills(u32),
+}
+
+/// Does what the words ask where that waits for nobody, as a check, a replay and the usage do.
+#[tactic(auto, using(crate::proofs::SystemLemmas::wanted))]
+pub fn begin<S: Source, K: Sink>(
+    alloc: Global,
+    words: &[String],
+    source: &mut S,
+    sink: &mut K,
+) -> Step
+    ensures { Begins (asked (map string_bytes words.now))
+        (ends (S.state source.old) (K.state sink.old))
+        (ends (S.state source.new) (K.state sink.new)) result }
+{
+    match asked_by(alloc, words) {
+        Ok(Asked::Run(wanted)) => Step::Runs(wanted),
+        Ok(Asked::Check) => Step::Ended(check_system(alloc, source, sink)),
+        Ok(Asked::Drill(jobs)) => Step::Drills(jobs),
+        Ok(Asked::Replay) => Step::Ended(replay_system(alloc, source, sink)),
+        Ok(Asked::Nothing) => Step::Ended(Outcome::Usage),
+        Err(NoMemory) => Step::Ended(Outcome::NoMemory),
+    }
+}
+
+/// Reads a deck from the source, runs its terminals, each in a thread of its own, and writes the
+/// report to the sink, behind it the text of the history and what the printer printed; or reads a
+/// deck and writes whether it is good; or runs the drill's deck and writes what it came to; or reads a
+/// deck and a history and checks that run again; as the words ask.
+pub fn rsts_main<R: Threads + Wait + Sync, S: Source, K: Sink, P: Pacer + Sync>(
+    rt: &R,
+    alloc: Global,
+    words: &[String],
+    source: &mut S,
+    sink: &mut K,
+    pacer: &P,
+) -> Outcome
+    ensures { Does (asked (map string_bytes words.now))
+        (ends (S.state source.old) (K.state sink.old))
+        (ends (S.state source.new) (K.state sink.new)) result }
+{
+    match begin(alloc, words, source, sink) {
+        Step::Ended(outcome) => outcome,
+        Step::Runs(wanted) => run_system(rt, alloc, wanted, source, sink, pacer),
+        Step::Drills(jobs) => run_drill(rt, alloc, jobs, sink, pacer),
+    }
+}

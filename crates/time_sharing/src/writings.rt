@@ -1,0 +1,91 @@
+//! What is written of a run: its report, the text of its history, what the printer printed.
+
+ghost use Rattle.std.specs.Prelude.{◌≡◌, ◌++◌, IfOk, OnOk};
+ghost use Rattle.deck_model.specs.Histories.{history_text};
+ghost use Rattle.deck_reader.specs.Seen.{deck_of};
+ghost use Rattle.print_spool.specs.Printed.{AreNamed, printed_text};
+ghost use Rattle.report_texts.specs.Names.{names_of};
+ghost use Rattle.time_sharing.specs.Headline.{where_wanted, written_of};
+ghost use Rattle.time_sharing.specs.Runs.{IsRun};
+
+use basic_values::NoMemory;
+use deck_reader::{Deck, Terminal};
+use monitor_calls::{Entry, TerminalName};
+use print_spool::printed;
+use program_words::Wanted;
+use report_texts::{push_history, report};
+use std::alloc::Global;
+use terminal_runner::RunEnd;
+
+/// What is written of a run of the deck.
+pub(crate) fn written(
+    alloc: Global,
+    wanted: Wanted,
+    deck: &Deck,
+    ran: &RunEnd,
+) -> Result<Vec<u8>, NoMemory>
+    requires { IsRun (deck_of deck.now) ran.now.run ran.now.screens.items }
+    ensures { IfOk result (λ output. output.items
+        ≡ written_of wanted (deck_of deck.now) ran.now.run ran.now.screens.items) }
+{
+    let terminals = deck.terminals.as_slice();
+    let history = ran.run.as_slice();
+    let mut output = report(alloc, terminals, ran.screens.as_slice())?;
+    push_wanted_history(&mut output, wanted.history, history)?;
+    push_wanted_listings(alloc, &mut output, wanted.printer, terminals, history)?;
+    Ok(output)
+}
+
+/// Writes the text of a history, where it is wanted.
+fn push_wanted_history(
+    output: &mut Vec<u8>,
+    wanted: bool,
+    history: &[Entry],
+) -> Result<(), NoMemory>
+    ensures { OnOk result (output.new.items
+        ≡ output.old.items ++ where_wanted wanted (history_text history.now)) }
+{
+    if !wanted {
+        return Ok(());
+    }
+    push_history(output, history)
+}
+
+/// Writes what the printer printed in a history, where it is wanted. Each job is that of the
+/// terminal at its place.
+fn push_wanted_listings(
+    alloc: Global,
+    output: &mut Vec<u8>,
+    wanted: bool,
+    terminals: &[Terminal],
+    history: &[Entry],
+) -> Result<(), NoMemory>
+    requires { AreNamed (names_of terminals.now) history.now }
+    ensures { OnOk result (output.new.items ≡ output.old.items
+        ++ where_wanted wanted (printed_text (names_of terminals.now) history.now)) }
+{
+    if !wanted {
+        return Ok(());
+    }
+    let names = names_of(alloc, terminals)?;
+    let text = printed(alloc, names.as_slice(), history)?;
+    Ok(output.extend_from_slice(text.as_slice())?)
+}
+
+/// The names of terminals.
+fn names_of(alloc: Global, terminals: &[Terminal]) -> Result<Vec<TerminalName>, NoMemory>
+    ensures { IfOk result (λ names. names.items ≡ names_of terminals.now) }
+{
+    let mut names = Vec::new(alloc);
+    for terminal in terminals {
+        names.push(copy_of(&terminal.name))?;
+    }
+    Ok(names)
+}
+
+/// The same name once more.
+fn copy_of(name: &TerminalName) -> TerminalName
+    ensures { result ≡ name.now }
+{
+    TerminalName::of(name.as_bytes()).unwrap()
+}
