@@ -1,4 +1,5 @@
-//! Tests of the reader of decks and of what is written, by their public calls alone.
+//! Tests of the reader of decks and of what is written, of the words, the drill's deck and the ends, by
+//! their public calls alone.
 #![tactic(auto)]
 
 #[cfg(test)]
@@ -6,6 +7,12 @@ mod causes;
 #[cfg(test)]
 mod decks;
 #[cfg(test)]
+mod drills;
+#[cfg(test)]
+mod ends;
+#[cfg(test)]
 mod histories;
 #[cfg(test)]
 mod history_reading;
+#[cfg(test)]
+mod words;

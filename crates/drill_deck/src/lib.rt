@@ -11,6 +11,3 @@ mod tallies;
 
 pub use decks::drill_deck;
 pub use tallies::{Tally, drill_line, tally_of};
-
-#[cfg(test)]
-mod tests;

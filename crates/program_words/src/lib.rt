@@ -10,6 +10,3 @@ mod command;
 mod words;
 
 pub use words::{Asked, MOST_DRILL_JOBS, Wanted, asked_by};
-
-#[cfg(test)]
-mod tests;

@@ -26,6 +26,3 @@ pub use sink::{Gave, Sink};
 pub use source::{Source, Took};
 pub use streams::{StdSink, StdSource};
 pub use whole::{INPUT_LIMIT, REPLAY_LIMIT, ReadEnd, SinkFault, give_all, read_all};
-
-#[cfg(test)]
-mod tests;

@@ -1,5 +1,7 @@
-use super::*;
+//! The deck of the drill, and what is counted in a history.
+
 use deck_reader::{Deck, read_deck};
+use drill_deck::{Tally, drill_deck, drill_line, tally_of};
 use monitor_calls::{Entry, Page, Reply, Request};
 use program_words::MOST_DRILL_JOBS;
 use std::alloc::Global;

@@ -1,4 +1,6 @@
-use super::*;
+//! What the words behind the program's name ask for.
+
+use program_words::{Asked, Wanted, asked_by};
 use std::alloc::Global;
 use std::test::Fail;
 

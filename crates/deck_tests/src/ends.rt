@@ -1,4 +1,9 @@
-use super::*;
+//! Sources and sinks: what each call takes and gives, and where it fails.
+
+use rsts_io::{
+    DribbleSink, DribbleSource, Gave, INPUT_LIMIT, MemorySink, MemorySource, PlainSink,
+    PlainSource, ReadEnd, SINK_ROOM, Sink, Source, StdSink, StdSource, Took, read_all,
+};
 use std::io;
 use std::io::{Read, Write};
 use std::test::Fail;
