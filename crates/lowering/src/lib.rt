@@ -14,6 +14,7 @@
 #![tactic(auto)]
 
 mod channel_items;
+mod control_items;
 mod counted;
 mod elements;
 mod emitted;

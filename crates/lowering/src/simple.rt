@@ -12,6 +12,9 @@ ghost use Rattle.polish_code.specs.Code.{Ex, It, places_of, def_pieces, target_p
 ghost use Rattle.lowering.specs.Emission.{with_expression, with_pieces, with_simple};
 
 use crate::channel_items::{emit_input_on, emit_line_on, emit_print_on, emit_print_using};
+use crate::control_items::{
+    emit_end, emit_for, emit_let, emit_line_asked, emit_on_gosub, emit_on_goto, emit_result,
+};
 use crate::elements::store_item;
 use crate::expressions::emit_expr;
 use crate::field_items::{emit_field, emit_justify};
@@ -48,16 +51,7 @@ pub fn emit_simple<K: Sink, L: Lookups>(
             from,
             to,
             step,
-        } => {
-            code.put(Item::Open {
-                variable: *variable,
-                place: i,
-                to: tables.past_next(m),
-            })?;
-            emit_step(alloc, code, tables, step)?;
-            emit_expr(alloc, code, tables, to)?;
-            emit_expr(alloc, code, tables, from)
-        }
+        } => emit_for(alloc, code, tables, m, i, *variable, from, to, step),
         Statement::Next(variable) => code.put(Item::Step {
             variable: *variable,
             place: tables.loop_place(m),
@@ -66,13 +60,9 @@ pub fn emit_simple<K: Sink, L: Lookups>(
         Statement::FnEnd => code.put(Item::Leave),
         Statement::Def { value, .. } => emit_def(alloc, code, tables, m, value),
         Statement::Let { targets, value, .. } => {
-            emit_stores(alloc, code, tables, targets.as_slice())?;
-            emit_expr(alloc, code, tables, value)
+            emit_let(alloc, code, tables, targets.as_slice(), value)
         }
-        Statement::Result { value, .. } => {
-            code.put(Item::Answer)?;
-            emit_expr(alloc, code, tables, value)
-        }
+        Statement::Result { value, .. } => emit_result(alloc, code, tables, value),
         Statement::Print {
             channel,
             items,
@@ -106,11 +96,7 @@ pub fn emit_simple<K: Sink, L: Lookups>(
             Some(channel) => emit_input_on(alloc, code, tables, channel, targets.as_slice()),
         },
         Statement::InputLine { channel, variable } => match channel {
-            None => {
-                code.put(Item::Discard)?;
-                code.put(Item::Store(*variable))?;
-                code.put(Item::AskLine)
-            }
+            None => emit_line_asked(code, tables, m, i, *variable),
             Some(channel) => emit_line_on(alloc, code, tables, channel, *variable),
         },
         Statement::Read(targets) => emit_read(alloc, code, tables, targets.as_slice()),
@@ -122,23 +108,15 @@ pub fn emit_simple<K: Sink, L: Lookups>(
         }),
         Statement::Return => code.put(Item::Return),
         Statement::OnGoto { selector, lines } => {
-            code.put(Item::OnGoto(line_places(alloc, tables, lines.as_slice())?))?;
-            emit_expr(alloc, code, tables, selector)
+            emit_on_goto(alloc, code, tables, m, i, selector, lines.as_slice())
         }
         Statement::OnGosub { selector, lines } => {
-            code.put(Item::OnGosub {
-                home: tables.home(m),
-                places: line_places(alloc, tables, lines.as_slice())?,
-            })?;
-            emit_expr(alloc, code, tables, selector)
+            emit_on_gosub(alloc, code, tables, m, i, selector, lines.as_slice())
         }
         Statement::OnErrorGoto(line) => code.put(Item::OnError(named_line(*line))),
         Statement::Resume(line) => emit_resume(code, tables, *line),
         Statement::Stop => code.put(Item::Stop(tables.home(m))),
-        Statement::End => {
-            code.put(Item::End)?;
-            code.put(Item::Ask(FileAct::ShutAll))
-        }
+        Statement::End => emit_end(code, tables, m, i),
         Statement::Chain { program, line } => emit_chain(alloc, code, tables, program, line),
         Statement::Sleep(seconds) => emit_with_one(alloc, code, tables, FileAct::Sleep, seconds),
         Statement::Open {
@@ -274,7 +252,7 @@ fn emit_target<K: Sink, L: Lookups>(
 }
 
 /// The stores of one value.
-fn emit_stores<K: Sink, L: Lookups>(
+pub fn emit_stores<K: Sink, L: Lookups>(
     alloc: Global,
     code: &mut K,
     tables: &L,
@@ -462,7 +440,7 @@ fn emit_printed<K: Sink, L: Lookups>(
 
 // Lines
 
-fn line_places<L: Lookups>(
+pub fn line_places<L: Lookups>(
     alloc: Global,
     tables: &L,
     lines: &[u16],

@@ -1,7 +1,7 @@
 //! Arrays of numbers, read and stored whole.
 
-use crate::memory::number_name;
-use basic_tree::{Name, Shape};
+use crate::memory::{Told, dim, number_name};
+use basic_tree::Name;
 use basic_values::{Int, NoMemory};
 use job_memory::Memory;
 use std::alloc::Global;
@@ -24,13 +24,10 @@ pub(crate) fn are(numbers: &[Int], values: &[i16]) -> bool {
 /// A memory with an array of numbers.
 fn memory_with(alloc: Global, name: Name, first: u16, second: Option<u16>) -> Result<Memory, Fail> {
     let mut memory = Memory::new(alloc);
-    let shape = Shape {
-        name,
-        first,
-        second,
-    };
-    memory.dim(shape).ok().ok_or("no array")?;
-    Ok(memory)
+    match dim(&mut memory, name, first, second) {
+        Told::Done => Ok(memory),
+        _ => Err("no array".into()),
+    }
 }
 
 /// The bounds of an array, the numbers that are stored, and those that are there then.
@@ -51,10 +48,19 @@ fn stores_whole(
 ) -> Result<bool, Fail> {
     let name = number_name(b'A');
     let mut memory = memory_with(alloc, name, first, second)?;
+    set_all(alloc, &mut memory, name, values)?;
+    Ok(holds(&memory, name, wanted)? && memory.bounds(name) == Some((first, second)))
+}
+
+fn set_all(alloc: Global, memory: &mut Memory, name: Name, values: &[i16]) -> Result<(), Fail> {
     let numbers = numbers_of(alloc, values)?;
     memory.set_numbers(name, &numbers);
-    let is_whole = are(&memory.numbers(name)?, wanted);
-    Ok(is_whole && memory.bounds(name) == Some((first, second)))
+    Ok(())
+}
+
+/// Whether the array holds these numbers, those with a subscript 0 too.
+pub(crate) fn holds(memory: &Memory, name: Name, wanted: &[i16]) -> Result<bool, Fail> {
+    Ok(are(&memory.numbers(name)?, wanted))
 }
 
 #[test]
@@ -78,8 +84,7 @@ fn last_two(memory: &Memory, name: Name) -> Result<Vec<Int>, Fail> {
 fn a_part_of_an_array_is_read(rt: HostRuntime) -> Result<(), Fail> {
     let name = number_name(b'A');
     let mut memory = memory_with(rt.alloc(), name, 1, Some(2))?;
-    let numbers = numbers_of(rt.alloc(), &[1, 2, 3, 4, 5, 6])?;
-    memory.set_numbers(name, &numbers);
+    set_all(rt.alloc(), &mut memory, name, &[1, 2, 3, 4, 5, 6])?;
     let is_right = are(&last_two(&memory, name)?, &[5, 6]);
     assert!(rt; is_right);
     Ok(())

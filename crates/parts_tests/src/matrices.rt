@@ -1,9 +1,9 @@
 //! MAT on a memory: rows of assignments, arrays that are made where they are named, and rows that are read.
 
-use crate::arrays::are;
-use crate::memory::{Told, number_name, stored};
+use crate::arrays::{are, holds};
+use crate::memory::{Told, dim, number_at, number_name, set_number_at, stored};
 use basic_matrix::{MatValue, assign, row, touch};
-use basic_tree::{Name, Shape};
+use basic_tree::Name;
 use basic_values::{Halt, Int, Trouble};
 use job_memory::Memory;
 use std::alloc::Global;
@@ -106,12 +106,13 @@ fn value_of(given: Given) -> MatValue {
 }
 
 /// The numbers of an array are stored one by one.
-fn store(memory: &mut Memory, name: Name, second: Option<u16>, values: &[i16]) -> Result<(), Fail> {
+fn store(memory: &mut Memory, letter: u8, second: Option<u16>, values: &[i16]) -> Result<(), Fail> {
     let (mut i, mut j) = (0, 0);
     for value in values {
-        let last = second.map(|_| Int::new(j));
-        let stored = memory.set_number_at(name, Int::new(i), last, Int::new(*value));
-        stored.ok().ok_or("no element")?;
+        let last = second.map(|_| j);
+        if set_number_at(memory, letter, (i, last), *value) != Told::Done {
+            return Err("no element".into());
+        }
         (i, j) = next_subscripts(second, i, j);
     }
     Ok(())
@@ -127,17 +128,19 @@ fn next_subscripts(second: Option<u16>, i: i16, j: i16) -> (i16, i16) {
 
 fn memory_of_arrays(alloc: Global) -> Result<Memory, Fail> {
     let mut memory = Memory::new(alloc);
-    for (name, first, second, values) in &ARRAYS {
-        let (name, first, second) = (number_name(*name), *first, *second);
-        let shape = Shape {
-            name,
-            first,
-            second,
-        };
-        memory.dim(shape).ok().ok_or("no array")?;
-        store(&mut memory, name, second, values)?;
+    for (letter, first, second, values) in &ARRAYS {
+        make(&mut memory, *letter, *first, *second)?;
+        store(&mut memory, *letter, *second, values)?;
     }
     Ok(memory)
+}
+
+/// An array of numbers is made.
+fn make(memory: &mut Memory, letter: u8, first: u16, second: Option<u16>) -> Result<(), Fail> {
+    match dim(memory, number_name(letter), first, second) {
+        Told::Done => Ok(()),
+        _ => Err("no array".into()),
+    }
 }
 
 /// The numbers of a row that is there.
@@ -164,11 +167,6 @@ fn rows_are(memory: &Memory, name: Name, wanted: &[i16]) -> Result<bool, Fail> {
     Ok(left.is_empty())
 }
 
-/// Whether the array holds these numbers, those with a subscript 0 too.
-fn holds(memory: &Memory, name: Name, wanted: &[i16]) -> Result<bool, Fail> {
-    Ok(are(&memory.numbers(name)?, wanted))
-}
-
 /// Whether each array but this one is as it was made.
 fn others_stay(memory: &Memory, target: Name) -> Result<bool, Fail> {
     for (letter, _, _, values) in &ARRAYS {
@@ -181,24 +179,36 @@ fn others_stay(memory: &Memory, target: Name) -> Result<bool, Fail> {
 }
 
 /// Whether each number with a subscript 0 is 9, as it was stored.
-fn zero_subscripts_stay(memory: &Memory, name: Name) -> bool {
-    let (zero, one) = (Int::new(0), Int::new(1));
-    let nine = Ok(Int::new(9));
-    if matches!(memory.bounds(name), Some((_, None))) {
-        return memory.number_at(name, zero, None) == nine;
+fn zero_subscripts_stay(memory: &Memory, letter: u8) -> bool {
+    let nine = Told::Is(9);
+    if matches!(memory.bounds(number_name(letter)), Some((_, None))) {
+        return number_at(memory, letter, 0, None) == nine;
     }
-    memory.number_at(name, zero, Some(one)) == nine
-        && memory.number_at(name, one, Some(zero)) == nine
+    number_at(memory, letter, 0, Some(1)) == nine && number_at(memory, letter, 1, Some(0)) == nine
+}
+
+/// What the assignment of a value to an array tells.
+fn assigned(memory: &mut Memory, letter: u8, value: &MatValue) -> Told {
+    stored(assign(memory, number_name(letter), value))
+}
+
+/// An array that is named is there.
+fn named(memory: &mut Memory, letter: u8) -> Told {
+    match touch(memory, number_name(letter)) {
+        Ok(()) => Told::Done,
+        Err(Trouble::Refused(Halt::RoomFull)) => Told::Full,
+        Err(_) => Told::Other,
+    }
 }
 
 /// Whether an assignment leaves what the row wants.
 fn is_assigned(alloc: Global, letter: u8, given: Given, wanted: &[i16]) -> Result<bool, Fail> {
     let target = number_name(letter);
     let mut memory = memory_of_arrays(alloc)?;
-    match stored(assign(&mut memory, target, &value_of(given))) {
+    match assigned(&mut memory, letter, &value_of(given)) {
         Told::Done => {
             let is_right = rows_are(&memory, target, wanted)?
-                && zero_subscripts_stay(&memory, target);
+                && zero_subscripts_stay(&memory, letter);
             Ok(is_right && others_stay(&memory, target)?)
         }
         Told::Fault(55) => Ok(wanted.is_empty() && others_stay(&memory, number_name(b'Z'))?),
@@ -229,15 +239,12 @@ fn bounds_behind_touch(
 ) -> Result<Option<(u16, Option<u16>)>, Fail> {
     let mut memory = Memory::new(alloc);
     if let Some((first, second)) = before {
-        let shape = Shape {
-            name: number_name(A),
-            first,
-            second,
-        };
-        memory.dim(shape).ok().ok_or("no array")?;
+        make(&mut memory, A, first, second)?;
     }
-    touch(&mut memory, number_name(A)).ok().ok_or("no room")?;
-    Ok(memory.bounds(number_name(A)))
+    match named(&mut memory, A) {
+        Told::Done => Ok(memory.bounds(number_name(A))),
+        _ => Err("no room".into()),
+    }
 }
 
 #[test]
@@ -252,13 +259,8 @@ fn an_array_that_is_named_is_made(rt: HostRuntime) -> Result<(), Fail> {
 /// Whether there is no room for another array where one fills it.
 fn is_full(alloc: Global) -> Result<bool, Fail> {
     let mut memory = Memory::new(alloc);
-    let shape = Shape {
-        name: number_name(B),
-        first: 65535,
-        second: Some(1),
-    };
-    memory.dim(shape).ok().ok_or("no array")?;
-    let is_refused = touch(&mut memory, number_name(A)) == Err(Trouble::Refused(Halt::RoomFull));
+    make(&mut memory, B, 65535, Some(1))?;
+    let is_refused = named(&mut memory, A) == Told::Full;
     Ok(is_refused && memory.bounds(number_name(A)) == None)
 }
 
@@ -270,21 +272,16 @@ fn an_array_without_room_is_not_made(rt: HostRuntime) -> Result<(), Fail> {
 }
 
 /// Whether an array that was just made takes CON from 1 to 10.
-fn is_made_of_ones(alloc: Global) -> Result<bool, Fail> {
+fn is_made_of_ones(alloc: Global) -> bool {
     let mut memory = Memory::new(alloc);
-    touch(&mut memory, number_name(A)).ok().ok_or("no room")?;
-    assign(&mut memory, number_name(A), &MatValue::One)
-        .ok()
-        .ok_or("refused")?;
-    let (zero, ten) = (Int::new(0), Int::new(10));
-    let last = memory.number_at(number_name(A), ten, Some(ten)) == Ok(Int::new(1));
-    let corner = memory.number_at(number_name(A), zero, Some(ten)) == Ok(zero);
-    Ok(last && corner)
+    named(&mut memory, A) == Told::Done
+        && assigned(&mut memory, A, &MatValue::One) == Told::Done
+        && number_at(&memory, A, 10, Some(10)) == Told::Is(1)
+        && number_at(&memory, A, 0, Some(10)) == Told::Is(0)
 }
 
 #[test]
 fn an_array_that_was_just_made_is_assigned(rt: HostRuntime) -> Result<(), Fail> {
-    let is_right = is_made_of_ones(rt.alloc())?;
-    assert!(rt; is_right);
+    assert!(rt; is_made_of_ones(rt.alloc()));
     Ok(())
 }

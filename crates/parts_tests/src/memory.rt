@@ -166,7 +166,7 @@ fn changed(done: bool) -> Told {
     Told::Is(i16::from(done))
 }
 
-fn dim(memory: &mut Memory, name: Name, first: u16, second: Option<u16>) -> Told {
+pub(crate) fn dim(memory: &mut Memory, name: Name, first: u16, second: Option<u16>) -> Told {
     made(memory.dim(Shape {
         name,
         first,
@@ -178,15 +178,25 @@ fn element(memory: &mut Memory, step: Step) -> Told {
     match step {
         Step::NumberAt(letter, first, second) => number_at(memory, letter, first, second),
         Step::SetNumberAt(letter, first, second, value) => {
-            let (name, value) = (number_name(letter), Int::new(value));
-            stored(memory.set_number_at(name, Int::new(first), int_of(second), value))
+            set_number_at(memory, letter, (first, second), value)
         }
         Step::TextAt(letter, first, second) => text_at(memory, letter, first, second),
         _ => Told::Other,
     }
 }
 
-fn number_at(memory: &Memory, letter: u8, first: i16, second: Option<i16>) -> Told {
+/// What a store to an element tells.
+pub(crate) fn set_number_at(
+    memory: &mut Memory,
+    letter: u8,
+    at: (i16, Option<i16>),
+    value: i16,
+) -> Told {
+    let (name, value) = (number_name(letter), Int::new(value));
+    stored(memory.set_number_at(name, Int::new(at.0), int_of(at.1), value))
+}
+
+pub(crate) fn number_at(memory: &Memory, letter: u8, first: i16, second: Option<i16>) -> Told {
     match memory.number_at(number_name(letter), Int::new(first), int_of(second)) {
         Ok(number) => Told::Is(number.value()),
         Err(fault) => Told::Fault(fault.number()),
@@ -284,8 +294,16 @@ fn enter(alloc: Global, memory: &mut Memory, letters: &[u8]) -> Result<Told, Fai
 /// The place of the first row that tells another thing, over a memory that is new.
 pub(crate) fn first_wrong(alloc: Global, rows: &[Row]) -> Result<Option<usize>, Fail> {
     let mut memory = Memory::new(alloc);
+    first_told_wrong(alloc, &mut memory, rows)
+}
+
+fn first_told_wrong(
+    alloc: Global,
+    memory: &mut Memory,
+    rows: &[Row],
+) -> Result<Option<usize>, Fail> {
     for (place, (step, want)) in rows.iter().enumerate() {
-        if told_behind(alloc, &mut memory, *step)? != *want {
+        if told_behind(alloc, memory, *step)? != *want {
             return Ok(Some(place));
         }
     }
@@ -332,10 +350,8 @@ fn makes_an_array(
         (Step::NumberAt(b'A', first, second), seven),
     ];
     let mut memory = Memory::new(alloc);
-    for (step, want) in &rows {
-        if told_behind(alloc, &mut memory, *step)? != *want {
-            return Ok(false);
-        }
+    if first_told_wrong(alloc, &mut memory, &rows)?.is_some() {
+        return Ok(false);
     }
     let has_origin = number_at(&memory, b'A', 0, origin) != wrong;
     let has_other = number_at(&memory, b'A', 0, other) != wrong;

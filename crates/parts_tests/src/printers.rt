@@ -89,6 +89,16 @@ fn print(alloc: Global, text: &[u8]) -> Result<Request, Fail> {
     Ok(Request::Print { text })
 }
 
+/// What is printed: two lines of one listing with one that is lost between, and a part of another.
+/// No other value is alive where one of them cannot be made.
+fn prints(alloc: Global) -> Result<[Request; 4], Fail> {
+    let begun = print(alloc, b"10 PRINT\r\n")?;
+    let lost = print(alloc, b"LOST")?;
+    let ended = print(alloc, b"20 END\r\n")?;
+    let cut = print(alloc, b"A")?;
+    Ok([begun, lost, ended, cut])
+}
+
 fn terminal(name: &[u8]) -> Result<TerminalName, Fail> {
     Ok(TerminalName::of(name).ok_or("no name")?)
 }
@@ -108,18 +118,19 @@ fn entry(job: u32, request: Request, reply: Reply) -> Entry
 fn listings_stand_in_the_order_of_their_beginning(rt: HostRuntime) -> Result<(), Fail> {
     let alloc = rt.alloc();
     let names = [terminal(b"T1")?, terminal(b"CONSOLE")?];
+    let [begun, lost, ended, cut] = prints(alloc)?;
     let refused = || Reply::Failed(Fault::new(8));
     let history = [
         entry(1, Request::OpenPrinter, Reply::Done),
         entry(0, Request::OpenPrinter, refused()),
-        entry(1, print(alloc, b"10 PRINT\r\n")?, Reply::Done),
-        entry(0, print(alloc, b"LOST")?, Reply::Failed(Fault::new(9))),
-        entry(1, print(alloc, b"20 END\r\n")?, Reply::Done),
+        entry(1, begun, Reply::Done),
+        entry(0, lost, Reply::Failed(Fault::new(9))),
+        entry(1, ended, Reply::Done),
         entry(1, Request::ClosePrinter, Reply::Done),
         entry(0, Request::OpenPrinter, Reply::Done),
         entry(0, Request::Logout, Reply::Done),
         entry(1, Request::OpenPrinter, Reply::Done),
-        entry(1, print(alloc, b"A")?, Reply::Done),
+        entry(1, cut, Reply::Done),
         entry(1, Request::Tick, Reply::Expired),
     ];
     let bytes = printed(alloc, &names, &history)?;
