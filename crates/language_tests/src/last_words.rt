@@ -1,7 +1,7 @@
 //! PRINT USING and MAT: the trees of lines, and each token at which a line is refused.
 //! The helpers have no clause: a row compares what really came.
 
-use crate::trees::put_all;
+use crate::trees::line_told;
 use basic_line::read_line;
 use basic_tree::Cause;
 use basic_values::Trouble;
@@ -175,15 +175,14 @@ static OLD: [(&[u8], u16, Cause); 4] = [
 ];
 
 /// The tree of a line, as `trees` writes it; nothing where the line is refused.
-fn tree_of(alloc: Global, line: &[u8]) -> Result<String, AllocError> {
-    let mut shown = String::new(alloc);
+fn tree_of(alloc: Global, line: &[u8]) -> Result<String, Fail> {
     if line.len() > 255 {
-        return Ok(shown);
+        return Ok(String::new(alloc));
     }
-    if let Ok(line) = read_line(alloc, line) {
-        put_all(&mut shown, &line)?;
+    match read_line(alloc, line) {
+        Ok(line) => line_told(alloc, &line),
+        Err(_) => Ok(String::new(alloc)),
     }
-    Ok(shown)
 }
 
 /// Where a line is refused, and why.

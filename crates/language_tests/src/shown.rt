@@ -1,8 +1,7 @@
 //! The trees of lines: one row at least for each form of a statement.
 
-use crate::trees::put_all;
+use crate::trees::line_told;
 use basic_line::read_line;
-use basic_tree::Line;
 use std::alloc::Global;
 use std::test::Fail;
 
@@ -163,15 +162,9 @@ fn shown(alloc: Global, bytes: &[u8]) -> Result<String, Fail> {
         return Err("a line is too long")?;
     }
     match read_line(alloc, bytes) {
-        Ok(line) => written(alloc, &line),
+        Ok(line) => line_told(alloc, &line),
         Err(_) => Err("a line has no tree")?,
     }
-}
-
-fn written(alloc: Global, line: &Line) -> Result<String, Fail> {
-    let mut shown = String::new(alloc);
-    put_all(&mut shown, line)?;
-    Ok(shown)
 }
 
 fn first_wrong(alloc: Global, rows: &[Row]) -> Result<Option<usize>, Fail> {
