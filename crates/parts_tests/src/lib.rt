@@ -1,11 +1,13 @@
 //! Tests of the parts that wholes are made of, by their public calls alone: of the monitor
 //! accounts, protection, the disk, the message queues, the table of jobs, the interlock, the printer, and names
-//! of files; of a job its memory, record fields, trap and terminal line; the texts of SYS, what PRINT USING
+//! of files; of a job its memory, record fields, channels, virtual arrays, trap and terminal line; the texts of SYS, what PRINT USING
 //! writes, and MAT.
 #![tactic(auto)]
 
 #[cfg(test)]
 mod arrays;
+#[cfg(test)]
+mod channel_stories;
 #[cfg(test)]
 mod columns;
 #[cfg(test)]

@@ -1,6 +1,6 @@
 //! A job's side of files over a script, and its story step by step.
 
-use crate::scripts::{Told, push_told, request_told};
+use crate::channel_stories::scripts::{Told, push_told, request_told};
 use basic_values::{Int, Stop, Text};
 use channels::{ChannelState, Channels};
 use monitor_calls::{Account, FileName, OpenKind, Reply, Request, ScriptPort, Short};

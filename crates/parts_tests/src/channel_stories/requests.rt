@@ -1,7 +1,7 @@
 //! What each call asks, and what is refused before anything is asked.
 
-use crate::jobs::{Call, OPEN_1, Step, expect_stories};
-use crate::scripts::Told;
+use crate::channel_stories::jobs::{Call, OPEN_1, Step, expect_stories};
+use crate::channel_stories::scripts::Told;
 use monitor_calls::OpenKind;
 use record_fields::RecordSize;
 use std::test::Fail;

@@ -1,7 +1,9 @@
 //! Elements of virtual arrays: where they stand, what is asked for them, and what they hold.
 
-use crate::jobs::{Call, Job, asked_behind, bytes_told, call_told, job_with, stop_told};
-use crate::scripts::{Told, push_told};
+use crate::channel_stories::jobs::{
+    Call, Job, asked_behind, bytes_told, call_told, job_with, stop_told,
+};
+use crate::channel_stories::scripts::{Told, push_told};
 use basic_tree::Name;
 use basic_values::{Int, Stop, Text};
 use monitor_calls::{OpenKind, Reply};

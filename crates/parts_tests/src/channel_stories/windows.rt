@@ -1,7 +1,7 @@
 //! The window of virtual arrays, and when it is written.
 
-use crate::jobs::{Call, OPEN_1, Step, expect_stories};
-use crate::scripts::Told;
+use crate::channel_stories::jobs::{Call, OPEN_1, Step, expect_stories};
+use crate::channel_stories::scripts::Told;
 use std::test::Fail;
 
 static STORIES: [&[Step]; 5] = [
