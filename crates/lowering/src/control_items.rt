@@ -1,11 +1,12 @@
 //! The items of statements that are more than one item, or one behind a value: FOR, LET, the result of a
 //! function, INPUT LINE of the terminal, ON and END.
 
-ghost use Rattle.std.specs.Prelude.{◌≡◌, [], ◌∷◌, None, option_map, map, OnOk};
+ghost use Rattle.std.specs.Prelude.{◌≡◌, [], ◌∷◌, option_map, map, OnOk};
 ghost use Rattle.basic_tree.specs.TreeViews.{tree_of, target_of};
-ghost use Rattle.basic_tree.specs.Trees.{For, InputLine, OnGoto, OnGosub, End};
+ghost use Rattle.basic_tree.specs.Trees.{For};
 ghost use Rattle.polish_code.specs.declared.items.Item.TheVariants as item;
-ghost use Rattle.polish_code.specs.Code.{Ex, It, targets_pieces};
+ghost use Rattle.program_model.specs.declared.file_acts.FileAct.TheVariants as file;
+ghost use Rattle.polish_code.specs.Code.{Ex, It, places_of, targets_pieces};
 ghost use Rattle.lowering.specs.Emission.{with_pieces, with_simple};
 
 use crate::expressions::emit_expr;
@@ -76,15 +77,9 @@ pub fn emit_result<K: Sink, L: Lookups>(
 }
 
 /// A line of keys, stored whole.
-pub fn emit_line_asked<K: Sink, L: Lookups>(
-    code: &mut K,
-    tables: &L,
-    m: usize,
-    i: u32,
-    variable: Name,
-) -> Result<(), NoMemory>
+pub fn emit_line_asked<K: Sink>(code: &mut K, variable: Name) -> Result<(), NoMemory>
     ensures { OnOk result (code.new
-        ≡ with_simple K.with (L.program tables.now) m i (InputLine None variable) code.old) }
+        ≡ K.with item.AskLine (K.with (item.Store variable) (K.with item.Discard code.old))) }
 {
     code.put(Item::Discard)?;
     code.put(Item::Store(variable))?;
@@ -96,14 +91,13 @@ pub fn emit_on_goto<K: Sink, L: Lookups>(
     alloc: Global,
     code: &mut K,
     tables: &L,
-    m: usize,
-    i: u32,
     selector: &Expr,
     lines: &[u16],
 ) -> Result<(), NoMemory>
     ensures { OnOk result (code.new
-        ≡ with_simple K.with (L.program tables.now) m i (OnGoto (tree_of selector.now) lines.now)
-        code.old) }
+        ≡ with_pieces K.with (L.program tables.now)
+        (Ex (tree_of selector.now) ∷ It (item.OnGoto (map (places_of (L.program tables.now)).line
+        lines.now)) ∷ []) code.old) }
 {
     code.put(Item::OnGoto(line_places(alloc, tables, lines)?))?;
     emit_expr(alloc, code, tables, selector)
@@ -115,13 +109,13 @@ pub fn emit_on_gosub<K: Sink, L: Lookups>(
     code: &mut K,
     tables: &L,
     m: usize,
-    i: u32,
     selector: &Expr,
     lines: &[u16],
 ) -> Result<(), NoMemory>
     ensures { OnOk result (code.new
-        ≡ with_simple K.with (L.program tables.now) m i (OnGosub (tree_of selector.now) lines.now)
-        code.old) }
+        ≡ with_pieces K.with (L.program tables.now)
+        (Ex (tree_of selector.now) ∷ It (item.OnGosub ((places_of (L.program tables.now)).home m)
+        (map (places_of (L.program tables.now)).line lines.now)) ∷ []) code.old) }
 {
     let places = line_places(alloc, tables, lines)?;
     code.put(Item::OnGosub {
@@ -132,14 +126,9 @@ pub fn emit_on_gosub<K: Sink, L: Lookups>(
 }
 
 /// END, which closes the channels first.
-pub fn emit_end<K: Sink, L: Lookups>(
-    code: &mut K,
-    tables: &L,
-    m: usize,
-    i: u32,
-) -> Result<(), NoMemory>
+pub fn emit_end<K: Sink>(code: &mut K) -> Result<(), NoMemory>
     ensures { OnOk result (code.new
-        ≡ with_simple K.with (L.program tables.now) m i End code.old) }
+        ≡ K.with (item.Ask file.ShutAll) (K.with item.End code.old)) }
 {
     code.put(Item::End)?;
     code.put(Item::Ask(FileAct::ShutAll))

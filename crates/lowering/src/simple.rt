@@ -96,7 +96,7 @@ pub fn emit_simple<K: Sink, L: Lookups>(
             Some(channel) => emit_input_on(alloc, code, tables, channel, targets.as_slice()),
         },
         Statement::InputLine { channel, variable } => match channel {
-            None => emit_line_asked(code, tables, m, i, *variable),
+            None => emit_line_asked(code, *variable),
             Some(channel) => emit_line_on(alloc, code, tables, channel, *variable),
         },
         Statement::Read(targets) => emit_read(alloc, code, tables, targets.as_slice()),
@@ -108,15 +108,15 @@ pub fn emit_simple<K: Sink, L: Lookups>(
         }),
         Statement::Return => code.put(Item::Return),
         Statement::OnGoto { selector, lines } => {
-            emit_on_goto(alloc, code, tables, m, i, selector, lines.as_slice())
+            emit_on_goto(alloc, code, tables, selector, lines.as_slice())
         }
         Statement::OnGosub { selector, lines } => {
-            emit_on_gosub(alloc, code, tables, m, i, selector, lines.as_slice())
+            emit_on_gosub(alloc, code, tables, m, selector, lines.as_slice())
         }
         Statement::OnErrorGoto(line) => code.put(Item::OnError(named_line(*line))),
         Statement::Resume(line) => emit_resume(code, tables, *line),
         Statement::Stop => code.put(Item::Stop(tables.home(m))),
-        Statement::End => emit_end(code, tables, m, i),
+        Statement::End => emit_end(code),
         Statement::Chain { program, line } => emit_chain(alloc, code, tables, program, line),
         Statement::Sleep(seconds) => emit_with_one(alloc, code, tables, FileAct::Sleep, seconds),
         Statement::Open {
