@@ -1,10 +1,11 @@
 //! Elements of arrays in files.
 
-ghost use Rattle.std.specs.Prelude.{◌≡◌, drop};
+ghost use Rattle.std.specs.Prelude.{◌≡◌, drop, pos};
 ghost use Rattle.job_model.specs.Act.{◌then◌};
 ghost use Rattle.job_model.specs.Follow.{Follows, answered_by};
 ghost use Rattle.job_model.specs.Play as play;
 ghost use Rattle.polish_code.specs.Walk.{passed, pushed, taken, top};
+ghost use Rattle.program_model.specs.declared.values.Value.TheVariants as value;
 ghost use Rattle.program_model.specs.Elements.{read_act, write_act};
 ghost use Rattle.program_model.specs.Storage.{in_storage, stores_by};
 ghost use Rattle.basic_eval.specs.Acting.{left_by, seen, told};
@@ -80,16 +81,20 @@ impl Running {
             self.old.storage) (answered_by result self.new.storage) }
         ensures rest { seen self.new ≡ in_storage.with_part (seen self.old) self.new.storage }
     {
-        let subscripts = stack.last(count);
-        match stack.below(count) {
-            Some(value) => self
-                .storage
-                .write_element(self.alloc, port, array, subscripts, value),
-            None => {
-                let zero = Value::Number(Int::new(0));
-                self.storage
-                    .write_element(self.alloc, port, array, subscripts, &zero)
-            }
-        }
+        let zero = Value::Number(Int::new(0));
+        let value = value_below(count, stack, &zero);
+        self.storage
+            .write_element(self.alloc, port, array, stack.last(count), value)
+    }
+}
+
+/// The value below the last so many, or another where there is none, which is to be 0.
+fn value_below<'a>(count: usize, stack: &'a Stack<Value>, zero: &'a Value) -> &'a Value
+    requires { zero.now ≡ value.Number (pos 0) }
+    ensures { result.now ≡ top (drop count stack.entry.now) }
+{
+    match stack.below(count) {
+        Some(value) => value,
+        None => zero,
     }
 }

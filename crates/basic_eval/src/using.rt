@@ -1,7 +1,8 @@
 //! PRINT USING: the bytes that a format writes of values.
 
-ghost use Rattle.std.specs.Prelude.{◌≡◌, map, IfOk};
+ghost use Rattle.std.specs.Prelude.{◌≡◌, map, IfOk, OnOk, List, []};
 ghost use Rattle.print_using.specs.Values.{printed_value};
+ghost use Rattle.program_model.specs.declared.values.Value.{Value};
 ghost use Rattle.program_model.specs.PrintingOnChannels.{used_bytes, used_value};
 ghost use Rattle.basic_eval.specs.Acting.{Answers};
 
@@ -20,14 +21,26 @@ pub(crate) fn used_bytes(
 ) -> Result<Text2, Trouble<Fault>>
     ensures { Answers (used_bytes ends_line format.now values.now) result }
 {
-    let values = match used_values(alloc, values) {
-        Ok(values) => values,
-        Err(NoMemory) => return Err(Trouble::NoMemory),
-    };
+    match used_values(alloc, values) {
+        Ok(values) => formatted(alloc, ends_line, format, values.as_slice()),
+        Err(NoMemory) => Err(Trouble::NoMemory),
+    }
+}
+
+/// The same, of lent values.
+fn formatted(
+    alloc: Global,
+    ends_line: bool,
+    format: &[u8],
+    values: &[Using<'_>],
+) -> Result<Text2, Trouble<Fault>>
+    ensures { (held : List Value) → map printed_value values.now ≡ map used_value held
+        → Answers (used_bytes ends_line format.now held) result }
+{
     if ends_line {
-        format_line(alloc, format, values.as_slice())
+        format_line(alloc, format, values)
     } else {
-        format_values(alloc, format, values.as_slice())
+        format_values(alloc, format, values)
     }
 }
 
@@ -36,12 +49,20 @@ fn used_values<'a>(alloc: Global, values: &'a [Value]) -> Result<Vec<Using<'a>>,
     ensures { IfOk result (λ used. map printed_value used.items ≡ map used_value values.now) }
 {
     let mut used = Vec::new(alloc);
-    for value in values {
-        if used.push(used_value(value)).is_err() {
-            return Err(NoMemory);
-        }
-    }
+    use_all(&mut used, values)?;
     Ok(used)
+}
+
+/// Puts the values, lent, into an empty list. The list is the caller's, so that nothing has to be
+/// dropped at an early end.
+fn use_all<'a>(used: &mut Vec<Using<'a>>, values: &'a [Value]) -> Result<(), NoMemory>
+    requires { used.old.items ≡ [] }
+    ensures { OnOk result (map printed_value used.new.items ≡ map used_value values.entry.now) }
+{
+    for value in values {
+        used.push(used_value(value))?;
+    }
+    Ok(())
 }
 
 /// A value, lent.

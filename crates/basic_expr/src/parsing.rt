@@ -20,7 +20,6 @@ pub const MOST_LEVELS: usize = 64;
 /// they are one themselves, and none of them opens a level too many. Else the first token that is
 /// refused: as `Syntax` at k, as `TooDeep` at the token that opens level 65. Places are numbers of
 /// tokens, from 0; the end is the number of tokens.
-#[tactic(auto, using(crate::proofs::Places::parsed, crate::proofs::Places::refused, crate::proofs::Places::near))]
 pub fn parse_expr(
     alloc: Global,
     tokens: &Tokens<'_>,

@@ -64,7 +64,6 @@ pub fn next_is_sign(words: &Words<'_>, place: usize, sign: Sign) -> bool
 }
 
 /// Whether this word stands at a place.
-#[tactic(auto, using(crate::proofs::KeyNumbers::is_that_key))]
 pub fn next_is_key(words: &Words<'_>, place: usize, key: Keyword) -> bool
     requires { place ≤ length words.now }
     ensures stands { MatchBool result (WordStands words.now (KeyWord key) place)

@@ -13,7 +13,7 @@ use std::marker::Model;
 
 /// A token as the grammar sees it: letters as capitals, a literal by its value (32768 for any above
 /// 32767), one word for two spellings.
-#[derive(Clone, Copy, Debug)]
+#[derive(Clone, Copy)]
 pub enum Word<'a> {
     Key(Keyword),
     Punctuation(Sign),

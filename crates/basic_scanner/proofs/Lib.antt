@@ -1,4 +1,5 @@
 mod DigitLemmas
+mod FrontSteps
 mod ItemLemmas
 mod ShortLemmas
 mod WordLemmas

@@ -79,7 +79,6 @@ fn begins_function(rest: &[u8]) -> bool
 }
 
 /// The longest keyword, else a name.
-#[tactic(auto, unfolding(basic_tree::specs::Tokens::letter_front))]
 fn letter_front(rest: &[u8]) -> Front
     ensures { result ≡ letter_front rest.now }
 {
@@ -138,7 +137,6 @@ pub fn literal_value(bytes: &[u8]) -> u16
 }
 
 /// The run of digits, and `%` where it stands behind them.
-#[tactic(auto, unfolding(basic_tree::specs::Tokens::digit_front))]
 fn digit_front(rest: &[u8]) -> Front
     ensures { result ≡ digit_front rest.now }
 {

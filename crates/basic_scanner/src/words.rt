@@ -163,7 +163,6 @@ fn longer(longest: usize, word: &[u8], rest: &[u8]) -> usize
 }
 
 /// The length of the longest word of the table that stands at the front of the rest.
-#[tactic(auto, using(crate::proofs::WordLemmas::longest_more))]
 fn longest_length<W>(table: &[(W, &[u8])], rest: &[u8]) -> usize
     ensures value { result ≡ longest_length (entries table.now) rest.now }
     ensures within { result ≤ length rest.now }
@@ -175,13 +174,21 @@ fn longest_length<W>(table: &[(W, &[u8])], rest: &[u8]) -> usize
     longest
 }
 
-/// The length of the longest keyword that stands at the front of the rest.
+/// The keywords with their bytes.
+// The check of a function that names the table goes through all its rows: this one alone names it.
 #[tactic(auto, unfolding(basic_tree::specs::Words::keywords))]
+fn keyword_table() -> &'static [(Keyword, &'static [u8])]
+    ensures { entries result.now ≡ keywords }
+{
+    &KEYWORDS
+}
+
+/// The length of the longest keyword that stands at the front of the rest.
 pub fn keyword_length(rest: &[u8]) -> usize
     ensures value { result ≡ longest_length keywords rest.now }
     ensures within { result ≤ length rest.now }
 {
-    longest_length(&KEYWORDS, rest)
+    longest_length(keyword_table(), rest)
 }
 
 /// The length of the longest sign that stands at the front of the rest.
@@ -193,7 +200,6 @@ pub fn sign_length(rest: &[u8]) -> usize
 }
 
 /// What the bytes spell in the table.
-#[tactic(auto, using(crate::proofs::WordLemmas::spelled_step))]
 fn spelled<W: Copy>(table: &[(W, &[u8])], bytes: &[u8]) -> Option<W>
     ensures { result ≡ spelled (entries table.now) bytes.now }
 {
@@ -206,11 +212,10 @@ fn spelled<W: Copy>(table: &[(W, &[u8])], bytes: &[u8]) -> Option<W>
 }
 
 /// The keyword that the bytes spell, in letters of either case.
-#[tactic(auto, unfolding(basic_tree::specs::Words::keywords))]
 pub fn keyword_of(bytes: &[u8]) -> Option<Keyword>
     ensures { result ≡ keyword_of bytes.now }
 {
-    spelled(&KEYWORDS, bytes)
+    spelled(keyword_table(), bytes)
 }
 
 /// The sign that the bytes spell.

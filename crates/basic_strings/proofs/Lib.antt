@@ -3,3 +3,4 @@ mod LeastLemmas
 mod PlaceLemmas
 pub mod SearchLemmas
 mod SizeLemmas
+mod TableLemmas

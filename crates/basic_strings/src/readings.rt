@@ -37,15 +37,24 @@ fn trimmed(bytes: &[u8]) -> &[u8]
     without_end_blanks(without_front_blanks(bytes))
 }
 
+/// Whether a minus stands before the digits of a text, and what stands behind its sign.
+fn signed(text: &[u8]) -> (bool, &[u8])
+    ensures { option_map (with_sign result.0) (size_spelled result.1.now) ≡
+        number_spelled text.entry.now }
+{
+    match text {
+        [b'-', digits @ ..] => (true, digits),
+        [b'+', digits @ ..] => (false, digits),
+        _ => (false, text),
+    }
+}
+
 /// The number that a sign or none and digits spell.
 fn number(text: &[u8], no_number: Fault) -> Result<Int, Fault>
     ensures { result ≡ judged no_number (number_spelled text.now) }
 {
-    match text {
-        [b'-', digits @ ..] => in_range(true, size(digits), no_number),
-        [b'+', digits @ ..] => in_range(false, size(digits), no_number),
-        _ => in_range(false, size(text), no_number),
-    }
+    let (is_negative, digits) = signed(text);
+    in_range(is_negative, size(digits), no_number)
 }
 
 /// The number of this sign and size; the error 51 where it has more than 16 bits.

@@ -1,6 +1,6 @@
 //! Texts whose bytes are looked up in a table.
 
-ghost use Rattle.std.specs.Prelude.{◌≡◌, IfOk};
+ghost use Rattle.std.specs.Prelude.{◌≡◌, IfOk, slice_index};
 ghost use Rattle.basic_values.specs.Texts.{MakesText};
 ghost use Rattle.basic_strings.specs.Translations.{translated};
 
@@ -16,12 +16,20 @@ pub fn xlate(alloc: Global, a: &[u8], b: &[u8]) -> Result<Text, Trouble<Halt>>
     Text::of(alloc, &bytes)
 }
 
+/// The byte of the table behind so many others, 0 past the end.
+fn byte_behind(table: &[u8], count: u8) -> u8
+    ensures { result ≡ slice_index table.now count }
+{
+    table.get(usize::from(count)).copied().unwrap_or(0)
+}
+
+/// The bytes that are found for those of the text.
 fn translation(alloc: Global, text: &[u8], table: &[u8]) -> Result<Vec<u8>, NoMemory>
     ensures { IfOk result (λ bytes. bytes.items ≡ translated table.now text.now) }
 {
     let mut bytes = Vec::new(alloc);
     for byte in text {
-        let found = table.get(usize::from(*byte)).copied().unwrap_or(0);
+        let found = byte_behind(table, *byte);
         if found != 0 {
             bytes.push(found)?;
         }

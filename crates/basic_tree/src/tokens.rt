@@ -1,7 +1,7 @@
 //! Tokens: the words of a line, and why a line has none.
 
 /// The words of the grammar and the names of the functions. Some words are spelled in two ways.
-#[derive(Clone, Copy, Debug, PartialEq, Eq)]
+#[derive(Clone, Copy, PartialEq, Eq)]
 pub enum Keyword {
     Abs,
     And,
@@ -92,7 +92,7 @@ pub enum Keyword {
 }
 
 /// The signs of the grammar.
-#[derive(Clone, Copy, Debug, PartialEq, Eq)]
+#[derive(Clone, Copy, PartialEq, Eq)]
 pub enum Sign {
     Plus,
     Minus,

@@ -1,6 +1,6 @@
 //! FIELD, LSET and RSET.
 
-ghost use Rattle.std.specs.Prelude.{◌≡◌, IfOk, IfSome, length, map};
+ghost use Rattle.std.specs.Prelude.{◌≡◌, IfOk, IfSome, Some, length, map};
 ghost use Rattle.job_memory.specs.declared.contents.Content.TheVariants as content;
 ghost use Rattle.job_memory.specs.Contents.{text_in};
 ghost use Rattle.job_memory.specs.Memory.{store, variable};
@@ -153,15 +153,27 @@ impl Storage {
             justify_act side name
             (text_in self.old.files.buffers (variable by self.old.memory)) self.old ≡ left) }
     {
-        let places = (self.memory.place_of(name), self.memory.place_of(by));
-        if let (Some((channel, to)), Some((other, from))) = places {
-            if channel == other {
-                self.buffers.shift(channel, from, to, side);
-                return Ok(());
-            }
+        if let Some((channel, to, from)) = self.in_one_buffer(name, by) {
+            self.buffers.shift(channel, from, to, side);
+            return Ok(());
         }
         let text = copied(alloc, self.text(by))?;
         self.justify(alloc, side, name, text.as_bytes())
+    }
+
+    /// The parts that two variables stand for, where both lie in the buffer of one channel.
+    fn in_one_buffer(&self, name: Name, by: Name) -> Option<(u8, Part, Part)>
+        ensures { IfSome result (λ found.
+            (variable name self.now.memory ≡ Some (content.Fielded found.0 found.1))
+            × (variable by self.now.memory ≡ Some (content.Fielded found.0 found.2))) }
+    {
+        let (channel, to) = self.memory.place_of(name)?;
+        let (other, from) = self.memory.place_of(by)?;
+        if channel == other {
+            Some((channel, to, from))
+        } else {
+            None
+        }
     }
 }
 

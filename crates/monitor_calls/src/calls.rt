@@ -4,6 +4,7 @@ ghost use Rattle.std.specs.Prelude.{◌≡◌};
 ghost use Rattle.monitor_calls.specs.Proper.{IsProperRequest, IsProperReply, IsProperEntry};
 ghost use Rattle.monitor_calls.specs.Requests.{is_get};
 ghost use Rattle.monitor_calls.specs.Rooms.{HasRoom};
+ghost use Rattle.monitor_calls.specs.declared.rooms.ReplyRoom.TheVariants.{Small};
 
 use crate::files::{FileName, OpenKind};
 use crate::names::{Account, Short};
@@ -298,6 +299,22 @@ impl Reply {
                 account: *account,
                 text: room.text(),
             },
+            Reply::Done
+            | Reply::Opened { .. }
+            | Reply::Name { .. }
+            | Reply::State { .. }
+            | Reply::Failed(_)
+            | Reply::Expired => self.plain_again(),
+        }
+    }
+
+    /// The same reply, where it has no page and no text. It stands apart from those that take the
+    /// room, which would be dropped at the end of each.
+    fn plain_again(&self) -> Reply
+        requires { HasRoom self.now Small }
+        ensures { result ≡ self.now }
+    {
+        match self {
             Reply::Done => Reply::Done,
             Reply::Opened {
                 blocks,
@@ -324,6 +341,7 @@ impl Reply {
             },
             Reply::Failed(fault) => Reply::Failed(*fault),
             Reply::Expired => Reply::Expired,
+            Reply::Block(_) | Reply::Record(_) | Reply::Message { .. } => unreachable!(),
         }
     }
 }

@@ -1,6 +1,6 @@
 -- The entries of a listing, one by one.
 use Rattle.std.proofs.Common.{◌≡◌, ℕ, ◌+◌, ◌<◌, zero, suc, Bool, true, false, cond, List, [], ◌∷◌, ◌++◌, length, drop, get_or, sym, ap, ◌∙◌, subst, append_assoc, append-nil, arith}
-use Rattle.std.proofs.lemmas.Bool.{eq-eqb}
+use Rattle.std.proofs.lemmas.Bool.{eq-eqb, ne_eqb}
 use Rattle.std.proofs.lemmas.List.{drop_more, get_or_read}
 use Rattle.monitor_calls.specs.declared.calls.Entry.{Entry}
 use Rattle.monitor_model.specs.Listings.{is_begin, is_finish, printed_by, listing, listings}
@@ -33,6 +33,43 @@ pub all_written :
     (job : ℕ) (entries : List Entry) (at : ℕ) (out whole : List ℕ) →
     listing job (drop at entries) ≡ [] → out ++ listing job (drop at entries) ≡ whole → out ≡ whole
 all_written job entries at out whole none is = sym (ap (λ rest. out ++ rest) none ∙ append-nil out) ∙ is
+
+-- what is left of a listing where an entry of its job does not end it
+goes_on :
+    (job : ℕ) (entries : List Entry) (at : ℕ) (entry : Entry) →
+    at < length entries → entry ≡ get_or entries at entry → entry.job ≡ job →
+    is_finish entry.request entry.reply ≡ false →
+    listing job (drop at entries) ≡ printed_by entry.request entry.reply ++ listing job (drop (at + 1) entries)
+goes_on job entries at entry lt is own goes =
+    let rest = listing job (drop (at + 1) entries) in
+    let more = printed_by entry.request entry.reply ++ rest in
+    ap (listing job) (drop_more entries at entry lt ∙ ap (λ e. e ∷ drop (at + 1) entries) (sym is))
+    ∙ ap (λ b. cond b (cond (is_finish entry.request entry.reply) [] more) rest) (eq-eqb entry.job job own)
+    ∙ ap (λ b. cond b [] more) goes
+
+-- such an entry is written
+pub one_written :
+    (job : ℕ) (entries : List Entry) (at : ℕ) (entry : Entry) (out written whole : List ℕ) →
+    at < length entries → entry ≡ get_or entries at entry → entry.job ≡ job →
+    is_finish entry.request entry.reply ≡ false → written ≡ out ++ printed_by entry.request entry.reply →
+    out ++ listing job (drop at entries) ≡ whole → written ++ listing job (drop (at + 1) entries) ≡ whole
+one_written job entries at entry out written whole lt is own goes is_written before =
+    let rest = listing job (drop (at + 1) entries) in
+    ap (λ w. w ++ rest) is_written ∙ append_assoc out (printed_by entry.request entry.reply) rest
+    ∙ ap (λ t. out ++ t) (sym (goes_on job entries at entry lt is own goes)) ∙ before
+
+-- an entry of another job is passed over
+pub passed_over :
+    (job : ℕ) (entries : List Entry) (at : ℕ) (entry : Entry) (out whole : List ℕ) →
+    at < length entries → entry ≡ get_or entries at entry → (entry.job ≡ job → ⊥) →
+    out ++ listing job (drop at entries) ≡ whole → out ++ listing job (drop (at + 1) entries) ≡ whole
+passed_over job entries at entry out whole lt is other before =
+    let rest = listing job (drop (at + 1) entries) in
+    let more = cond (is_finish entry.request entry.reply) [] (printed_by entry.request entry.reply ++ rest) in
+    let here : listing job (drop at entries) ≡ rest =
+    ap (listing job) (drop_more entries at entry lt ∙ ap (λ e. e ∷ drop (at + 1) entries) (sym is))
+    ∙ ap (λ b. cond b more rest) (ne_eqb entry.job job other) in
+    ap (λ t. out ++ t) (sym here) ∙ before
 
 -- THE LISTINGS THAT BEGIN FROM A PLACE ON
 

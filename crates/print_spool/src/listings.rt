@@ -1,6 +1,7 @@
 //! What is printed.
 
-ghost use Rattle.std.specs.Prelude.{◌≡◌, ◌++◌, length, IfOk, OnOk};
+ghost use Rattle.std.specs.Prelude.{◌≡◌, ◌++◌, codes, length, IfOk, OnOk};
+ghost use Rattle.std.specs.Fmt.{decimal};
 ghost use Rattle.monitor_model.specs.Listings.{is_begin, is_finish, printed_by, listing, listings};
 ghost use Rattle.print_spool.specs.Printed.{AreNamed, listing_text, listing_texts, printed_text};
 
@@ -23,11 +24,9 @@ pub fn printed(
     requires { AreNamed names.now history.now }
     ensures { IfOk result (λ out. out.items ≡ printed_text names.now history.now) }
 {
-    let mut buffer = Buffer::new();
     let mut out = Vec::new(alloc);
     out.extend_from_slice(b"PRINTED ")?;
-    out.extend_from_slice(buffer.format(count_listings(history)).as_bytes())?;
-    out.push(b'\n')?;
+    push_count(&mut out, count_listings(history))?;
     push_listings(alloc, &mut out, names, history)?;
     Ok(out)
 }
@@ -77,13 +76,38 @@ fn push_listing(
 {
     let mut text = Vec::new(alloc);
     push_printed(&mut text, job, later)?;
-    let mut buffer = Buffer::new();
+    push_titled(out, name, text.as_slice())
+}
+
+// The writes of a listing stand in functions of their own: with the text still to be dropped at each
+// early end, one long chain of them is dear to check.
+
+/// Writes a listing with the line in front of it.
+fn push_titled(out: &mut Vec<u8>, name: &TerminalName, text: &[u8]) -> Result<(), NoMemory>
+    ensures { OnOk result (out.new.items ≡ out.old.items ++ listing_text name.now text.now) }
+{
+    push_title(out, name, text.len())?;
+    out.extend_from_slice(text)?;
+    Ok(out.push(b'\n')?)
+}
+
+/// Writes the line in front of a listing, which has so many bytes.
+fn push_title(out: &mut Vec<u8>, name: &TerminalName, count: usize) -> Result<(), NoMemory>
+    ensures { OnOk result (out.new.items ≡ out.old.items
+        ++ (codes "LISTING " ++ name.now ++ codes " " ++ decimal count ++ codes "\n")) }
+{
     out.extend_from_slice(b"LISTING ")?;
     out.extend_from_slice(name.as_bytes())?;
     out.push(b' ')?;
-    out.extend_from_slice(buffer.format(text.len()).as_bytes())?;
-    out.push(b'\n')?;
-    out.extend_from_slice(text.as_slice())?;
+    push_count(out, count)
+}
+
+/// Writes a count and the end of its line.
+fn push_count(out: &mut Vec<u8>, count: usize) -> Result<(), NoMemory>
+    ensures { OnOk result (out.new.items ≡ out.old.items ++ decimal count ++ codes "\n") }
+{
+    let mut buffer = Buffer::new();
+    out.extend_from_slice(buffer.format(count).as_bytes())?;
     Ok(out.push(b'\n')?)
 }
 

@@ -8,7 +8,7 @@ use Rattle.print_using.specs.declared.fields.Field.{Field}
 use Rattle.print_using.specs.Fields.{field_spelling, field_bytes}
 use Rattle.print_using.specs.Formats.{FormatPart, OfByte, OfField}
 use Rattle.print_using.specs.FormatFronts.{front_field, bytes_before_field, before_field, from_field, format_parts}
-use Rattle.print_using.specs.Using.{OneWritten, behind_byte, by_next_field, has_field, bytes_in_front, with_front, left_behind, using_from}
+use Rattle.print_using.specs.Using.{OneWritten, behind_byte, by_next_field, has_field, bytes_in_front, with_front, and_behind, left_behind, using_from}
 use Rattle.print_using.specs.Values.{PrintedValue}
 use Rattle.print_using.specs.Adding.{one_of, behind_bytes, ReachesField}
 use Rattle.print_using.proofs.FormatLaws.{byte_first, field_first}
@@ -270,4 +270,22 @@ all_written format left values written more old grown new none so_far grew last 
       ∙ ap (λ vs. with_front more (using_from (format_parts format) (format_parts left) vs)) none
       ∙ ap (λ bytes. Ok (more ++ bytes)) (in_front_are left),
   last ∙ ap (λ t. t ++ before_field left) grew ∙ append_assoc old more (before_field left),
+)
+
+-- before the first value
+pub none_yet : (format : List ℕ) (values : List PrintedValue) (written : Result (List ℕ) ℕ) (old : List ℕ) → written ≡ using_from (format_parts format) (format_parts format) values
+    → (more : List ℕ) × (written ≡ with_front more (using_from (format_parts format) (format_parts format) values)) × (old ≡ old ++ more)
+none_yet format values written old is = ([], is ∙ front_none (using_from (format_parts format) (format_parts format) values), sym (append-nil old))
+
+-- behind one value more
+pub one_more : (format left rest : List ℕ) (value : PrintedValue) (here values : List PrintedValue) (written : Result (List ℕ) ℕ) (more own old grown new : List ℕ) → here ≡ value ∷ values
+    → written ≡ with_front more (using_from (format_parts format) (format_parts left) here) → grown ≡ old ++ more → one_of format left value ≡ Ok (own, format_parts rest) → new ≡ grown ++ own
+    → (all : List ℕ) × (written ≡ with_front all (using_from (format_parts format) (format_parts rest) values)) × (new ≡ old ++ all)
+one_more format left rest value here values written more own old grown new front so_far grew one last = (
+  more ++ own,
+  so_far
+      ∙ ap (λ vs. with_front more (using_from (format_parts format) (format_parts left) vs)) front
+      ∙ ap (λ o. with_front more (and_behind o (λ behind. using_from (format_parts format) behind values))) one
+      ∙ front_both more own (using_from (format_parts format) (format_parts rest) values),
+  last ∙ ap (λ t. t ++ own) grew ∙ append_assoc old more own,
 )

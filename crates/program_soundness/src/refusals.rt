@@ -1,6 +1,6 @@
 //! Why a program is refused: its least line at which a cause stands, and the first cause there.
 
-ghost use Rattle.std.specs.Prelude.{◌≡◌, ◌&&◌, not, is_some, map, take, IfOk};
+ghost use Rattle.std.specs.Prelude.{◌≡◌, ◌&&◌, not, is_some, map, take, None, IfOk};
 ghost use Rattle.std.specs.List.{flat_map, list_any};
 ghost use Rattle.basic_tree.specs.StatementViews.{statement_of};
 ghost use Rattle.program_model.specs.Program.{body_at, statements_of};
@@ -174,10 +174,27 @@ pub fn can_begin(alloc: Global, program: &Program, line: Option<u16>) -> Result<
     match line {
         None => Ok(true),
         Some(number) => {
-            let listing = Listing::new(alloc, lines_in(alloc, program)?)?;
-            Ok(has_line(program, number) && is_in_body(&listing, None, number))
+            let outside = stands_outside(alloc, program, number)?;
+            Ok(has_line(program, number) && outside)
         }
     }
+}
+
+/// Whether the statement for which a line stands is at main level.
+fn stands_outside(alloc: Global, program: &Program, number: u16) -> Result<bool, NoMemory>
+    ensures { IfOk result (λ outside. outside
+        ≡ is_in_body (program_of program.now.lines.entries) None number) }
+{
+    let listing = listing_of(alloc, program)?;
+    Ok(is_in_body(&listing, None, number))
+}
+
+/// The listing of a program. Apart, since each `?` is dear to check where a listing is alive.
+fn listing_of<'a>(alloc: Global, program: &'a Program) -> Result<Listing<'a>, NoMemory>
+    ensures { IfOk result (λ listing. text_of listing
+        ≡ program_of program.now.lines.entries) }
+{
+    Listing::new(alloc, lines_in(alloc, program)?)
 }
 
 // Bodies

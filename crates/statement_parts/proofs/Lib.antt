@@ -1,3 +1,4 @@
+pub mod AssignmentSteps
 pub mod ListSteps
 pub mod Parts
 pub mod RangeSteps

@@ -2,19 +2,41 @@
 use Rattle.std.specs.Prelude.{ℕ, false, List, [], ◌∷◌, Option, Some, None}
 use Rattle.basic_tree.specs.declared.tokens.Keyword.TheVariants as keyword
 use Rattle.basic_tree.specs.declared.tokens.Sign.TheVariants as sign
+use Rattle.basic_tree.specs.declared.kinds.Want.{Want}
 use Rattle.basic_tree.specs.declared.kinds.Want.TheVariants as want
+use Rattle.basic_tree.specs.declared.names.Name.{Name}
 use Rattle.basic_tree.specs.Trees.{Tree}
 use Rattle.basic_tree.specs.SpellingExpressions.{is_text, want_of}
-use Rattle.grammar_machine.specs.MachineStack.{Form, TakeSign, IfKey, ExprOf, TargetOf, MoreOf, Targets, TargetItem, ItemIn, MoreItems}
+use Rattle.grammar_machine.specs.MachineStack.{Form, NameIn, TakeKey, TakeSign, IfKey, IfSign, LiteralIn, Bound, ExprOf, TargetOf, MoreOf, Targets, TargetItem, ItemIn, MoreItems}
 use Rattle.grammar_machine.specs.MachineForms.{targets_in}
 
 -- the step of a range
 abbrev pub step_form : (Option Tree → Form) → Form
 step_form g = IfKey false keyword.Step (ExprOf want.Number (λ n. g (Some n))) (g None)
 
+-- the variable of a loop
+abbrev pub loop_form : (Name → Form) → Form
+loop_form g = NameIn want.Number (λ v. TakeSign false sign.Equal (g v))
+
+-- the limit of a range and its step
+abbrev pub limits_form : (Tree → Option Tree → Form) → Form
+limits_form g = TakeKey false keyword.To (ExprOf want.Number (λ limit. step_form (g limit)))
+
 -- one or more items of DATA
 abbrev pub items_form : (List (List ℕ) → Form) → Form
 items_form g = ItemIn (λ item. MoreItems (item ∷ []) g)
+
+-- `=` and a value
+abbrev pub value_form : Want → (Tree → Form) → Form
+value_form w g = TakeSign false sign.Equal (ExprOf w g)
+
+-- behind the name and the first bound of an array, perhaps its second
+abbrev pub second_form : (Option ℕ → Form) → Form
+second_form g = IfSign false sign.Comma (LiteralIn Bound (λ second. g (Some second))) (g None)
+
+-- the variable of a part of FIELD
+abbrev pub field_name_form : (Name → Form) → Form
+field_name_form g = TakeKey false keyword.As (NameIn want.Text g)
 
 -- targets of one kind, and the value that they take
 abbrev pub assigned_form : (List Tree → Tree → Form) → Form

@@ -3,7 +3,7 @@
 ghost use Rattle.std.specs.Prelude.{◌≡◌, ◌≤◌, length, map};
 ghost use Rattle.basic_tree.specs.SpellingExpressions.{want_of};
 ghost use Rattle.basic_tree.specs.TreeViews.{target_of, tree_of};
-ghost use Rattle.statement_parts.specs.Forms.{assigned_form};
+ghost use Rattle.statement_parts.specs.Forms.{assigned_form, value_form};
 ghost use Rattle.statement_parts.specs.ParsedForms.{Parts};
 
 use crate::lists::more_elements;
@@ -28,8 +28,24 @@ pub fn want_of(text: bool) -> Want
     if text { Want::Text } else { Want::Number }
 }
 
+/// `=` and a value of the wanted kind, and the place behind them.
+#[tactic(auto, using(crate::proofs::Steps::leading))]
+fn assigned_value(
+    alloc: Global,
+    words: &Words<'_>,
+    from: usize,
+    want: Want,
+    levels: usize,
+) -> Result<Read<Expr>, Failure>
+    requires { from ≤ length words.now }
+    ensures { Parts levels words.now from (value_form want) (λ x g. g (tree_of x)) result }
+{
+    let at = take_sign(words, from, Sign::Equal)?;
+    expression(alloc, words, at, want, levels)
+}
+
 /// Targets of one kind, `=` and the value that they take; and the place behind it.
-#[tactic(auto, using(crate::proofs::ListSteps::listed))]
+// The targets are let go by `drop`: where a `?` does it, the proof goes through their forms.
 pub fn assignment(
     alloc: Global,
     words: &Words<'_>,
@@ -49,10 +65,14 @@ pub fn assignment(
         value: targets,
         end: listed,
     } = more_elements::<Target>(alloc, words, named, first, kind, levels)?;
-    let at = take_sign(words, listed, Sign::Equal)?;
-    let Read { value, end } = expression(alloc, words, at, kind, levels)?;
-    Ok(Read {
-        value: Assigned { targets, value },
-        end,
-    })
+    match assigned_value(alloc, words, listed, kind, levels) {
+        Ok(Read { value, end }) => Ok(Read {
+            value: Assigned { targets, value },
+            end,
+        }),
+        Err(failure) => {
+            drop(targets);
+            Err(failure)
+        }
+    }
 }

@@ -4,7 +4,8 @@ ghost use Rattle.std.specs.Prelude.{◌≡◌, ℕ, ◌+◌, ◌<◌, ◌≤◌,
 ghost use Rattle.grammar_machine.specs.MachineStack.{Targets, Shapes, FileShapes, Lines, Channels, FieldParts, ShapeItem, FileItem, NameItem, LineItem};
 ghost use Rattle.grammar_machine.specs.MachineForms.{shape_form, size_form};
 ghost use Rattle.statement_parts.specs.Items.{channel_item, names_wanted, part_item, target_item};
-ghost use Rattle.statement_parts.specs.ParsedForms.{Parts, FlatPartsFrom};
+ghost use Rattle.statement_parts.specs.ParsedForms.{Parts, FlatParts, FlatPartsFrom};
+ghost use Rattle.statement_parts.specs.Forms.{field_name_form, second_form};
 
 use crate::lists::Element;
 use crate::literals::Literal;
@@ -31,29 +32,37 @@ fn shape(words: &Words<'_>, from: usize, levels: usize) -> Result<Read<Shape>, F
         value: first,
         end: bounded,
     } = literal(words, opened, Literal::Bound)?;
-    if if_sign(words, bounded, Sign::Comma) {
-        let Read {
-            value: second,
-            end: twice,
-        } = literal(words, bounded + 1, Literal::Bound)?;
-        let end = closing(words, twice, levels)?;
-        return Ok(Read {
-            value: Shape {
-                name,
-                first,
-                second: Some(second),
-            },
-            end,
-        });
-    }
-    let end = closing(words, bounded, levels)?;
+    let Read {
+        value: second,
+        end: twice,
+    } = second_bound(words, bounded)?;
+    let end = closing(words, twice, levels)?;
     Ok(Read {
         value: Shape {
             name,
             first,
-            second: None,
+            second,
         },
         end,
+    })
+}
+
+/// A comma and a second bound, where they stand there; and the place behind them.
+#[tactic(auto, using(crate::proofs::Steps::leading))]
+fn second_bound(words: &Words<'_>, from: usize) -> Result<Read<Option<u16>>, Failure>
+    requires { from ≤ length words.now }
+    ensures { FlatPartsFrom words.now from second_form (λ x g. g x) result }
+{
+    if if_sign(words, from, Sign::Comma) {
+        let Read { value: second, end } = literal(words, from + 1, Literal::Bound)?;
+        return Ok(Read {
+            value: Some(second),
+            end,
+        });
+    }
+    Ok(Read {
+        value: None,
+        end: from,
     })
 }
 
@@ -81,6 +90,16 @@ fn size(words: &Words<'_>, from: usize, text: bool) -> Result<Read<Option<u16>>,
         value: None,
         end: from,
     })
+}
+
+/// AS and the text variable of a part of FIELD, and the place behind them.
+#[tactic(auto, using(crate::proofs::Steps::leading))]
+fn field_name(words: &Words<'_>, from: usize) -> Result<Read<Name>, Failure>
+    requires { from ≤ length words.now }
+    ensures { FlatParts words.now from field_name_form (λ x g. g x) result }
+{
+    let named = take_key(words, from, Keyword::As)?;
+    name(words, named, Want::Text)
 }
 
 impl Element for Target {
@@ -261,11 +280,16 @@ impl Element for FieldPart {
             value: width,
             end: widened,
         } = expression(alloc, words, from, Want::Number, levels)?;
-        let named = take_key(words, widened, Keyword::As)?;
-        let Read { value: name, end } = name(words, named, Want::Text)?;
-        Ok(Read {
-            value: FieldPart { width, name },
-            end,
-        })
+        match field_name(words, widened) {
+            Ok(Read { value: name, end }) => Ok(Read {
+                value: FieldPart { width, name },
+                end,
+            }),
+            // Where a `?` lets go of a tree, the proof goes through all its forms.
+            Err(failure) => {
+                drop(width);
+                Err(failure)
+            }
+        }
     }
 }

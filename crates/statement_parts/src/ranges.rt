@@ -3,8 +3,8 @@
 ghost use Rattle.std.specs.Prelude.{◌≡◌, ℕ, ◌+◌, ◌<◌, ◌≤◌, length, option_map};
 ghost use Rattle.basic_tree.specs.TreeViews.{tree_of};
 ghost use Rattle.grammar_machine.specs.MachineForms.{range_form};
-ghost use Rattle.statement_parts.specs.Forms.{step_form};
-ghost use Rattle.statement_parts.specs.ParsedForms.{Parts, PartsFrom};
+ghost use Rattle.statement_parts.specs.Forms.{limits_form, loop_form, step_form};
+ghost use Rattle.statement_parts.specs.ParsedForms.{FlatParts, Parts, PartsFrom};
 
 use crate::names::name;
 use crate::read::Read;
@@ -46,7 +46,61 @@ fn step(
     })
 }
 
+/// The variable of a loop and `=`, and the place behind them.
+#[tactic(auto, using(crate::proofs::Steps::leading))]
+fn loop_variable(words: &Words<'_>, from: usize) -> Result<Read<Name>, Failure>
+    requires { from ≤ length words.now }
+    ensures { FlatParts words.now from loop_form (λ x g. g x) result }
+{
+    let Read {
+        value: variable,
+        end: named,
+    } = name(words, from, Want::Number)?;
+    let end = take_sign(words, named, Sign::Equal)?;
+    Ok(Read {
+        value: variable,
+        end,
+    })
+}
+
+/// Where the values of a loop end, and perhaps their step.
+#[derive(Drop)]
+struct Limits {
+    limit: Expr,
+    step: Option<Expr>,
+}
+
+/// TO, the limit of a loop and perhaps its step; and the place behind them.
+#[tactic(auto, using(crate::proofs::Steps::leading))]
+fn limits_of(
+    alloc: Global,
+    words: &Words<'_>,
+    from: usize,
+    levels: usize,
+) -> Result<Read<Limits>, Failure>
+    requires { from ≤ length words.now }
+    ensures { Parts levels words.now from limits_form
+        (λ x g. g (tree_of x.limit) (option_map tree_of x.step)) result }
+{
+    let behind = take_key(words, from, Keyword::To)?;
+    let Read {
+        value: limit,
+        end: limited,
+    } = expression(alloc, words, behind, Want::Number, levels)?;
+    match step(alloc, words, limited, levels) {
+        Ok(Read { value: step, end }) => Ok(Read {
+            value: Limits { limit, step },
+            end,
+        }),
+        Err(failure) => {
+            drop(limit);
+            Err(failure)
+        }
+    }
+}
+
 /// A range, and the place behind it.
+// Trees are let go by `drop`: where a `?` does it, the proof goes through all forms of a tree.
 #[tactic(auto, using(crate::proofs::Steps::leading))]
 pub fn range(
     alloc: Global,
@@ -61,26 +115,30 @@ pub fn range(
 {
     let Read {
         value: variable,
-        end: named,
-    } = name(words, from, Want::Number)?;
-    let at = take_sign(words, named, Sign::Equal)?;
+        end: at,
+    } = loop_variable(words, from)?;
     let Read {
         value: start,
         end: started,
     } = expression(alloc, words, at, Want::Number, levels)?;
-    let behind = take_key(words, started, Keyword::To)?;
-    let Read {
-        value: limit,
-        end: limited,
-    } = expression(alloc, words, behind, Want::Number, levels)?;
-    let Read { value: step, end } = step(alloc, words, limited, levels)?;
-    Ok(Read {
-        value: LoopRange {
-            variable,
-            start,
-            limit,
-            step,
-        },
-        end,
-    })
+    match limits_of(alloc, words, started, levels) {
+        Ok(
+            Read {
+                value: Limits { limit, step },
+                end,
+            },
+        ) => Ok(Read {
+            value: LoopRange {
+                variable,
+                start,
+                limit,
+                step,
+            },
+            end,
+        }),
+        Err(failure) => {
+            drop(start);
+            Err(failure)
+        }
+    }
 }

@@ -16,7 +16,7 @@ use Rattle.statement_parts.specs.Sentences.{StatesAs}
 use Rattle.statement_parts.proofs.Parts.{no_memory_halts}
 use Rattle.statement_rows.specs.declared.piece.Piece.{Piece}
 use Rattle.statement_rows.specs.Slots.{PartTree, SlotTrees, nothing_read, added}
-use Rattle.statement_rows.specs.Pieces.{Rowed, piece_form, row_form}
+use Rattle.statement_rows.specs.Pieces.{PieceAdded, Rowed, piece_form, row_form}
 use Rattle.statement_rows.specs.Rows.{row_of, statement_form}
 
 -- ---- the pieces of a row, one after the other
@@ -29,21 +29,25 @@ piece_next (p ∷ ps) (suc i) d h = let e : suc i + 1 ≡ suc (i + 1) = omega ar
 pub row_begins : (n : ℕ) (ws : List Word) (from : ℕ) (row : List Piece) → from ≤ length ws → Rowed n ws from row nothing_read 0 from
 row_begins n ws from row h = record { runs = λ g k vs. refl; after = omega arith; within = h }
 
-pub row_grows : (n : ℕ) (ws : List Word) (from : ℕ) (row : List Piece) (old new : SlotTrees) (count at end : ℕ) (p : Piece) (v : Option PartTree)
+pub piece_added : (n : ℕ) (ws : List Word) (from end : ℕ) (p : Piece) (old new : SlotTrees) (v : Option PartTree)
+    → ((g : Option PartTree → Form) → Leads n n ws from end (piece_form p g) (g v))
+    → new ≡ added old v
+    → (g : SlotTrees → Form) → Leads n n ws from end (piece_form p (λ o. g (added old o))) (g new)
+piece_added n ws from end p old new v h same g k vs =
+    h (λ o. g (added old o)) k vs ∙ ap (λ (x : SlotTrees). run n (drop end ws) (Go (g x) ∷ k) vs) (sym same)
+
+pub row_grows : (n : ℕ) (ws : List Word) (from : ℕ) (row : List Piece) (old new : SlotTrees) (count at end : ℕ) (p : Piece)
     → Rowed n ws from row old count at
     → drop count row ≡ p ∷ drop (count + 1) row
-    → at ≤ end → end ≤ length ws
-    → ((g : Option PartTree → Form) → Leads n n ws at end (piece_form p g) (g v))
-    → new ≡ added old v
+    → PieceAdded n ws at p old new (Ok end)
     → Rowed n ws from row new (count + 1) end
-row_grows n ws from row old new count at end p v r next le inside h same = record {
+row_grows n ws from row old new count at end p r next h = record {
   runs = λ g k vs.
       r.runs g k vs
       ∙ ap (λ (x : List Piece). run n (drop at ws) (Go (row_form x old g) ∷ k) vs) next
-      ∙ h (λ o. row_form (drop (count + 1) row) (added old o) g) k vs
-      ∙ ap (λ (x : SlotTrees). run n (drop end ws) (Go (row_form (drop (count + 1) row) x g) ∷ k) vs) (sym same);
-  after = omega (arith, r.after, le);
-  within = inside;
+      ∙ h.1 (λ o. row_form (drop (count + 1) row) o g) k vs;
+  after = omega (arith, r.after, h.0.0);
+  within = h.0.1;
 }
 
 pub row_halts : (n : ℕ) (ws : List Word) (from : ℕ) (row : List Piece) (read : SlotTrees) (count at : ℕ) (p : Piece) (e : Failure)
@@ -64,6 +68,8 @@ row_ends n ws from row read count end r next g k vs =
     r.runs g k vs ∙ ap (λ (x : List Piece). run n (drop end ws) (Go (row_form x read g) ∷ k) vs) next
 
 pub ruleset reading = (row_begins, row_grows, row_halts, row_ends, no_memory_halts)
+
+pub ruleset adding = (piece_added, no_memory_halts)
 
 -- ---- the statement of a row is the one that its word begins
 

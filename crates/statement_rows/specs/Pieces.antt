@@ -1,5 +1,5 @@
 -- The machine's form of a piece and of a row, and what reading them comes to.
-use Rattle.std.specs.Prelude.{ℕ, ◌≤◌, true, false, List, [], ◌∷◌, length, drop, Option, Some, None, option_map, Result}
+use Rattle.std.specs.Prelude.{ℕ, ◌≤◌, true, false, List, [], ◌∷◌, length, drop, Option, Some, None, option_map, Result, Ok, Err}
 use Rattle.basic_expr.specs.declared.failures.Failure.{Failure}
 use Rattle.basic_tree.specs.declared.tokens.Keyword.TheVariants as keyword
 use Rattle.basic_tree.specs.declared.tokens.Sign.TheVariants as sign
@@ -11,7 +11,7 @@ use Rattle.grammar_machine.specs.MachineStack.{Form, TakeKey, TakeSign, IfKey, I
 use Rattle.grammar_machine.specs.MachineForms.{number_option, range_form, matrix_form, list_form, options_form, targets_in, channels_in, parts_in, lines_in, names_in, shapes_in, files_in}
 use Rattle.statement_parts.specs.declared.read.Read.{Read}
 use Rattle.statement_parts.specs.Forms.{assigned_form, items_form}
-use Rattle.statement_parts.specs.ParsedForms.{Leads, PartsFrom}
+use Rattle.statement_parts.specs.ParsedForms.{From, Halts, IsPlaced, Leads, PartsFrom}
 use Rattle.statement_rows.specs.declared.piece.Piece.{Piece}
 use Rattle.statement_rows.specs.declared.piece.Piece.TheVariants as piece
 use Rattle.statement_rows.specs.declared.part.Part.{Part}
@@ -75,6 +75,11 @@ row_form (p ∷ ps) read g = piece_form p (λ v. row_form ps (added read v) g)
 -- what a piece gives, or where the machine stops
 abbrev pub PieceRead : ℕ → List Word → ℕ → Piece → Result (Read (Option Part)) Failure → Type 0
 PieceRead n ws from p r = PartsFrom n ws from (piece_form p) (λ x g. g (option_map part_of x)) r
+
+-- one more piece was read, which made this of what was read before it, or where the machine stops
+abbrev pub PieceAdded : ℕ → List Word → ℕ → Piece → SlotTrees → SlotTrees → Result ℕ Failure → Type 0
+PieceAdded n ws from p old new (Ok end) = From ws from end × ((g : SlotTrees → Form) → Leads n n ws from end (piece_form p (λ v. g (added old v))) (g new))
+PieceAdded n ws from p old new (Err e) = IsPlaced ws e × ((g : Option PartTree → Form) → Halts n ws from (piece_form p g) e)
 
 -- what a row gives, or where the machine stops
 abbrev pub RowRead : ℕ → List Word → ℕ → List Piece → Result (Read Slots) Failure → Type 0

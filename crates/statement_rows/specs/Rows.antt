@@ -4,7 +4,8 @@ use Rattle.basic_tree.specs.declared.tokens.Keyword.{Keyword}
 use Rattle.basic_tree.specs.declared.tokens.Keyword.TheVariants as keyword
 use Rattle.basic_tree.specs.declared.tokens.Sign.TheVariants as sign
 use Rattle.basic_tree.specs.declared.kinds.Want.TheVariants as want
-use Rattle.basic_tree.specs.Trees.{StatementTree, For, Next, FnEnd, Data, Let, Read, Restore, Goto, Gosub, Resume, Open, Close, Field, Return, Stop, End, Sleep, Get, Put, Unlock, Lset, Rset, Kill, Rename}
+use Rattle.basic_tree.specs.declared.parts.OpenFor.{OpenFor}
+use Rattle.basic_tree.specs.Trees.{Tree, StatementTree, For, Next, FnEnd, Data, Let, Read, Restore, Goto, Gosub, Resume, Open, Close, Field, Return, Stop, End, Sleep, Get, Put, Unlock, Lset, Rset, Kill, Rename}
 use Rattle.grammar_machine.specs.MachineStack.{Form, TakeKey}
 use Rattle.grammar_machine.specs.MachineForms.{says}
 use Rattle.statement_rows.specs.declared.piece.Piece.{Piece}
@@ -53,6 +54,10 @@ abbrev pub opened : SlotTrees → StatementTree
 opened s =
     Open (first_tree s.values) s.purpose s.mark (first_tree (behind_first s.values))
     (first_option s.options) (first_option (behind_first s.options)) (first_option (behind_first (behind_first s.options)))
+
+-- the same, of these expressions and marks
+abbrev pub opened_of : List Tree → List (Option Tree) → OpenFor → Bool → StatementTree
+opened_of values options purpose hash = opened (record nothing_read { values = values; options = options; purpose = purpose; mark = hash })
 
 -- the statement of such a word and of what was read behind it
 abbrev pub built : Keyword → SlotTrees → StatementTree

@@ -1,4 +1,7 @@
 //! Pieces that may stand or not, and choices: each says what stood there.
+//!
+//! A match stands in place of `?` where it can: the type of what a piece gives is large, and each
+//! call at that type is dear to prove.
 
 ghost use Rattle.std.specs.Prelude.{◌≤◌, length};
 ghost use Rattle.statement_rows.specs.declared.piece.Piece.TheVariants as piece;
@@ -31,11 +34,13 @@ pub fn either(
             end: from + 1,
         });
     }
-    let end = take_key(words, from, second)?;
-    Ok(Read {
-        value: Some(Part::Mark(false)),
-        end,
-    })
+    match take_key(words, from, second) {
+        Ok(end) => Ok(Read {
+            value: Some(Part::Mark(false)),
+            end,
+        }),
+        Err(failure) => Err(failure),
+    }
 }
 
 /// Whether a sign stands there, and the place behind it.
@@ -91,21 +96,22 @@ pub fn perhaps_channel(
     requires { from ≤ length words.now }
     ensures { PieceRead levels words.now from piece.PerhapsChannel result }
 {
-    if if_sign(words, from, Sign::Hash) {
-        let Read {
-            value: channel,
-            end: named,
-        } = expression(alloc, words, from + 1, Want::Number, levels)?;
-        let end = take_sign(words, named, Sign::Comma)?;
+    if !if_sign(words, from, Sign::Hash) {
         return Ok(Read {
-            value: Some(Part::Perhaps(Some(channel))),
-            end,
+            value: Some(Part::Perhaps(None)),
+            end: from,
         });
     }
-    Ok(Read {
-        value: Some(Part::Perhaps(None)),
-        end: from,
-    })
+    match expression(alloc, words, from + 1, Want::Number, levels) {
+        Ok(channel) => match take_sign(words, channel.end, Sign::Comma) {
+            Ok(end) => Ok(Read {
+                value: Some(Part::Perhaps(Some(channel.value))),
+                end,
+            }),
+            Err(failure) => Err(failure),
+        },
+        Err(failure) => Err(failure),
+    }
 }
 
 /// The number of a line or 0, where it stands there; and the place behind it.
@@ -144,11 +150,13 @@ pub fn purpose(words: &Words<'_>, from: usize, levels: usize) -> Result<Read<Opt
                 end: at + 1,
             });
         }
-        let end = take_key(words, at, Keyword::Output)?;
-        return Ok(Read {
-            value: Some(Part::Purpose(OpenFor::Output)),
-            end,
-        });
+        return match take_key(words, at, Keyword::Output) {
+            Ok(end) => Ok(Read {
+                value: Some(Part::Purpose(OpenFor::Output)),
+                end,
+            }),
+            Err(failure) => Err(failure),
+        };
     }
     Ok(Read {
         value: Some(Part::Purpose(OpenFor::Either)),

@@ -1,7 +1,8 @@
 //! One function that reads any row.
 
 ghost use Rattle.std.specs.Prelude.{◌≡◌, ℕ, [], ◌+◌, ◌<◌, ◌≤◌, length, option_map};
-ghost use Rattle.statement_rows.specs.Pieces.{PieceRead, RowRead};
+ghost use Rattle.statement_rows.specs.Pieces.{PieceAdded, PieceRead, RowRead};
+ghost use Rattle.statement_rows.specs.Slots.{slots_of};
 
 use crate::lists::{arrays, channels, fields, file_shapes, lines, shapes, targets};
 use crate::matrices::matrix;
@@ -61,6 +62,30 @@ fn read_piece(
     }
 }
 
+/// Reads a piece and adds what it gives to what was read; gives the place behind it.
+// Apart from `row`, and with a match in place of `?`: the type of what a piece gives is large, and
+// a loop over it is dear to prove.
+#[tactic(auto, using(crate::proofs::RowSteps::adding))]
+fn add_piece(
+    alloc: Global,
+    words: &Words<'_>,
+    from: usize,
+    piece: Piece,
+    levels: usize,
+    slots: &mut Slots,
+) -> Result<usize, Failure>
+    requires { from ≤ length words.now }
+    ensures { PieceAdded levels words.now from piece (slots_of slots.old) (slots_of slots.new) result }
+{
+    match read_piece(alloc, words, from, piece, levels) {
+        Ok(Read { value: part, end }) => {
+            slots.add(part)?;
+            Ok(end)
+        }
+        Err(failure) => Err(failure),
+    }
+}
+
 /// What the pieces of a row give from a place on, and the place behind them.
 #[tactic(auto, using(crate::proofs::RowSteps::reading))]
 pub fn row(
@@ -76,12 +101,7 @@ pub fn row(
     let mut end = from;
     let mut slots = Slots::new(alloc);
     'pieces: for next in row {
-        let Read {
-            value: part,
-            end: behind,
-        } = read_piece(alloc, words, end, *next, levels)?;
-        slots.add(part)?;
-        end = behind;
+        end = add_piece(alloc, words, end, *next, levels, &mut slots)?;
     }
     Ok(Read { value: slots, end })
 }

@@ -10,11 +10,12 @@ ghost use Rattle.basic_tree.specs.TreeViews.{tree_of};
 
 use crate::piece::Piece;
 use crate::reader::row;
-use crate::slots::{Slots, next_option, next_value};
+use crate::slots::{Slots, next_option, next_value, taken};
 use basic_expr::{Failure, Words};
-use basic_tree::{Expr, Keyword, Series, Sign, Statement, Want};
+use basic_tree::{Expr, Keyword, MatrixValue, Series, Sign, Statement, Want};
 use statement_parts::{Read, if_key, if_sign, take_key};
 use std::alloc::Global;
+use std::mem;
 
 /// What stands behind the words that were read.
 #[derive(Clone, Copy, PartialEq, Eq)]
@@ -76,34 +77,38 @@ fn on_lines(goto: bool, selector: Expr, lines: Series<u16>) -> Statement
 }
 
 /// The statement of such a rest, of what was read of it.
-fn build(rest: Rest, mut slots: Slots) -> Statement
+fn build(alloc: Global, rest: Rest, mut slots: Slots) -> Statement
     ensures { statement_of result ≡ rest_built rest (slots_of slots) }
 {
     match rest {
         Rest::OnError => Statement::OnErrorGoto(slots.perhaps_line),
-        Rest::OnLines => on_lines(slots.mark, next_value(&mut slots.values), slots.lines),
+        Rest::OnLines => on_lines(
+            slots.mark,
+            next_value(&mut slots.values),
+            taken(alloc, &mut slots.lines),
+        ),
         Rest::DimFile => Statement::DimFile {
             channel: slots.number,
-            shapes: slots.file_shapes,
+            shapes: taken(alloc, &mut slots.file_shapes),
         },
-        Rest::DimArrays => Statement::Dim(slots.shapes),
+        Rest::DimArrays => Statement::Dim(taken(alloc, &mut slots.shapes)),
         Rest::InputLine => Statement::InputLine {
             channel: next_option(&mut slots.options),
             variable: slots.variable,
         },
         Rest::InputTargets => Statement::Input {
             channel: next_option(&mut slots.options),
-            prompt: slots.prompt,
-            targets: slots.targets,
+            prompt: slots.prompt.take(),
+            targets: taken(alloc, &mut slots.targets),
         },
-        Rest::MatRead => Statement::MatRead(slots.arrays),
+        Rest::MatRead => Statement::MatRead(taken(alloc, &mut slots.arrays)),
         Rest::MatPrint => Statement::MatPrint {
             matrix: slots.variable,
             separator: slots.separator,
         },
         Rest::MatLet => Statement::MatLet {
             target: slots.variable,
-            value: slots.matrix,
+            value: mem::replace(&mut slots.matrix, MatrixValue::Zero),
         },
     }
 }
@@ -122,7 +127,7 @@ fn stated(
 {
     let Read { value: slots, end } = row(alloc, words, from, rest_row(rest), levels)?;
     Ok(Read {
-        value: build(rest, slots),
+        value: build(alloc, rest, slots),
         end,
     })
 }

@@ -1,18 +1,19 @@
 //! The rows of statements by their first words, and the statements that are made of them.
 
-ghost use Rattle.std.specs.Prelude.{◌≡◌, ◌≤◌, None, Some, length, MatchOption};
+ghost use Rattle.std.specs.Prelude.{◌≡◌, ◌≤◌, None, Some, length, map, option_map, MatchOption};
 ghost use Rattle.grammar_machine.specs.MachineSentences.{key_sentence};
 ghost use Rattle.basic_tree.specs.StatementViews.{statement_of};
+ghost use Rattle.basic_tree.specs.TreeViews.{tree_of};
 ghost use Rattle.statement_parts.specs.ParsedForms.{States};
 ghost use Rattle.statement_parts.specs.Sentences.{StatesAs};
-ghost use Rattle.statement_rows.specs.Rows.{built, gone, opened, row_of, statement_form};
+ghost use Rattle.statement_rows.specs.Rows.{built, gone, opened_of, row_of, statement_form};
 ghost use Rattle.statement_rows.specs.Slots.{slots_of};
 
 use crate::piece::Piece;
 use crate::reader::row;
-use crate::slots::{Slots, next_option, next_value};
+use crate::slots::{Slots, next_option, next_value, taken};
 use basic_expr::{Failure, Words};
-use basic_tree::{Keyword, Sign, Statement, Want};
+use basic_tree::{Expr, Keyword, OpenFor, Sign, Statement, Want};
 use statement_parts::{Read, take_key};
 use std::alloc::Global;
 
@@ -70,7 +71,7 @@ pub fn row_of(key: Keyword) -> Option<&'static [Piece]>
 }
 
 /// The statement of such a word and of what was read behind it.
-fn build(key: Keyword, mut slots: Slots) -> Statement
+fn build(alloc: Global, key: Keyword, mut slots: Slots) -> Statement
     ensures { statement_of result ≡ built key (slots_of slots) }
 {
     match key {
@@ -82,13 +83,13 @@ fn build(key: Keyword, mut slots: Slots) -> Statement
         },
         Keyword::Next => Statement::Next(slots.variable),
         Keyword::FnEnd => Statement::FnEnd,
-        Keyword::Data => Statement::Data(slots.items),
+        Keyword::Data => Statement::Data(taken(alloc, &mut slots.items)),
         Keyword::Let => Statement::Let {
             word: true,
-            targets: slots.targets,
+            targets: taken(alloc, &mut slots.targets),
             value: next_value(&mut slots.values),
         },
-        Keyword::Read => Statement::Read(slots.targets),
+        Keyword::Read => Statement::Read(taken(alloc, &mut slots.targets)),
         Keyword::Restore => Statement::Restore,
         Keyword::Goto => Statement::Goto {
             apart: false,
@@ -103,8 +104,13 @@ fn build(key: Keyword, mut slots: Slots) -> Statement
         Keyword::Resume => Statement::Resume(slots.perhaps_line),
         Keyword::Stop => Statement::Stop,
         Keyword::Sleep => Statement::Sleep(next_value(&mut slots.values)),
-        Keyword::Open => opened(slots),
-        Keyword::Close => Statement::Close(slots.channels),
+        Keyword::Open => opened(
+            &mut slots.values,
+            &mut slots.options,
+            slots.purpose,
+            slots.mark,
+        ),
+        Keyword::Close => Statement::Close(taken(alloc, &mut slots.channels)),
         Keyword::Get => Statement::Get {
             channel: next_value(&mut slots.values),
             record: next_option(&mut slots.options),
@@ -116,7 +122,7 @@ fn build(key: Keyword, mut slots: Slots) -> Statement
         Keyword::Unlock => Statement::Unlock(next_value(&mut slots.values)),
         Keyword::Field => Statement::Field {
             channel: next_value(&mut slots.values),
-            parts: slots.fields,
+            parts: taken(alloc, &mut slots.fields),
         },
         Keyword::Lset => Statement::Lset {
             variable: slots.variable,
@@ -147,19 +153,26 @@ fn gone(to: bool, line: u16) -> Statement
 }
 
 /// OPEN of what was read behind it.
-fn opened(mut slots: Slots) -> Statement
-    ensures { statement_of result ≡ opened (slots_of slots) }
+// Not of all slots: five calls over so many fields are dear to prove.
+fn opened(
+    values: &mut Vec<Expr>,
+    options: &mut Vec<Option<Expr>>,
+    purpose: OpenFor,
+    hash: bool,
+) -> Statement
+    ensures { statement_of result ≡ opened_of (map tree_of values.old.items)
+        (map (option_map tree_of) options.old.items) purpose hash }
 {
-    let file = next_value(&mut slots.values);
-    let channel = next_value(&mut slots.values);
+    let file = next_value(values);
+    let channel = next_value(values);
     Statement::Open {
         file,
-        purpose: slots.purpose,
-        hash: slots.mark,
+        purpose,
+        hash,
         channel,
-        record_size: next_option(&mut slots.options),
-        cluster_size: next_option(&mut slots.options),
-        mode: next_option(&mut slots.options),
+        record_size: next_option(options),
+        cluster_size: next_option(options),
+        mode: next_option(options),
     }
 }
 
@@ -179,7 +192,7 @@ fn stated(
     let at = take_key(words, from, key)?;
     let Read { value: slots, end } = row(alloc, words, at, pieces, levels)?;
     Ok(Read {
-        value: build(key, slots),
+        value: build(alloc, key, slots),
         end,
     })
 }

@@ -1,4 +1,7 @@
 //! Pieces of one word or one part, which always stand there.
+//!
+//! A match stands in place of `?`: the type of what a piece gives is large, and each call at that
+//! type is dear to prove.
 
 ghost use Rattle.std.specs.Prelude.{◌≤◌, length};
 ghost use Rattle.statement_rows.specs.declared.piece.Piece.TheVariants as piece;
@@ -21,8 +24,10 @@ pub fn key(
     requires { from ≤ length words.now }
     ensures { PieceRead levels words.now from (piece.Key key) result }
 {
-    let end = take_key(words, from, key)?;
-    Ok(Read { value: None, end })
+    match take_key(words, from, key) {
+        Ok(end) => Ok(Read { value: None, end }),
+        Err(failure) => Err(failure),
+    }
 }
 
 /// A sign, which gives nothing, and the place behind it.
@@ -36,8 +41,10 @@ pub fn sign(
     requires { from ≤ length words.now }
     ensures { PieceRead levels words.now from (piece.Sign sign) result }
 {
-    let end = take_sign(words, from, sign)?;
-    Ok(Read { value: None, end })
+    match take_sign(words, from, sign) {
+        Ok(end) => Ok(Read { value: None, end }),
+        Err(failure) => Err(failure),
+    }
 }
 
 /// An expression of this kind, and the place behind it.
@@ -52,11 +59,13 @@ pub fn value(
     requires { from ≤ length words.now }
     ensures { PieceRead levels words.now from (piece.Value want) result }
 {
-    let Read { value: found, end } = expression(alloc, words, from, want, levels)?;
-    Ok(Read {
-        value: Some(Part::Value(found)),
-        end,
-    })
+    match expression(alloc, words, from, want, levels) {
+        Ok(Read { value: found, end }) => Ok(Read {
+            value: Some(Part::Value(found)),
+            end,
+        }),
+        Err(failure) => Err(failure),
+    }
 }
 
 /// The name of a variable of this kind, and the place behind it.
@@ -70,11 +79,13 @@ pub fn variable(
     requires { from ≤ length words.now }
     ensures { PieceRead levels words.now from (piece.Variable want) result }
 {
-    let Read { value: found, end } = name(words, from, want)?;
-    Ok(Read {
-        value: Some(Part::Variable(found)),
-        end,
-    })
+    match name(words, from, want) {
+        Ok(Read { value: found, end }) => Ok(Read {
+            value: Some(Part::Variable(found)),
+            end,
+        }),
+        Err(failure) => Err(failure),
+    }
 }
 
 /// The number of a line, and the place behind it.
@@ -83,11 +94,13 @@ pub fn line(words: &Words<'_>, from: usize, levels: usize) -> Result<Read<Option
     requires { from ≤ length words.now }
     ensures { PieceRead levels words.now from piece.Line result }
 {
-    let Read { value: found, end } = literal(words, from, Literal::LineNumber)?;
-    Ok(Read {
-        value: Some(Part::Number(found)),
-        end,
-    })
+    match literal(words, from, Literal::LineNumber) {
+        Ok(Read { value: found, end }) => Ok(Read {
+            value: Some(Part::Number(found)),
+            end,
+        }),
+        Err(failure) => Err(failure),
+    }
 }
 
 /// A literal from 0 to 32767, and the place behind it.
@@ -96,9 +109,11 @@ pub fn bound(words: &Words<'_>, from: usize, levels: usize) -> Result<Read<Optio
     requires { from ≤ length words.now }
     ensures { PieceRead levels words.now from piece.Bound result }
 {
-    let Read { value: found, end } = literal(words, from, Literal::Bound)?;
-    Ok(Read {
-        value: Some(Part::Number(found)),
-        end,
-    })
+    match literal(words, from, Literal::Bound) {
+        Ok(Read { value: found, end }) => Ok(Read {
+            value: Some(Part::Number(found)),
+            end,
+        }),
+        Err(failure) => Err(failure),
+    }
 }

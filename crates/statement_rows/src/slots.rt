@@ -1,16 +1,20 @@
 //! What was read of a statement, by kinds.
 
-ghost use Rattle.std.specs.Prelude.{◌≡◌, [], ◌++◌, ◌∷◌, OnOk, map, option_map};
+ghost use Rattle.std.specs.Prelude.{◌≡◌, [], ◌++◌, ◌∷◌, OnOk, Some, map, option_map};
 ghost use Rattle.basic_tree.specs.TreeViews.{tree_of};
+ghost use Rattle.statement_rows.specs.declared.part.Part.TheVariants as part;
 ghost use Rattle.statement_rows.specs.Slots.{added, behind_first, first_option, first_tree, nothing_read, part_of, slots_of};
 
-use crate::part::Part;
+use crate::part::{Part, Source};
 use basic_tree::{
     CloseChannel, Expr, FieldPart, FileShape, MatrixValue, Name, OpenFor, Prompt, Separator,
     Series, Shape, Target,
 };
 use basic_values::{NoMemory, Text};
+use statement_operands::OpenOptions;
+use statement_parts::{Assigned, LoopRange};
 use std::alloc::Global;
+use std::mem;
 
 /// What was read: expressions in their order, and of each other kind the last. A kind that no piece
 /// gave has a default.
@@ -68,41 +72,28 @@ impl Slots {
     }
 
     /// One more part, or none.
-    #[tactic(auto, using(crate::proofs::SlotSteps::adding))]
+    // The parts that need memory have functions of their own: each early end in this match is
+    // dear to prove.
+    #[tactic(auto)]
     pub fn add(&mut self, part: Option<Part>) -> Result<(), NoMemory>
         ensures { OnOk result (slots_of self.new ≡
             added (slots_of self.old) (option_map part_of part)) }
     {
         match part {
             None => {}
+            Some(Part::Value(value)) => return add_value(&mut self.values, value),
+            Some(Part::Perhaps(value)) => return add_option(&mut self.options, value),
+            Some(Part::OpenOptions(options)) => return self.add_open_options(options),
+            Some(Part::Source(source)) => return self.add_source(source),
+            Some(Part::Range(range)) => return self.add_range(range),
+            Some(Part::Assigned(assigned)) => return self.add_assigned(assigned),
             Some(Part::Mark(mark)) => self.mark = mark,
-            Some(Part::Value(value)) => self.values.push(value)?,
-            Some(Part::Perhaps(value)) => self.options.push(value)?,
             Some(Part::Variable(name)) => self.variable = name,
             Some(Part::Number(number)) => self.number = number,
             Some(Part::PerhapsLine(line)) => self.perhaps_line = line,
             Some(Part::Purpose(purpose)) => self.purpose = purpose,
-            Some(Part::OpenOptions(options)) => {
-                self.options.push(options.record_size)?;
-                self.options.push(options.cluster_size)?;
-                self.options.push(options.mode)?;
-            }
-            Some(Part::Source(source)) => {
-                self.options.push(source.channel)?;
-                self.prompt = source.prompt;
-            }
             Some(Part::PerhapsSeparator(separator)) => self.separator = separator,
             Some(Part::Matrix(matrix)) => self.matrix = matrix,
-            Some(Part::Range(range)) => {
-                self.variable = range.variable;
-                self.values.push(range.start)?;
-                self.values.push(range.limit)?;
-                self.options.push(range.step)?;
-            }
-            Some(Part::Assigned(assigned)) => {
-                self.targets = assigned.targets;
-                self.values.push(assigned.value)?;
-            }
             Some(Part::Targets(targets)) => self.targets = targets,
             Some(Part::Channels(channels)) => self.channels = channels,
             Some(Part::Fields(fields)) => self.fields = fields,
@@ -114,6 +105,69 @@ impl Slots {
         }
         Ok(())
     }
+
+    /// The options of OPEN.
+    #[tactic(auto)]
+    fn add_open_options(&mut self, options: OpenOptions) -> Result<(), NoMemory>
+        ensures { OnOk result (slots_of self.new ≡
+            added (slots_of self.old) (Some (part_of (part.OpenOptions options)))) }
+    {
+        add_option(&mut self.options, options.record_size)?;
+        add_option(&mut self.options, options.cluster_size)?;
+        add_option(&mut self.options, options.mode)
+    }
+
+    /// Where INPUT reads.
+    #[tactic(auto)]
+    fn add_source(&mut self, source: Source) -> Result<(), NoMemory>
+        ensures { OnOk result (slots_of self.new ≡
+            added (slots_of self.old) (Some (part_of (part.Source source)))) }
+    {
+        self.prompt = source.prompt;
+        add_option(&mut self.options, source.channel)
+    }
+
+    /// The variable of a loop and its values.
+    #[tactic(auto)]
+    fn add_range(&mut self, range: LoopRange) -> Result<(), NoMemory>
+        ensures { OnOk result (slots_of self.new ≡
+            added (slots_of self.old) (Some (part_of (part.Range range)))) }
+    {
+        self.variable = range.variable;
+        add_value(&mut self.values, range.start)?;
+        add_value(&mut self.values, range.limit)?;
+        add_option(&mut self.options, range.step)
+    }
+
+    /// Targets and the value that they take.
+    #[tactic(auto)]
+    fn add_assigned(&mut self, assigned: Assigned) -> Result<(), NoMemory>
+        ensures { OnOk result (slots_of self.new ≡
+            added (slots_of self.old) (Some (part_of (part.Assigned assigned)))) }
+    {
+        self.targets = assigned.targets;
+        add_value(&mut self.values, assigned.value)
+    }
+}
+
+/// One more expression.
+#[tactic(auto, using(crate::proofs::SlotSteps::adding))]
+fn add_value(values: &mut Vec<Expr>, value: Expr) -> Result<(), NoMemory>
+    ensures { OnOk result (map tree_of values.new.items ≡
+        map tree_of values.old.items ++ tree_of value ∷ []) }
+{
+    values.push(value)?;
+    Ok(())
+}
+
+/// One more expression that may be missing.
+#[tactic(auto, using(crate::proofs::SlotSteps::adding))]
+fn add_option(options: &mut Vec<Option<Expr>>, value: Option<Expr>) -> Result<(), NoMemory>
+    ensures { OnOk result (map (option_map tree_of) options.new.items ≡
+        map (option_map tree_of) options.old.items ++ option_map tree_of value ∷ []) }
+{
+    options.push(value)?;
+    Ok(())
 }
 
 /// The first of the expressions, which is taken from them.
@@ -140,4 +194,12 @@ pub fn next_option(options: &mut Vec<Option<Expr>>) -> Option<Expr>
         return None;
     }
     options.remove(0)
+}
+
+/// The list, which is taken from what was read.
+// In place of a move out of the slots, which leaves each other part of them to be dropped by itself.
+pub fn taken<T>(alloc: Global, list: &mut Series<T>) -> Series<T>
+    ensures { result ≡ list.old }
+{
+    mem::replace(list, Series::from_vec(Vec::new(alloc)))
 }

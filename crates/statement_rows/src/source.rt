@@ -64,18 +64,19 @@ pub fn source(
     ensures { PieceRead levels words.now from piece.Source result }
 {
     if if_sign(words, from, Sign::Hash) {
-        let Read {
-            value: channel,
-            end: named,
-        } = expression(alloc, words, from + 1, Want::Number, levels)?;
-        let end = take_sign(words, named, Sign::Comma)?;
-        return Ok(Read {
-            value: Some(Part::Source(Source {
-                channel: Some(channel),
-                prompt: None,
-            })),
-            end,
-        });
+        return match expression(alloc, words, from + 1, Want::Number, levels) {
+            Ok(channel) => match take_sign(words, channel.end, Sign::Comma) {
+                Ok(end) => Ok(Read {
+                    value: Some(Part::Source(Source {
+                        channel: Some(channel.value),
+                        prompt: None,
+                    })),
+                    end,
+                }),
+                Err(failure) => Err(failure),
+            },
+            Err(failure) => Err(failure),
+        };
     }
     match if_quoted(alloc, words, from)? {
         Some(text) => prompted(words, from + 1, text, levels),

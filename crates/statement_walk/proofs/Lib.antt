@@ -1,2 +1,2 @@
-mod Showing
+pub mod Showing
 pub mod PartLaws

@@ -3,15 +3,15 @@
 ghost use Rattle.std.specs.Prelude.{◌≡◌, [], ◌∷◌, ◌++◌, map, option_map, true, OnOk};
 ghost use Rattle.basic_tree.specs.StatementViews.{statement_of, clause_of};
 ghost use Rattle.basic_tree.specs.Trees.{Modified, End};
-ghost use Rattle.basic_tree.specs.TreeViews.{tree_of, target_of, printed_of, item_of, print_channel_of, close_channel_of, field_part_of, modifier_of, using_item_of, matrix_of};
+ghost use Rattle.basic_tree.specs.TreeViews.{tree_of, target_of, printed_of, item_of, print_channel_of, chain_line_of, close_channel_of, field_part_of, modifier_of, using_item_of, matrix_of};
 ghost use Rattle.program_model.specs.Parts.{given, printed_expression, matrix_expressions};
 ghost use Rattle.program_model.specs.Program.{loops_outside};
 ghost use Rattle.statement_walk.specs.Walk.{own_expressions, parts_alone, modifier_parts, parts_in, parts_in_clause, visited, visited_trees};
 
 use crate::parts::{Expression, Part, Simple, Visitor};
 use basic_tree::{
-    Clause, CloseChannel, Expr, FieldPart, MatrixValue, Modifier, PrintChannel, PrintItem, Printed,
-    Statement, Target, UsingItem,
+    ChainLine, Clause, CloseChannel, Expr, FieldPart, MatrixValue, Modifier, PrintChannel,
+    PrintItem, Printed, Statement, Target, UsingItem,
 };
 
 /// Shows the parts of a statement and of those inside it.
@@ -108,6 +108,7 @@ fn visit_simple<V: Visitor>(visitor: &mut V, statement: &Statement) -> Result<()
 }
 
 /// Shows the expressions of a statement without others inside.
+// Each arm is one call, and forms that do the same share one: the proof has an end for each of them.
 #[tactic(auto, using(crate::proofs::Showing::showing))]
 fn visit_expressions<V: Visitor>(visitor: &mut V, statement: &Statement) -> Result<(), V::Stop>
     ensures { OnOk result (visitor.new
@@ -115,51 +116,30 @@ fn visit_expressions<V: Visitor>(visitor: &mut V, statement: &Statement) -> Resu
 {
     match statement {
         Statement::For { from, to, step, .. } => visit_range(visitor, from, to, step),
-        Statement::Def { value, .. } => visit_given(visitor, value),
+        Statement::Def { value: e, .. } | Statement::InputLine { channel: e, .. } => {
+            visit_given(visitor, e)
+        }
         Statement::Let { targets, value, .. } => {
             visit_assignment(visitor, targets.as_slice(), value)
         }
-        Statement::Result { value, .. } => visit_tree(visitor, value),
         Statement::Print {
             channel,
             items,
             last,
-        } => {
-            visit_print_channel(visitor, channel)?;
-            visit_items(visitor, items.as_slice())?;
-            visit_last(visitor, last)
-        }
+        } => visit_print(visitor, channel, items.as_slice(), last),
         Statement::PrintUsing {
             channel,
             format,
             values,
             last,
-        } => {
-            visit_given(visitor, channel)?;
-            visit_tree(visitor, format)?;
-            visit_values(visitor, values.as_slice())?;
-            visit_given(visitor, last)
-        }
+        } => visit_print_using(visitor, channel, format, values.as_slice(), last),
         Statement::Input {
             channel,
             targets,
             ..
-        } => {
-            visit_given(visitor, channel)?;
-            visit_targets(visitor, targets.as_slice())
-        }
-        Statement::InputLine { channel, .. } => visit_given(visitor, channel),
+        } => visit_input(visitor, channel, targets.as_slice()),
         Statement::Read(targets) => visit_targets(visitor, targets.as_slice()),
-        Statement::OnGoto { selector, .. } => visit_tree(visitor, selector),
-        Statement::OnGosub { selector, .. } => visit_tree(visitor, selector),
-        Statement::Chain { program, line } => {
-            visit_tree(visitor, program)?;
-            match line {
-                None => Ok(()),
-                Some(line) => visit_tree(visitor, &line.number),
-            }
-        }
-        Statement::Sleep(e) => visit_tree(visitor, e),
+        Statement::Chain { program, line } => visit_chain(visitor, program, line),
         Statement::Open {
             file,
             channel,
@@ -167,51 +147,159 @@ fn visit_expressions<V: Visitor>(visitor: &mut V, statement: &Statement) -> Resu
             cluster_size,
             mode,
             ..
-        } => {
-            visit_tree(visitor, file)?;
-            visit_tree(visitor, channel)?;
-            visit_given(visitor, record_size)?;
-            visit_given(visitor, cluster_size)?;
-            visit_given(visitor, mode)
-        }
+        } => visit_open(visitor, file, channel, record_size, cluster_size, mode),
         Statement::Close(channels) => visit_channels(visitor, channels.as_slice()),
-        Statement::Get { channel, record } => visit_pair(visitor, channel, record),
-        Statement::Put { channel, record } => visit_pair(visitor, channel, record),
-        Statement::Unlock(channel) => visit_tree(visitor, channel),
-        Statement::Field { channel, parts } => {
-            visit_tree(visitor, channel)?;
-            visit_widths(visitor, parts.as_slice())
+        Statement::Get { channel, record } | Statement::Put { channel, record } => {
+            visit_pair(visitor, channel, record)
         }
-        Statement::Lset { value, .. } => visit_tree(visitor, value),
-        Statement::Rset { value, .. } => visit_tree(visitor, value),
-        Statement::Kill(e) => visit_tree(visitor, e),
-        Statement::Rename { old, new } => {
-            visit_tree(visitor, old)?;
-            visit_tree(visitor, new)
-        }
+        Statement::Field { channel, parts } => visit_field(visitor, channel, parts.as_slice()),
+        Statement::Rename { old, new } => visit_both(visitor, old, new),
         Statement::MatLet { value, .. } => visit_matrix(visitor, value),
-        Statement::MatRead(_) => Ok(()),
-        Statement::MatPrint { .. } => Ok(()),
-        Statement::IfThen { .. } => Ok(()),
-        Statement::IfGoto { .. } => Ok(()),
-        Statement::Modified { .. } => Ok(()),
-        Statement::Next(_) => Ok(()),
-        Statement::FnEnd => Ok(()),
-        Statement::Data(_) => Ok(()),
-        Statement::Dim(_) => Ok(()),
-        Statement::DimFile { .. } => Ok(()),
-        Statement::Restore => Ok(()),
-        Statement::Goto { .. } => Ok(()),
-        Statement::Gosub { .. } => Ok(()),
-        Statement::Return => Ok(()),
-        Statement::OnErrorGoto(_) => Ok(()),
-        Statement::Resume(_) => Ok(()),
-        Statement::Stop => Ok(()),
-        Statement::End => Ok(()),
+        Statement::Result { value: e, .. }
+        | Statement::OnGoto { selector: e, .. }
+        | Statement::OnGosub { selector: e, .. }
+        | Statement::Sleep(e)
+        | Statement::Unlock(e)
+        | Statement::Lset { value: e, .. }
+        | Statement::Rset { value: e, .. }
+        | Statement::Kill(e) => visit_tree(visitor, e),
+        Statement::MatRead(_)
+        | Statement::MatPrint { .. }
+        | Statement::IfThen { .. }
+        | Statement::IfGoto { .. }
+        | Statement::Modified { .. }
+        | Statement::Next(_)
+        | Statement::FnEnd
+        | Statement::Data(_)
+        | Statement::Dim(_)
+        | Statement::DimFile { .. }
+        | Statement::Restore
+        | Statement::Goto { .. }
+        | Statement::Gosub { .. }
+        | Statement::Return
+        | Statement::OnErrorGoto(_)
+        | Statement::Resume(_)
+        | Statement::Stop
+        | Statement::End => Ok(()),
     }
 }
 
 // Expressions of statements
+
+/// Shows what a PRINT names.
+#[tactic(auto, using(crate::proofs::Showing::showing))]
+fn visit_print<V: Visitor>(
+    visitor: &mut V,
+    channel: &Option<PrintChannel>,
+    items: &[PrintItem],
+    last: &Option<Printed>,
+) -> Result<(), V::Stop>
+    ensures { OnOk result (visitor.new
+        ≡ visited_trees V.after visitor.old
+        (map (λ c. c.number) (given (option_map print_channel_of channel.now))
+        ++ map (λ item. printed_expression item.printed) (map item_of items.now)
+        ++ map printed_expression (given (option_map printed_of last.now)))) }
+{
+    visit_print_channel(visitor, channel)?;
+    visit_items(visitor, items)?;
+    visit_last(visitor, last)
+}
+
+/// Shows what a PRINT USING names.
+#[tactic(auto, using(crate::proofs::Showing::showing))]
+fn visit_print_using<V: Visitor>(
+    visitor: &mut V,
+    channel: &Option<Expr>,
+    format: &Expr,
+    values: &[UsingItem],
+    last: &Option<Expr>,
+) -> Result<(), V::Stop>
+    ensures { OnOk result (visitor.new
+        ≡ visited_trees V.after visitor.old (given (option_map tree_of channel.now)
+        ++ tree_of format.now ∷ map (λ item. item.value) (map using_item_of values.now)
+        ++ given (option_map tree_of last.now))) }
+{
+    visit_given(visitor, channel)?;
+    visit_tree(visitor, format)?;
+    visit_values(visitor, values)?;
+    visit_given(visitor, last)
+}
+
+/// Shows what an INPUT names.
+#[tactic(auto, using(crate::proofs::Showing::showing))]
+fn visit_input<V: Visitor>(
+    visitor: &mut V,
+    channel: &Option<Expr>,
+    targets: &[Target],
+) -> Result<(), V::Stop>
+    ensures { OnOk result (visitor.new
+        ≡ visited_trees V.after visitor.old (given (option_map tree_of channel.now)
+        ++ map target_of targets.now)) }
+{
+    visit_given(visitor, channel)?;
+    visit_targets(visitor, targets)
+}
+
+/// Shows what a CHAIN names.
+fn visit_chain<V: Visitor>(
+    visitor: &mut V,
+    program: &Expr,
+    line: &Option<ChainLine>,
+) -> Result<(), V::Stop>
+    ensures { OnOk result (visitor.new
+        ≡ visited_trees V.after visitor.old (tree_of program.now ∷ map (λ l. l.number)
+        (given (option_map chain_line_of line.now)))) }
+{
+    visit_tree(visitor, program)?;
+    match line {
+        None => Ok(()),
+        Some(line) => visit_tree(visitor, &line.number),
+    }
+}
+
+/// Shows what an OPEN names.
+#[tactic(auto, using(crate::proofs::Showing::showing))]
+fn visit_open<V: Visitor>(
+    visitor: &mut V,
+    file: &Expr,
+    channel: &Expr,
+    record_size: &Option<Expr>,
+    cluster_size: &Option<Expr>,
+    mode: &Option<Expr>,
+) -> Result<(), V::Stop>
+    ensures { OnOk result (visitor.new
+        ≡ visited_trees V.after visitor.old (tree_of file.now ∷ tree_of channel.now
+        ∷ given (option_map tree_of record_size.now) ++ given (option_map tree_of cluster_size.now)
+        ++ given (option_map tree_of mode.now))) }
+{
+    visit_both(visitor, file, channel)?;
+    visit_given(visitor, record_size)?;
+    visit_given(visitor, cluster_size)?;
+    visit_given(visitor, mode)
+}
+
+/// Shows what a FIELD names.
+fn visit_field<V: Visitor>(
+    visitor: &mut V,
+    channel: &Expr,
+    fields: &[FieldPart],
+) -> Result<(), V::Stop>
+    ensures { OnOk result (visitor.new
+        ≡ visited_trees V.after visitor.old (tree_of channel.now ∷ map (λ part. part.width)
+        (map field_part_of fields.now))) }
+{
+    visit_tree(visitor, channel)?;
+    visit_widths(visitor, fields)
+}
+
+/// Shows two expressions.
+fn visit_both<V: Visitor>(visitor: &mut V, first: &Expr, second: &Expr) -> Result<(), V::Stop>
+    ensures { OnOk result (visitor.new
+        ≡ visited_trees V.after visitor.old (tree_of first.now ∷ tree_of second.now ∷ [])) }
+{
+    visit_tree(visitor, first)?;
+    visit_tree(visitor, second)
+}
 
 fn visit_tree<V: Visitor>(visitor: &mut V, e: &Expr) -> Result<(), V::Stop>
     ensures { OnOk result (visitor.new ≡ visited_trees V.after visitor.old (tree_of e.now ∷ [])) }
