@@ -1,5 +1,6 @@
 //! Decks that are refused: each cause, and the line at which it stands.
 
+use crate::expects::expect_none;
 use basic_values::Trouble;
 use deck_model::DeckCause;
 use deck_reader::read_deck;
@@ -118,9 +119,7 @@ static DECKS: [Row; 27] = [
 
 #[test]
 fn each_cause_stands_at_its_line(rt: HostRuntime) -> Result<(), Fail> {
-    let wrong = first_wrong(rt.alloc(), b"", &DECKS)?;
-    assert_eq!(rt; wrong, None);
-    Ok(())
+    expect_none(rt.alloc(), first_wrong(rt.alloc(), b"", &DECKS)?)
 }
 
 static QUOTAS: [Row; 10] = [
@@ -154,9 +153,10 @@ static QUOTAS: [Row; 10] = [
 
 #[test]
 fn each_cause_of_a_quota_stands_at_its_line(rt: HostRuntime) -> Result<(), Fail> {
-    let wrong = first_wrong(rt.alloc(), b"RSTS-DECK 2\nDISK 8\n", &QUOTAS)?;
-    assert_eq!(rt; wrong, None);
-    Ok(())
+    expect_none(
+        rt.alloc(),
+        first_wrong(rt.alloc(), b"RSTS-DECK 2\nDISK 8\n", &QUOTAS)?,
+    )
 }
 
 /// A disk of two blocks and an account.
@@ -199,9 +199,21 @@ static FILES: [Row; 20] = [
 
 #[test]
 fn each_cause_of_a_file_stands_at_its_line(rt: HostRuntime) -> Result<(), Fail> {
-    let wrong = first_wrong(rt.alloc(), FRONT, &FILES)?;
-    assert_eq!(rt; wrong, None);
-    Ok(())
+    expect_none(rt.alloc(), first_wrong(rt.alloc(), FRONT, &FILES)?)
+}
+
+/// Fails with where it is refused, unless it is at that line and for that cause.
+fn expect_refusal(
+    alloc: Global,
+    found: Option<(u32, DeckCause)>,
+    line: u32,
+    cause: DeckCause,
+) -> Result<(), Fail> {
+    match found {
+        Some((at, why)) if at == line && why == cause => Ok(()),
+        Some((at, _)) => Err(Fail::new(format!(in alloc; "it is refused at line {at}")?)),
+        None => Err("it is not refused")?,
+    }
 }
 
 /// The refusal of a front, so many letters A behind it, and the end of a deck.
@@ -221,16 +233,14 @@ fn refusal_of_long(
 fn a_text_of_511_bytes_is_beyond_one_block(rt: HostRuntime) -> Result<(), Fail> {
     let front = b"RSTS-DECK 1\nDISK 2\nACCOUNT 100,5 DEMO 9\nFILE [100,5]A<60> 1\n>";
     let found = refusal_of_long(rt.alloc(), front, 511)?;
-    assert_eq!(rt; found, Some((5, DeckCause::Space)));
-    Ok(())
+    expect_refusal(rt.alloc(), found, 5, DeckCause::Space)
 }
 
 #[test]
 fn a_key_line_has_at_most_255_bytes(rt: HostRuntime) -> Result<(), Fail> {
     let front = b"RSTS-DECK 1\nDISK 8\nTERMINAL T1\n>";
     let found = refusal_of_long(rt.alloc(), front, 256)?;
-    assert_eq!(rt; found, Some((4, DeckCause::Range)));
-    Ok(())
+    expect_refusal(rt.alloc(), found, 4, DeckCause::Range)
 }
 
 /// How many bytes from the front on are not refused as cut in their last line.
@@ -251,16 +261,20 @@ fn wrong_cut(alloc: Global, deck: &[u8]) -> Option<usize> {
 fn a_deck_cut_behind_each_of_its_bytes_ends_early(rt: HostRuntime) -> Result<(), Fail> {
     let deck = b"RSTS-DECK 1\nDISK 2\nACCOUNT 100,5 DEMO 9\nFILE [100,5]A.B<60> 1\n>10 END\n\
 TERMINAL T1\n>A\nEND\n";
-    assert_eq!(rt; wrong_cut(rt.alloc(), deck), None);
+    expect_none(rt.alloc(), wrong_cut(rt.alloc(), deck))
+}
+
+fn push_terminal(deck: &mut Vec<u8>, alloc: Global, number: u32) -> Result<(), Fail> {
+    let line = format!(in alloc; "TERMINAL T{number}\n")?;
+    deck.extend_from_slice(line.as_bytes())?;
     Ok(())
 }
 
 /// A deck of so many terminals.
 fn deck_of_terminals(alloc: Global, count: u32) -> Result<Vec<u8>, Fail> {
     let mut deck = b"RSTS-DECK 1\nDISK 8\n".to_vec(alloc)?;
-    for k in 0..count {
-        let line = format!(in alloc; "TERMINAL T{k}\n")?;
-        deck.extend_from_slice(line.as_bytes())?;
+    for number in 0..count {
+        push_terminal(&mut deck, alloc, number)?;
     }
     deck.extend_from_slice(b"END\n")?;
     Ok(deck)
@@ -270,6 +284,5 @@ fn deck_of_terminals(alloc: Global, count: u32) -> Result<Vec<u8>, Fail> {
 fn the_sixty_fourth_terminal_has_no_room(rt: HostRuntime) -> Result<(), Fail> {
     let deck = deck_of_terminals(rt.alloc(), 64)?;
     let found = refusal(rt.alloc(), deck.as_slice());
-    assert_eq!(rt; found, Some((66, DeckCause::Space)));
-    Ok(())
+    expect_refusal(rt.alloc(), found, 66, DeckCause::Space)
 }

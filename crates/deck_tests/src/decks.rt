@@ -1,5 +1,6 @@
 //! Decks that are read, told again as texts.
 
+use crate::expects::expect_bytes;
 use deck_reader::{Deck, Terminal, read_deck};
 use monitor_calls::{AccountEntry, FileEntry, Page};
 use std::alloc::Global;
@@ -16,31 +17,40 @@ fn told(alloc: Global, bytes: &[u8]) -> Result<Vec<u8>, Fail> {
     }
 }
 
+/// Fails with what the bytes spell, unless they spell this.
+fn expect_told(alloc: Global, bytes: &[u8], want: &[u8]) -> Result<(), Fail> {
+    let found = told(alloc, bytes)?;
+    expect_bytes(alloc, found.as_slice(), want)
+}
+
 fn deck_told(alloc: Global, deck: &Deck) -> Result<Vec<u8>, Fail> {
     let head = format!(in alloc; "{} blocks\n", deck.volume.blocks)?;
     let mut out = head.as_bytes().to_vec(alloc)?;
-    push_accounts(&mut out, alloc, deck.volume.accounts.as_slice())?;
-    push_files(&mut out, alloc, deck.volume.files.as_slice())?;
-    push_terminals(&mut out, deck.terminals.as_slice())?;
+    push_parts(&mut out, alloc, deck)?;
     Ok(out)
 }
 
-fn push_accounts(out: &mut Vec<u8>, alloc: Global, entries: &[AccountEntry]) -> Result<(), Fail> {
-    for entry in entries {
-        let (project, programmer) = (entry.account.project, entry.account.programmer);
-        let (limit, quota) = (entry.limit, entry.quota);
-        let numbers = format!(in alloc; "{project},{programmer} {limit} {quota} ")?;
-        out.extend_from_slice(numbers.as_bytes())?;
-        out.extend_from_slice(entry.password.as_bytes())?;
-        out.push(b'\n')?;
+fn push_parts(out: &mut Vec<u8>, alloc: Global, deck: &Deck) -> Result<(), Fail> {
+    for entry in deck.volume.accounts.as_slice() {
+        push_account(out, alloc, entry)?;
     }
-    Ok(())
-}
-
-fn push_files(out: &mut Vec<u8>, alloc: Global, files: &[FileEntry]) -> Result<(), Fail> {
-    for file in files {
+    for file in deck.volume.files.as_slice() {
         push_file(out, alloc, file)?;
     }
+    push_terminals(out, deck.terminals.as_slice())
+}
+
+fn push_account(out: &mut Vec<u8>, alloc: Global, entry: &AccountEntry) -> Result<(), Fail> {
+    let (project, programmer) = (entry.account.project, entry.account.programmer);
+    let (limit, quota) = (entry.limit, entry.quota);
+    let numbers = format!(in alloc; "{project},{programmer} {limit} {quota} ")?;
+    out.extend_from_slice(numbers.as_bytes())?;
+    push_line(out, entry.password.as_bytes())
+}
+
+fn push_line(out: &mut Vec<u8>, bytes: &[u8]) -> Result<(), Fail> {
+    out.extend_from_slice(bytes)?;
+    out.push(b'\n')?;
     Ok(())
 }
 
@@ -48,10 +58,14 @@ fn push_file(out: &mut Vec<u8>, alloc: Global, file: &FileEntry) -> Result<(), F
     let (project, programmer) = (file.name.owner.project, file.name.owner.programmer);
     let numbers = format!(in alloc; "{project},{programmer} {} ", file.code)?;
     out.extend_from_slice(numbers.as_bytes())?;
+    push_contents(out, file)
+}
+
+/// The name of a file and its pages.
+fn push_contents(out: &mut Vec<u8>, file: &FileEntry) -> Result<(), Fail> {
     out.extend_from_slice(file.name.stem.as_bytes())?;
     out.push(b'.')?;
-    out.extend_from_slice(file.name.extension.as_bytes())?;
-    out.push(b'\n')?;
+    push_line(out, file.name.extension.as_bytes())?;
     for page in file.pages.as_slice() {
         push_page(out, page)?;
     }
@@ -71,12 +85,10 @@ fn push_page(out: &mut Vec<u8>, page: &Page) -> Result<(), Fail> {
 
 fn push_terminals(out: &mut Vec<u8>, terminals: &[Terminal]) -> Result<(), Fail> {
     for terminal in terminals {
-        out.extend_from_slice(terminal.name.as_bytes())?;
-        out.push(b'\n')?;
+        push_line(out, terminal.name.as_bytes())?;
         for key in terminal.keys.as_slice() {
             out.push(b'>')?;
-            out.extend_from_slice(key.as_bytes())?;
-            out.push(b'\n')?;
+            push_line(out, key.as_bytes())?;
         }
     }
     Ok(())
@@ -89,16 +101,12 @@ TERMINAL T1\n>HELLO 1,2\n>\nTERMINAL T2345678\n>A\r\r\nEND\n";
 fn a_deck_is_read(rt: HostRuntime) -> Result<(), Fail> {
     let want =
         b"100 blocks\n1,2 50 100 PW3\n254,0 16384 100 A\nT1\n>HELLO 1,2\n>\nT2345678\n>A\r\n";
-    let found = told(rt.alloc(), DECK)?;
-    assert_eq!(rt; found.as_slice(), want.as_slice());
-    Ok(())
+    expect_told(rt.alloc(), DECK, want)
 }
 
 #[test]
 fn a_deck_without_accounts_and_terminals_is_read(rt: HostRuntime) -> Result<(), Fail> {
-    let found = told(rt.alloc(), b"RSTS-DECK 1\nDISK 1\nEND\n")?;
-    assert_eq!(rt; found.as_slice(), b"1 blocks\n".as_slice());
-    Ok(())
+    expect_told(rt.alloc(), b"RSTS-DECK 1\nDISK 1\nEND\n", b"1 blocks\n")
 }
 
 const FILES: &[u8] = b"RSTS-DECK 1\nDISK 3\nACCOUNT 100,5 DEMO 9\nFILE [100,5]SUM.BAS<40> 2\n\
@@ -107,9 +115,7 @@ const FILES: &[u8] = b"RSTS-DECK 1\nDISK 3\nACCOUNT 100,5 DEMO 9\nFILE [100,5]SU
 #[test]
 fn files_are_read_with_their_texts(rt: HostRuntime) -> Result<(), Fail> {
     let want = b"3 blocks\n100,5 9 3 DEMO\n100,5 40 SUM.BAS\n10 PRINT 1%\r\n\r\n**100,5 0 B.\n";
-    let found = told(rt.alloc(), FILES)?;
-    assert_eq!(rt; found.as_slice(), want.as_slice());
-    Ok(())
+    expect_told(rt.alloc(), FILES, want)
 }
 
 /// The first page has zeros behind the text, and the second nothing else.
@@ -117,9 +123,7 @@ fn files_are_read_with_their_texts(rt: HostRuntime) -> Result<(), Fail> {
 fn zeros_stand_behind_the_text_of_a_file(rt: HostRuntime) -> Result<(), Fail> {
     let deck = b"RSTS-DECK 1\nDISK 2\nACCOUNT 1,2 A 9\nFILE [1,2]B<0> 2\n>10 END\nEND\n";
     let want = b"2 blocks\n1,2 9 2 A\n1,2 0 B.\n10 END\r\n**";
-    let found = told(rt.alloc(), deck)?;
-    assert_eq!(rt; found.as_slice(), want.as_slice());
-    Ok(())
+    expect_told(rt.alloc(), deck, want)
 }
 
 /// In version 2 an account has the quota that its line tells.
@@ -128,7 +132,5 @@ fn quotas_are_read(rt: HostRuntime) -> Result<(), Fail> {
     let deck = b"RSTS-DECK 2\nDISK 8\nACCOUNT 100,5 DEMO 9 1\nACCOUNT 1,2 A 1 16384\n\
 FILE [100,5]A<60> 1\nEND\n";
     let want = b"8 blocks\n100,5 9 1 DEMO\n1,2 1 16384 A\n100,5 60 A.\n*";
-    let found = told(rt.alloc(), deck)?;
-    assert_eq!(rt; found.as_slice(), want.as_slice());
-    Ok(())
+    expect_told(rt.alloc(), deck, want)
 }

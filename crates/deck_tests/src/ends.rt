@@ -1,9 +1,11 @@
 //! Sources and sinks: what each call takes and gives, and where it fails.
 
+use crate::expects::{expect, expect_bytes, expect_none};
 use rsts_io::{
     DribbleSink, DribbleSource, Gave, INPUT_LIMIT, MemorySink, MemorySource, PlainSink,
     PlainSource, ReadEnd, SINK_ROOM, Sink, Source, StdSink, StdSource, Took, read_all,
 };
+use std::alloc::Global;
 use std::io;
 use std::io::{Read, Write};
 use std::test::Fail;
@@ -31,118 +33,170 @@ fn gifts<K: Sink>(sink: &mut K, text: &[u8], gifts: &mut [Gave]) {
     }
 }
 
-#[test]
-fn each_call_of_a_source_fails_in_turn(rt: HostRuntime) -> Result<(), Fail> {
-    let rows: [(&[u64], [Took; 4]); 5] = [
-        (&[], [Took::Bytes(2), Took::Bytes(1), Took::End, Took::End]),
-        (
-            &[1],
-            [Took::Failed, Took::Bytes(2), Took::Bytes(1), Took::End],
-        ),
-        (
-            &[2],
-            [Took::Bytes(2), Took::Failed, Took::Bytes(1), Took::End],
-        ),
-        (
-            &[3],
-            [Took::Bytes(2), Took::Bytes(1), Took::Failed, Took::End],
-        ),
-        (
-            &[2, 4],
-            [Took::Bytes(2), Took::Failed, Took::Bytes(1), Took::Failed],
-        ),
-    ];
-    for (failing, want) in rows {
-        let mut source = MemorySource::new(rt.alloc(), b"abc", failing)?;
-        let mut got = [Took::End; 4];
-        answers(&mut source, &mut got);
-        assert_eq!(rt; got, want);
+/// Which calls of a source of three bytes fail, and its answers.
+static SOURCES: [(&[u64], [Took; 4]); 5] = [
+    (&[], [Took::Bytes(2), Took::Bytes(1), Took::End, Took::End]),
+    (
+        &[1],
+        [Took::Failed, Took::Bytes(2), Took::Bytes(1), Took::End],
+    ),
+    (
+        &[2],
+        [Took::Bytes(2), Took::Failed, Took::Bytes(1), Took::End],
+    ),
+    (
+        &[3],
+        [Took::Bytes(2), Took::Bytes(1), Took::Failed, Took::End],
+    ),
+    (
+        &[2, 4],
+        [Took::Bytes(2), Took::Failed, Took::Bytes(1), Took::Failed],
+    ),
+];
+
+/// Whether a source of which these calls fail answers so.
+fn is_taken(alloc: Global, failing: &[u64], want: &[Took]) -> Result<bool, Fail> {
+    let mut source = MemorySource::new(alloc, b"abc", failing)?;
+    let mut got = [Took::End; 4];
+    answers(&mut source, &mut got);
+    Ok(got.as_slice() == want)
+}
+
+fn first_wrong_source(alloc: Global) -> Result<Option<usize>, Fail> {
+    for (place, (failing, want)) in SOURCES.iter().enumerate() {
+        if !is_taken(alloc, failing, want)? {
+            return Ok(Some(place));
+        }
     }
-    let mut source = PlainSource::new(rt.alloc(), b"abc")?;
+    Ok(None)
+}
+
+/// The same of a source of which no call fails.
+fn is_plainly_taken(alloc: Global, want: &[Took]) -> Result<bool, Fail> {
+    let mut source = PlainSource::new(alloc, b"abc")?;
     let mut got = [Took::Failed; 4];
     answers(&mut source, &mut got);
-    assert_eq!(rt; got, [Took::Bytes(2), Took::Bytes(1), Took::End, Took::End]);
-    Ok(())
+    Ok(got.as_slice() == want)
+}
+
+#[test]
+fn each_call_of_a_source_fails_in_turn(rt: HostRuntime) -> Result<(), Fail> {
+    expect_none(rt.alloc(), first_wrong_source(rt.alloc())?)?;
+    let want = [Took::Bytes(2), Took::Bytes(1), Took::End, Took::End];
+    expect(is_plainly_taken(rt.alloc(), &want)?, "a plain source")
+}
+
+/// Which calls of a sink fail, its answers, and what it has then.
+static SINKS: [(&[u64], [Gave; 2], &[u8]); 3] = [
+    (&[], [Gave::Bytes(3), Gave::Failed], b"abc"),
+    (&[1], [Gave::Failed, Gave::Bytes(3)], b"abc"),
+    (&[1, 2], [Gave::Failed, Gave::Failed], b""),
+];
+
+/// Whether a sink of which these calls fail answers so, and has these bytes then.
+fn is_given(alloc: Global, failing: &[u64], want: &[Gave], bytes: &[u8]) -> Result<bool, Fail> {
+    let mut sink = MemorySink::new(alloc, failing)?;
+    let mut got = [Gave::Failed; 2];
+    gifts(&mut sink, b"abc", &mut got);
+    Ok(got.as_slice() == want && sink.bytes() == bytes)
+}
+
+fn first_wrong_sink(alloc: Global) -> Result<Option<usize>, Fail> {
+    for (place, (failing, want, bytes)) in SINKS.iter().enumerate() {
+        if !is_given(alloc, failing, want, bytes)? {
+            return Ok(Some(place));
+        }
+    }
+    Ok(None)
 }
 
 #[test]
 fn each_call_of_a_sink_fails_in_turn(rt: HostRuntime) -> Result<(), Fail> {
-    let rows: [(&[u64], [Gave; 2], &[u8]); 3] = [
-        (&[], [Gave::Bytes(3), Gave::Failed], b"abc"),
-        (&[1], [Gave::Failed, Gave::Bytes(3)], b"abc"),
-        (&[1, 2], [Gave::Failed, Gave::Failed], b""),
-    ];
-    for (failing, want, bytes) in rows {
-        let mut sink = MemorySink::new(rt.alloc(), failing)?;
-        let mut got = [Gave::Failed; 2];
-        gifts(&mut sink, b"abc", &mut got);
-        assert_eq!(rt; got, want);
-        assert_eq!(rt; sink.bytes(), bytes);
+    expect_none(rt.alloc(), first_wrong_sink(rt.alloc())?)
+}
+
+/// Whether a sink answers so to a piece that it is given three times, and is full then.
+fn is_filled(alloc: Global, want: &[Gave]) -> Result<bool, Fail> {
+    let mut sink = PlainSink::new(alloc)?;
+    let piece = vec![in alloc; 7; 10_000_000]?;
+    let mut got = [Gave::Failed; 3];
+    for gift in got.iter_mut() {
+        *gift = sink.give(&piece[..]);
     }
-    Ok(())
+    Ok(got.as_slice() == want && sink.bytes().len() == SINK_ROOM)
 }
 
 /// A piece that the room does not hold is taken in part, and the next one not at all.
 #[test]
 fn a_full_sink_takes_what_fits(rt: HostRuntime) -> Result<(), Fail> {
-    let mut sink = PlainSink::new(rt.alloc())?;
-    let piece = vec![in rt.alloc(); 7; 10_000_000]?;
-    let mut got = [Gave::Failed; 3];
-    for gift in got.iter_mut() {
-        *gift = sink.give(&piece[..]);
-    }
-    assert_eq!(rt;
-        got,
-        [
-            Gave::Bytes(10_000_000),
-            Gave::Bytes(6_777_216),
-            Gave::Failed
-        ]
-    );
-    assert_eq!(rt; sink.bytes().len(), SINK_ROOM);
-    Ok(())
+    let want = [
+        Gave::Bytes(10_000_000),
+        Gave::Bytes(6_777_216),
+        Gave::Failed,
+    ];
+    expect(is_filled(rt.alloc(), &want)?, "a sink that is filled")
 }
 
-/// Ends that move at most so many bytes a call, at least one.
+/// How many bytes a call moves at most, the answers of a source of three bytes and of a sink that
+/// is given five, and what the sink has then.
+type Dribble = (usize, [Took; 4], [Gave; 4], &'static [u8]);
+
+static DRIBBLES: [Dribble; 3] = [
+    (
+        1,
+        [Took::Bytes(1), Took::Bytes(1), Took::Bytes(1), Took::End],
+        [
+            Gave::Bytes(1),
+            Gave::Bytes(1),
+            Gave::Bytes(1),
+            Gave::Bytes(1),
+        ],
+        b"abcd",
+    ),
+    (
+        2,
+        [Took::Bytes(2), Took::Bytes(1), Took::End, Took::End],
+        [Gave::Bytes(2), Gave::Bytes(2), Gave::Bytes(1), Gave::Failed],
+        b"abcde",
+    ),
+    (
+        7,
+        [Took::Bytes(2), Took::Bytes(1), Took::End, Took::End],
+        [Gave::Bytes(5), Gave::Failed, Gave::Failed, Gave::Failed],
+        b"abcde",
+    ),
+];
+
+/// Whether a source that gives at most so many bytes a call, at least one, answers so.
+fn is_taken_slowly(alloc: Global, most: usize, want: &[Took]) -> Result<bool, Fail> {
+    let mut source = DribbleSource::new(alloc, b"abc", most.max(1))?;
+    let mut got = [Took::Failed; 4];
+    answers(&mut source, &mut got);
+    Ok(got.as_slice() == want)
+}
+
+/// Whether a sink that takes at most so many answers so, and has these bytes then.
+fn is_given_slowly(alloc: Global, most: usize, want: &[Gave], bytes: &[u8]) -> Result<bool, Fail> {
+    let mut sink = DribbleSink::new(alloc, most.max(1))?;
+    let mut got = [Gave::Failed; 4];
+    gifts(&mut sink, b"abcde", &mut got);
+    Ok(got.as_slice() == want && sink.bytes() == bytes)
+}
+
+fn first_wrong_dribble(alloc: Global) -> Result<Option<usize>, Fail> {
+    for (place, (most, taken, given, bytes)) in DRIBBLES.iter().enumerate() {
+        let is_right = is_taken_slowly(alloc, *most, taken)?
+            && is_given_slowly(alloc, *most, given, bytes)?;
+        if !is_right {
+            return Ok(Some(place));
+        }
+    }
+    Ok(None)
+}
+
 #[test]
 fn few_bytes_move_a_call(rt: HostRuntime) -> Result<(), Fail> {
-    let rows: [(usize, [Took; 4], [Gave; 4], &[u8]); 3] = [
-        (
-            1,
-            [Took::Bytes(1), Took::Bytes(1), Took::Bytes(1), Took::End],
-            [
-                Gave::Bytes(1),
-                Gave::Bytes(1),
-                Gave::Bytes(1),
-                Gave::Bytes(1),
-            ],
-            b"abcd",
-        ),
-        (
-            2,
-            [Took::Bytes(2), Took::Bytes(1), Took::End, Took::End],
-            [Gave::Bytes(2), Gave::Bytes(2), Gave::Bytes(1), Gave::Failed],
-            b"abcde",
-        ),
-        (
-            7,
-            [Took::Bytes(2), Took::Bytes(1), Took::End, Took::End],
-            [Gave::Bytes(5), Gave::Failed, Gave::Failed, Gave::Failed],
-            b"abcde",
-        ),
-    ];
-    for (most, taken, given, bytes) in rows {
-        let mut source = DribbleSource::new(rt.alloc(), b"abc", most)?;
-        let mut got = [Took::Failed; 4];
-        answers(&mut source, &mut got);
-        assert_eq!(rt; got, taken);
-        let mut sink = DribbleSink::new(rt.alloc(), most)?;
-        let mut put = [Gave::Failed; 4];
-        gifts(&mut sink, b"abcde", &mut put);
-        assert_eq!(rt; put, given);
-        assert_eq!(rt; sink.bytes(), bytes);
-    }
-    Ok(())
+    expect_none(rt.alloc(), first_wrong_dribble(rt.alloc())?)
 }
 
 /// A reader that gives one byte a call, and fails once, before its second byte.
@@ -168,21 +222,26 @@ impl Read for FailsOnce {
     }
 }
 
-#[test]
-fn a_source_goes_on_behind_a_failed_read(rt: HostRuntime) {
+/// Whether a source goes on behind a read that failed, up to its end.
+fn goes_on() -> bool {
     let mut source = StdSource::new(FailsOnce {
         text: b"ab",
         before: Some(1),
     });
     let mut text = [0u8; 2];
-    let first = source.take(&mut text[..1]);
-    assert_eq!(rt; first, Took::Bytes(1));
-    let second = source.take(&mut text[1..]);
-    assert_eq!(rt; second, Took::Failed);
-    let third = source.take(&mut text[1..]);
-    assert_eq!(rt; third, Took::Bytes(1));
-    assert_eq!(rt; text.as_slice(), b"ab".as_slice());
-    assert_eq!(rt; source.take(&mut text), Took::End);
+    let took = [
+        source.take(&mut text[..1]),
+        source.take(&mut text[1..]),
+        source.take(&mut text[1..]),
+    ];
+    took == [Took::Bytes(1), Took::Failed, Took::Bytes(1)]
+        && text == *b"ab"
+        && source.take(&mut text) == Took::End
+}
+
+#[test]
+fn a_source_goes_on_behind_a_failed_read(_rt: HostRuntime) -> Result<(), Fail> {
+    expect(goes_on(), "a source behind a failed read")
 }
 
 /// A writer that takes two bytes a call, fails once, before its third byte, and takes nothing
@@ -212,40 +271,51 @@ impl Write for TakesLittle<'_> {
     }
 }
 
-#[test]
-fn a_sink_goes_on_behind_a_failed_write(rt: HostRuntime) {
-    let mut kept = Vec::new(rt.alloc());
+/// What such a sink answers when it is given the text, and is to keep of it.
+fn gifts_kept(kept: &mut Vec<u8>, text: &[u8]) -> [Gave; 4] {
     let mut got = [Gave::Bytes(0); 4];
-    {
-        let mut sink = StdSink::new(TakesLittle {
-            kept: &mut kept,
-            fails: true,
-        });
-        gifts(&mut sink, b"abcde", &mut got);
+    let mut sink = StdSink::new(TakesLittle { kept, fails: true });
+    gifts(&mut sink, text, &mut got);
+    got
+}
+
+#[test]
+fn a_sink_goes_on_behind_a_failed_write(rt: HostRuntime) -> Result<(), Fail> {
+    let mut kept = Vec::new(rt.alloc());
+    let got = gifts_kept(&mut kept, b"abcde");
+    let want = [Gave::Bytes(2), Gave::Failed, Gave::Bytes(2), Gave::Failed];
+    expect(got == want, "a sink behind a failed write")?;
+    expect_bytes(rt.alloc(), kept.as_slice(), b"abcd")
+}
+
+/// How many bytes a source has, and why they are not read.
+static LENGTHS: [(usize, Option<ReadEnd>); 4] = [
+    (0, None),
+    (5000, None),
+    (INPUT_LIMIT, None),
+    (INPUT_LIMIT + 1, Some(ReadEnd::TooLong)),
+];
+
+/// Whether a source of so many bytes is read whole, or is not read for this reason.
+fn is_read(alloc: Global, count: usize, why: Option<ReadEnd>) -> Result<bool, Fail> {
+    let bytes = vec![in alloc; b'A'; count]?;
+    let mut source = PlainSource::new(alloc, &bytes[..])?;
+    Ok(match read_all(alloc, &mut source, INPUT_LIMIT) {
+        Ok(read) => why == None && read.len() == count,
+        Err(end) => why == Some(end),
+    })
+}
+
+fn first_wrong_length(alloc: Global) -> Result<Option<usize>, Fail> {
+    for (place, (count, why)) in LENGTHS.iter().enumerate() {
+        if !is_read(alloc, *count, *why)? {
+            return Ok(Some(place));
+        }
     }
-    assert_eq!(rt;
-        got,
-        [Gave::Bytes(2), Gave::Failed, Gave::Bytes(2), Gave::Failed]
-    );
-    assert_eq!(rt; kept.as_slice(), b"abcd".as_slice());
+    Ok(None)
 }
 
 #[test]
 fn a_source_is_read_to_its_end(rt: HostRuntime) -> Result<(), Fail> {
-    let rows: [(usize, Option<ReadEnd>); 4] = [
-        (0, None),
-        (5000, None),
-        (INPUT_LIMIT, None),
-        (INPUT_LIMIT + 1, Some(ReadEnd::TooLong)),
-    ];
-    for (count, want) in rows {
-        let bytes = vec![in rt.alloc(); b'A'; count]?;
-        let mut source = PlainSource::new(rt.alloc(), &bytes[..])?;
-        let got = read_all(rt.alloc(), &mut source, INPUT_LIMIT);
-        assert_eq!(rt; got.as_ref().err().copied(), want);
-        if want.is_none() {
-            assert_eq!(rt; got.map(|v| v.len()), Ok(count));
-        }
-    }
-    Ok(())
+    expect_none(rt.alloc(), first_wrong_length(rt.alloc())?)
 }

@@ -1,101 +1,110 @@
 //! The texts of histories.
 
+use crate::expects::expect_bytes;
 use basic_values::{Fault, Series, Text};
 use monitor_calls::{Account, Entry, Page, Reply, Request, Short};
 use report_texts::push_history;
 use std::alloc::Global;
 use std::test::Fail;
 
+fn push_entry(
+    history: &mut Vec<Entry>,
+    job: u32,
+    request: Request,
+    reply: Reply,
+) -> Result<(), Fail> {
+    history.push(Entry::new(job, request, reply))?;
+    Ok(())
+}
+
 /// A login that is refused.
-fn refused_login(text: &[u8]) -> Result<Entry, Fail> {
+fn push_login(history: &mut Vec<Entry>, text: &[u8]) -> Result<(), Fail> {
     let account = Account {
         project: 100,
         programmer: 5,
     };
     let password = Short::of(text).ok_or("no short text")?;
     let request = Request::Login { account, password };
-    Ok(Entry::new(62, request, Reply::Failed(Fault::new(5))))
+    push_entry(history, 62, request, Reply::Failed(Fault::new(5)))
 }
 
 /// Two refused logins, a Tick and a logout.
-fn history(alloc: Global) -> Result<Vec<Entry>, Fail> {
-    let mut history = Vec::new(alloc);
-    history.push(refused_login(b"")?)?;
-    history.push(refused_login(b"DEMO")?)?;
-    history.push(Entry::new(0, Request::Tick, Reply::Expired))?;
-    history.push(Entry::new(1, Request::Logout, Reply::Done))?;
-    Ok(history)
+fn push_logins(history: &mut Vec<Entry>) -> Result<(), Fail> {
+    push_login(history, b"")?;
+    push_login(history, b"DEMO")?;
+    push_entry(history, 0, Request::Tick, Reply::Expired)?;
+    push_entry(history, 1, Request::Logout, Reply::Done)
 }
 
 /// The text of an empty history, and that of these calls behind it.
-fn texts(alloc: Global, history: &[Entry]) -> Result<Vec<u8>, Fail> {
-    let mut out = Vec::new(alloc);
-    push_history(&mut out, &[])?;
-    push_history(&mut out, history)?;
-    Ok(out)
+fn push_texts(out: &mut Vec<u8>, history: &[Entry]) -> Result<(), Fail> {
+    push_history(out, &[])?;
+    push_history(out, history)?;
+    Ok(())
+}
+
+/// Fails with these texts, unless they are this.
+fn expect_texts(alloc: Global, history: &[Entry], want: &[u8]) -> Result<(), Fail> {
+    let mut found = Vec::new(alloc);
+    push_texts(&mut found, history)?;
+    expect_bytes(alloc, found.as_slice(), want)
 }
 
 #[test]
 fn each_call_has_a_line(rt: HostRuntime) -> Result<(), Fail> {
-    let history = history(rt.alloc())?;
-    let found = texts(rt.alloc(), history.as_slice())?;
+    let mut history = Vec::new(rt.alloc());
+    push_logins(&mut history)?;
     let want = b"HISTORY 0\nHISTORY 4\n62 LOGIN 100,5 - = FAILED 5\n\
 62 LOGIN 100,5 44454d4f = FAILED 5\n0 TICK = EXPIRED\n1 LOGOUT = DONE\n";
-    assert_eq!(rt; found.as_slice(), want.as_slice());
-    Ok(())
+    expect_texts(rt.alloc(), history.as_slice(), want)
 }
 
-/// So many blocks, each of 512 times this letter.
+/// A block of 512 times this letter.
+fn page_of(alloc: Global, letter: u8) -> Result<Page, Fail> {
+    let bytes = vec![in alloc; letter; 512]?;
+    let mut page = Page::new(alloc)?;
+    page.fill(&bytes);
+    Ok(page)
+}
+
+/// So many blocks, each of one letter.
 fn pages(alloc: Global, letters: &[u8]) -> Result<Series<Page>, Fail> {
     let mut pages = Vec::new(alloc);
     for letter in letters {
-        let bytes = vec![in alloc; *letter; 512]?;
-        let mut page = Page::new(alloc)?;
-        page.fill(&bytes);
-        pages.push(page)?;
+        pages.push(page_of(alloc, *letter)?)?;
     }
     Ok(Series::from_vec(pages))
 }
 
-fn reading(alloc: Global, letters: &[u8]) -> Result<Entry, Fail> {
+fn push_reading(history: &mut Vec<Entry>, alloc: Global, letters: &[u8]) -> Result<(), Fail> {
+    let pages = pages(alloc, letters)?;
     let request = Request::GetRecord {
         channel: 1,
         block: 2,
         count: 3,
     };
-    Ok(Entry::new(0, request, Reply::Record(pages(alloc, letters)?)))
+    push_entry(history, 0, request, Reply::Record(pages))
 }
 
-fn writing(alloc: Global, letters: &[u8], reply: Reply) -> Result<Entry, Fail> {
+fn push_writing(
+    history: &mut Vec<Entry>,
+    alloc: Global,
+    letters: &[u8],
+    reply: Reply,
+) -> Result<(), Fail> {
     let request = Request::PutRecord {
         channel: 12,
         block: 65535,
         pages: pages(alloc, letters)?,
     };
-    Ok(Entry::new(62, request, reply))
+    push_entry(history, 62, request, reply)
 }
 
 /// A record of two blocks that is read, one that is written, and one of no block.
-fn records(alloc: Global) -> Result<Vec<Entry>, Fail> {
-    let mut history = Vec::new(alloc);
-    history.push(reading(alloc, b"Ab")?)?;
-    history.push(writing(alloc, b"z", Reply::Done)?)?;
-    history.push(writing(alloc, b"", Reply::Failed(Fault::new(31)))?)?;
-    Ok(history)
-}
-
-#[test]
-fn a_record_is_one_run_of_signs(rt: HostRuntime) -> Result<(), Fail> {
-    let history = records(rt.alloc())?;
-    let found = texts(rt.alloc(), history.as_slice())?;
-    let mut want = b"HISTORY 0\nHISTORY 3\n0 GETREC 1 2 3 = RECORD ".to_vec(rt.alloc())?;
-    push_times(&mut want, b"41", 512)?;
-    push_times(&mut want, b"62", 512)?;
-    want.extend_from_slice(b"\n62 PUTREC 12 65535 ")?;
-    push_times(&mut want, b"7a", 512)?;
-    want.extend_from_slice(b" = DONE\n62 PUTREC 12 65535 - = FAILED 31\n")?;
-    assert_eq!(rt; found.as_slice(), want.as_slice());
-    Ok(())
+fn push_records(history: &mut Vec<Entry>, alloc: Global) -> Result<(), Fail> {
+    push_reading(history, alloc, b"Ab")?;
+    push_writing(history, alloc, b"z", Reply::Done)?;
+    push_writing(history, alloc, b"", Reply::Failed(Fault::new(31)))
 }
 
 fn push_times(out: &mut Vec<u8>, signs: &[u8], times: u32) -> Result<(), Fail> {
@@ -105,6 +114,33 @@ fn push_times(out: &mut Vec<u8>, signs: &[u8], times: u32) -> Result<(), Fail> {
     Ok(())
 }
 
+/// Parts of a text, each so many times.
+static RECORDS: [(&[u8], u32); 6] = [
+    (b"HISTORY 0\nHISTORY 3\n0 GETREC 1 2 3 = RECORD ", 1),
+    (b"41", 512),
+    (b"62", 512),
+    (b"\n62 PUTREC 12 65535 ", 1),
+    (b"7a", 512),
+    (b" = DONE\n62 PUTREC 12 65535 - = FAILED 31\n", 1),
+];
+
+/// The text of the parts.
+fn text_of(alloc: Global, parts: &[(&[u8], u32)]) -> Result<Vec<u8>, Fail> {
+    let mut out = Vec::new(alloc);
+    for (signs, times) in parts {
+        push_times(&mut out, signs, *times)?;
+    }
+    Ok(out)
+}
+
+#[test]
+fn a_record_is_one_run_of_signs(rt: HostRuntime) -> Result<(), Fail> {
+    let want = text_of(rt.alloc(), &RECORDS)?;
+    let mut history = Vec::new(rt.alloc());
+    push_records(&mut history, rt.alloc())?;
+    expect_texts(rt.alloc(), history.as_slice(), want.as_slice())
+}
+
 fn printing(alloc: Global, text: &[u8]) -> Result<Request, Fail> {
     match Text::of(alloc, text) {
         Ok(text) => Ok(Request::Print { text }),
@@ -112,24 +148,25 @@ fn printing(alloc: Global, text: &[u8]) -> Result<Request, Fail> {
     }
 }
 
+fn push_printing(history: &mut Vec<Entry>, alloc: Global, text: &[u8]) -> Result<(), Fail> {
+    push_entry(history, 0, printing(alloc, text)?, Reply::Done)
+}
+
 /// Each call of the printer, by one job.
-fn listing(alloc: Global) -> Result<Vec<Entry>, Fail> {
-    let mut history = Vec::new(alloc);
-    history.push(Entry::new(0, Request::Assign, Reply::Done))?;
-    history.push(Entry::new(0, Request::OpenPrinter, Reply::Done))?;
-    history.push(Entry::new(0, printing(alloc, b"HI")?, Reply::Done))?;
-    history.push(Entry::new(0, printing(alloc, b"")?, Reply::Done))?;
-    history.push(Entry::new(0, Request::ClosePrinter, Reply::Done))?;
-    history.push(Entry::new(0, Request::Deassign, Reply::Expired))?;
-    Ok(history)
+fn push_listing(history: &mut Vec<Entry>, alloc: Global) -> Result<(), Fail> {
+    push_entry(history, 0, Request::Assign, Reply::Done)?;
+    push_entry(history, 0, Request::OpenPrinter, Reply::Done)?;
+    push_printing(history, alloc, b"HI")?;
+    push_printing(history, alloc, b"")?;
+    push_entry(history, 0, Request::ClosePrinter, Reply::Done)?;
+    push_entry(history, 0, Request::Deassign, Reply::Expired)
 }
 
 #[test]
 fn each_call_of_the_printer_has_a_line(rt: HostRuntime) -> Result<(), Fail> {
-    let history = listing(rt.alloc())?;
-    let found = texts(rt.alloc(), history.as_slice())?;
+    let mut history = Vec::new(rt.alloc());
+    push_listing(&mut history, rt.alloc())?;
     let want = b"HISTORY 0\nHISTORY 6\n0 ASSIGN = DONE\n0 LPOPEN = DONE\n0 LPPRINT 4849 = DONE\n\
 0 LPPRINT - = DONE\n0 LPCLOSE = DONE\n0 DEASSIGN = EXPIRED\n";
-    assert_eq!(rt; found.as_slice(), want.as_slice());
-    Ok(())
+    expect_texts(rt.alloc(), history.as_slice(), want)
 }

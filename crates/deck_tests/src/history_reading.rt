@@ -1,7 +1,9 @@
 //! The reading of histories.
 
+use crate::expects::expect_none;
 use basic_values::Trouble;
 use history_reader::read_history;
+use monitor_calls::Entry;
 use report_texts::push_history;
 use std::alloc::Global;
 use std::test::Fail;
@@ -17,13 +19,19 @@ fn text_of(alloc: Global, line: &[u8]) -> Result<Vec<u8>, Fail> {
     Ok(text)
 }
 
-/// What is written of the history that is read of the text; nothing where it is refused.
-fn written_again(alloc: Global, text: &[u8]) -> Result<Vec<u8>, Fail> {
+/// Whether the text is that of this history.
+fn is_text_of(alloc: Global, history: &[Entry], text: &[u8]) -> Result<bool, Fail> {
     let mut again = Vec::new(alloc);
-    if let Ok(history) = read_history(alloc, text) {
-        push_history(&mut again, history.as_slice())?;
+    push_history(&mut again, history)?;
+    Ok(again.as_slice() == text)
+}
+
+/// Whether a history is read of the text, and its text is this one.
+fn is_read_back(alloc: Global, text: &[u8]) -> Result<bool, Fail> {
+    match read_history(alloc, text) {
+        Ok(history) => is_text_of(alloc, history.as_slice(), text),
+        Err(_) => Ok(false),
     }
-    Ok(again)
 }
 
 /// Behind how many lines the text is refused.
@@ -34,22 +42,32 @@ fn refusal(alloc: Global, text: &[u8]) -> Option<usize> {
     }
 }
 
+/// Whether a text of this line is read as it was written.
+fn is_line_read(alloc: Global, line: &[u8]) -> Result<bool, Fail> {
+    let text = text_of(alloc, line)?;
+    is_read_back(alloc, text.as_slice())
+}
+
 /// The place of the first line that is not read as it was written.
 fn first_unread(alloc: Global, lines: &[&'static [u8]]) -> Result<Option<usize>, Fail> {
     for (place, line) in lines.iter().enumerate() {
-        let text = text_of(alloc, line)?;
-        if written_again(alloc, text.as_slice())?.as_slice() != text.as_slice() {
+        if !is_line_read(alloc, line)? {
             return Ok(Some(place));
         }
     }
     Ok(None)
 }
 
+/// Whether a text of this line is refused behind its first line.
+fn is_line_refused(alloc: Global, line: &[u8]) -> Result<bool, Fail> {
+    let text = text_of(alloc, line)?;
+    Ok(refusal(alloc, text.as_slice()) == Some(1))
+}
+
 /// The place of the first line that is not refused.
 fn first_taken(alloc: Global, lines: &[&'static [u8]]) -> Result<Option<usize>, Fail> {
     for (place, line) in lines.iter().enumerate() {
-        let text = text_of(alloc, line)?;
-        if refusal(alloc, text.as_slice()) != Some(1) {
+        if !is_line_refused(alloc, line)? {
             return Ok(Some(place));
         }
     }
@@ -105,9 +123,7 @@ static WRITTEN: [&'static [u8]; 33] = [
 
 #[test]
 fn each_entry_is_read_back(rt: HostRuntime) -> Result<(), Fail> {
-    let found = first_unread(rt.alloc(), WRITTEN.as_slice())?;
-    assert_eq!(rt; found, None);
-    Ok(())
+    expect_none(rt.alloc(), first_unread(rt.alloc(), WRITTEN.as_slice())?)
 }
 
 /// Lines that are wrong in one way each.
@@ -242,9 +258,7 @@ static BROKEN: [&'static [u8]; 126] = [
 
 #[test]
 fn each_broken_line_is_refused(rt: HostRuntime) -> Result<(), Fail> {
-    let found = first_taken(rt.alloc(), BROKEN.as_slice())?;
-    assert_eq!(rt; found, None);
-    Ok(())
+    expect_none(rt.alloc(), first_taken(rt.alloc(), BROKEN.as_slice())?)
 }
 
 /// Texts that are no history's.
@@ -290,19 +304,23 @@ static TEXTS: [Row; 28] = [
 
 #[test]
 fn a_text_is_refused_behind_its_good_lines(rt: HostRuntime) -> Result<(), Fail> {
-    let found = first_wrong(rt.alloc(), TEXTS.as_slice());
-    assert_eq!(rt; found, None);
+    expect_none(rt.alloc(), first_wrong(rt.alloc(), TEXTS.as_slice()))
+}
+
+/// So many bytes as signs, and this end.
+fn push_signs(line: &mut Vec<u8>, bytes: u32, end: &[u8]) -> Result<(), Fail> {
+    for _ in 0..bytes {
+        line.extend_from_slice(b"0f")?;
+    }
+    line.extend_from_slice(end)?;
     Ok(())
 }
 
 /// A line with this front, so many bytes as signs, and this end.
 fn line_of(alloc: Global, front: &[u8], bytes: u32, end: &[u8]) -> Result<Vec<u8>, Fail> {
     let mut line = front.to_vec(alloc)?;
-    for _ in 0..bytes {
-        line.extend_from_slice(b"0f")?;
-    }
-    line.extend_from_slice(end)?;
-    text_of(alloc, line.as_slice())
+    push_signs(&mut line, bytes, end)?;
+    Ok(line)
 }
 
 /// What stands before a block or blocks, how many bytes they have, what stands behind them, and
@@ -326,12 +344,16 @@ static PAGES: [PageRow; 14] = [
     (b"0 GETREC 1 1 3 = RECORD ", 512, b"-", false),
 ];
 
+/// Whether the line of a row is read as it was written.
+fn is_page_read(alloc: Global, row: &PageRow) -> Result<bool, Fail> {
+    let line = line_of(alloc, row.0, row.1, row.2)?;
+    is_line_read(alloc, line.as_slice())
+}
+
 /// The place of the first row that is told otherwise.
 fn first_page_wrong(alloc: Global, rows: &[PageRow]) -> Result<Option<usize>, Fail> {
-    for (place, (front, bytes, end, is_good)) in rows.iter().enumerate() {
-        let text = line_of(alloc, front, *bytes, end)?;
-        let again = written_again(alloc, text.as_slice())?;
-        if (again.as_slice() == text.as_slice()) != *is_good {
+    for (place, row) in rows.iter().enumerate() {
+        if is_page_read(alloc, row)? != row.3 {
             return Ok(Some(place));
         }
     }
@@ -340,7 +362,5 @@ fn first_page_wrong(alloc: Global, rows: &[PageRow]) -> Result<Option<usize>, Fa
 
 #[test]
 fn blocks_are_whole(rt: HostRuntime) -> Result<(), Fail> {
-    let found = first_page_wrong(rt.alloc(), PAGES.as_slice())?;
-    assert_eq!(rt; found, None);
-    Ok(())
+    expect_none(rt.alloc(), first_page_wrong(rt.alloc(), PAGES.as_slice())?)
 }

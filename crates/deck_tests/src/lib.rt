@@ -11,6 +11,8 @@ mod drills;
 #[cfg(test)]
 mod ends;
 #[cfg(test)]
+mod expects;
+#[cfg(test)]
 mod histories;
 #[cfg(test)]
 mod history_reading;

@@ -1,9 +1,11 @@
 //! Seats that are split off, ask in turn, and are joined.
 
+use crate::expects::{expect, expect_none};
 use crate::volumes::{login, volume};
 use monitor_calls::{Entry, Reply, Request, RunRecord};
 use monitor_core::Monitor;
 use monitor_gate::Gate;
+use std::alloc::Global;
 use std::test::Fail;
 
 /// What an entry asks, by its name.
@@ -33,11 +35,22 @@ fn is_done(reply: &Reply) -> bool {
     matches!(reply, Reply::Done)
 }
 
+/// Fails unless the job was refused before its login, and the record has what was asked in turn.
+fn expect_kept(alloc: Global, replies: [&Reply; 3], record: &RunRecord) -> Result<(), Fail> {
+    let [early, entered, left] = replies;
+    let are_right = !is_done(early) && is_done(entered) && is_done(left);
+    expect(are_right, "another reply")?;
+    let wanted = [(1, "Tick"), (0, "Login"), (0, "Logout")];
+    expect_none(alloc, first_other(record, &wanted))
+}
+
 #[test]
 fn seats_ask_one_monitor(rt: HostRuntime) -> Result<(), Fail> {
     let alloc = rt.alloc();
     let volume = volume(alloc)?;
-    assert!(rt; volume.is_good());
+    if !volume.is_good() {
+        return Err(Fail::new("the volume is not good"));
+    }
     let monitor = Monitor::open(alloc, &volume, 2)?;
     let (gate, mut spare) = Gate::new(alloc, monitor)?;
     let mut first = gate.split(&mut spare);
@@ -48,8 +61,5 @@ fn seats_ask_one_monitor(rt: HostRuntime) -> Result<(), Fail> {
     gate.join(&mut spare, second);
     gate.join(&mut spare, first);
     let record = gate.close(spare);
-    assert!(rt; !is_done(&early) && is_done(&entered) && is_done(&left));
-    let other = first_other(&record, &[(1, "Tick"), (0, "Login"), (0, "Logout")]);
-    assert_eq!(rt; other, None);
-    Ok(())
+    expect_kept(alloc, [&early, &entered, &left], &record)
 }

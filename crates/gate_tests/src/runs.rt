@@ -10,7 +10,6 @@ use monitor_calls::{Account, Port, Request, Screen2, Short};
 use monitor_core::Monitor;
 use monitor_gate::JobSeat;
 use std::alloc::Global;
-use std::process::Abort;
 use std::sync::Wait;
 use std::sync::atomic::{AtomicU64, Ordering};
 use std::test::Fail;
@@ -157,7 +156,7 @@ fn expect_held<R: Clock>(pacer: &Together<'_, R>, end: &RunEnd, jobs: u32) -> Re
 }
 
 /// Runs so many jobs, of which none makes its second call before each has made its first.
-fn run_together<R: Threads + Wait + Clock + Abort + Sync>(
+fn run_together<R: Threads + Wait + Clock + Sync>(
     rt: &R,
     alloc: Global,
     jobs: u32,
@@ -165,7 +164,9 @@ fn run_together<R: Threads + Wait + Clock + Abort + Sync>(
     requires { jobs ≤ 63 }
 {
     let volume = volume(alloc)?;
-    assert!(rt; volume.is_good());
+    if !volume.is_good() {
+        return Err(Fail::new("the volume is not good"));
+    }
     let monitor = Monitor::open(alloc, &volume, jobs)?;
     let body = InAndOut {
         account: DEMO,

@@ -1,5 +1,6 @@
 //! Lines and their words, and the longest expression at the front of a line.
 
+use crate::expects::expect_none;
 use basic_expr::{Word, Words, parse_expr};
 use basic_scanner::scan;
 use basic_tree::{Cause, Expr, Keyword, Name, Refusal, Sign, Want};
@@ -267,15 +268,13 @@ fn first_wrong_line(alloc: Global) -> Option<usize> {
 
 #[test]
 fn lines_have_their_words(rt: HostRuntime) -> Result<(), Fail> {
-    let wrong = first_wrong_line(rt.alloc());
-    assert_eq!(rt; wrong, None);
-    Ok(())
+    expect_none(rt.alloc(), first_wrong_line(rt.alloc()))
 }
 
 // Expressions
 
 /// What an expression of a line is answered: the place behind it, or where it is refused.
-#[derive(Clone, Copy, Debug, PartialEq, Eq)]
+#[derive(Clone, Copy, PartialEq, Eq)]
 enum Answer {
     Read(u16),
     Syntax(u16),
@@ -348,9 +347,7 @@ fn first_wrong_expression(alloc: Global) -> Option<usize> {
 
 #[test]
 fn expressions_are_read_or_refused(rt: HostRuntime) -> Result<(), Fail> {
-    let wrong = first_wrong_expression(rt.alloc());
-    assert_eq!(rt; wrong, None);
-    Ok(())
+    expect_none(rt.alloc(), first_wrong_expression(rt.alloc()))
 }
 
 /// The answer to a number behind so many signs.
@@ -360,10 +357,19 @@ fn behind_signs(alloc: Global, count: usize) -> Result<Answer, Fail> {
     Ok(parsed(alloc, &line, Want::Number))
 }
 
+/// How many signs, and what the number behind them is answered.
+static SIGNS: [(usize, Answer); 2] = [(64, Answer::Read(65)), (65, Answer::TooDeep(64))];
+
+fn first_wrong_level(alloc: Global) -> Result<Option<usize>, Fail> {
+    for (place, (count, answer)) in SIGNS.iter().enumerate() {
+        if behind_signs(alloc, *count)? != *answer {
+            return Ok(Some(place));
+        }
+    }
+    Ok(None)
+}
+
 #[test]
 fn the_65th_level_is_refused(rt: HostRuntime) -> Result<(), Fail> {
-    let deepest = behind_signs(rt.alloc(), 64)?;
-    let deeper = behind_signs(rt.alloc(), 65)?;
-    assert_eq!(rt; (deepest, deeper), (Answer::Read(65), Answer::TooDeep(64)));
-    Ok(())
+    expect_none(rt.alloc(), first_wrong_level(rt.alloc())?)
 }

@@ -1,12 +1,12 @@
 //! PRINT USING and MAT: the trees of lines, and each token at which a line is refused.
 //! The helpers have no clause: a row compares what really came.
 
+use crate::expects::{expect_none, expect_none_of};
 use crate::trees::line_told;
 use basic_line::read_line;
 use basic_tree::Cause;
 use basic_values::Trouble;
 use std::alloc::{AllocError, Global};
-use std::process::Abort;
 use std::test::Fail;
 
 /// A line, and its tree as `trees` writes it.
@@ -196,47 +196,96 @@ fn refusal_of(alloc: Global, line: &[u8]) -> Option<(u16, Cause)> {
     }
 }
 
+fn first_wrong_tree(alloc: Global) -> Result<Option<usize>, Fail> {
+    for (row, (line, tree)) in TREES.iter().enumerate() {
+        if tree_of(alloc, line)?.as_str() != *tree {
+            return Ok(Some(row));
+        }
+    }
+    Ok(None)
+}
+
 #[test]
 fn last_words_have_their_trees(rt: HostRuntime) -> Result<(), Fail> {
-    for (line, tree) in &TREES {
-        let shown = tree_of(rt.alloc(), line)?;
-        assert_eq!(rt; (line, shown.as_str()), (line, *tree));
+    expect_none(rt.alloc(), first_wrong_tree(rt.alloc())?)
+}
+
+/// Whether a line is refused there, and so.
+fn is_refused(alloc: Global, line: &[u8], place: u16, cause: Cause) -> bool {
+    match refusal_of(alloc, line) {
+        Some((found, why)) => found == place && why == cause,
+        None => false,
+    }
+}
+
+fn first_not_refused(alloc: Global) -> Option<usize> {
+    for (row, (line, place)) in WRONG.iter().enumerate() {
+        if !is_refused(alloc, line, *place, Cause::Syntax) {
+            return Some(row);
+        }
+    }
+    None
+}
+
+fn first_old_wrong(alloc: Global) -> Option<usize> {
+    for (row, (line, place, cause)) in OLD.iter().enumerate() {
+        if !is_refused(alloc, line, *place, *cause) {
+            return Some(row);
+        }
+    }
+    None
+}
+
+#[test]
+fn last_words_are_refused_at_each_token(rt: HostRuntime) -> Result<(), Fail> {
+    expect_none_of(rt.alloc(), "the wrong lines", first_not_refused(rt.alloc()))?;
+    expect_none_of(rt.alloc(), "the old lines", first_old_wrong(rt.alloc()))
+}
+
+fn push_times(line: &mut Vec<u8>, byte: u8, times: usize) -> Result<(), AllocError> {
+    for _ in 0..times {
+        line.push(byte)?;
     }
     Ok(())
 }
 
-#[test]
-fn last_words_are_refused_at_each_token(rt: HostRuntime) {
-    for (line, place) in &WRONG {
-        let wanted = Some((*place, Cause::Syntax));
-        assert_eq!(rt; (line, refusal_of(rt.alloc(), line)), (line, wanted));
-    }
-    for (line, place, cause) in &OLD {
-        let wanted = Some((*place, *cause));
-        assert_eq!(rt; (line, refusal_of(rt.alloc(), line)), (line, wanted));
-    }
+/// A number in so many parentheses, and the array that it is a factor of.
+fn push_product(line: &mut Vec<u8>, levels: usize) -> Result<(), AllocError> {
+    push_times(line, b'(', levels)?;
+    line.push(b'1')?;
+    push_times(line, b')', levels)?;
+    line.extend_from_slice(b"*B%")
 }
 
 /// MAT with a number in so many parentheses.
 fn in_parentheses(alloc: Global, levels: usize) -> Result<Vec<u8>, AllocError> {
-    let mut line = Vec::new(alloc);
-    line.extend_from_slice(b"MAT A%=")?;
-    for _ in 0..levels {
-        line.push(b'(')?;
-    }
-    line.push(b'1')?;
-    for _ in 0..levels {
-        line.push(b')')?;
-    }
-    line.extend_from_slice(b"*B%")?;
+    let mut line = Vec::from_slice(alloc, b"MAT A%=")?;
+    push_product(&mut line, levels)?;
     Ok(line)
+}
+
+/// How many parentheses, and where the line is refused as too deep.
+static LEVELS: [(usize, Option<u16>); 2] = [(64, None), (65, Some(67))];
+
+/// Whether so many parentheses are refused there as too deep, or nowhere.
+fn is_level(alloc: Global, levels: usize, place: Option<u16>) -> Result<bool, Fail> {
+    let line = in_parentheses(alloc, levels)?;
+    Ok(match place {
+        Some(place) => is_refused(alloc, &line, place, Cause::TooDeep),
+        None => refusal_of(alloc, &line).is_none(),
+    })
+}
+
+fn first_wrong_level(alloc: Global) -> Result<Option<usize>, Fail> {
+    for (row, (levels, place)) in LEVELS.iter().enumerate() {
+        if !is_level(alloc, *levels, *place)? {
+            return Ok(Some(row));
+        }
+    }
+    Ok(None)
 }
 
 #[test]
 fn a_factor_opens_levels(rt: HostRuntime) -> Result<(), Fail> {
-    let flat = in_parentheses(rt.alloc(), 64)?;
-    assert_eq!(rt; refusal_of(rt.alloc(), &flat), None);
-    let deep = in_parentheses(rt.alloc(), 65)?;
-    assert_eq!(rt; refusal_of(rt.alloc(), &deep), Some((67, Cause::TooDeep)));
-    Ok(())
+    expect_none(rt.alloc(), first_wrong_level(rt.alloc())?)
 }

@@ -3,6 +3,8 @@
 #![tactic(auto)]
 
 #[cfg(test)]
+mod expects;
+#[cfg(test)]
 mod expressions;
 #[cfg(test)]
 mod last_words;

@@ -1,5 +1,6 @@
 //! Lines that have a tree, and lines that are refused with the token at which they are.
 
+use crate::expects::{expect, expect_none, expect_none_of};
 use basic_line::parse_line;
 use basic_scanner::scan;
 use basic_tree::{Cause, Line, Refusal};
@@ -8,7 +9,7 @@ use std::alloc::{AllocError, Global};
 use std::test::Fail;
 
 /// What a line is answered. Places are numbers of tokens, from 0.
-#[derive(Clone, Copy, Debug, PartialEq, Eq)]
+#[derive(Clone, Copy, PartialEq, Eq)]
 enum Answer {
     Tree,
     Syntax(u16),
@@ -351,30 +352,21 @@ static MET_FIRST: [Row; 6] = [
     (b"print 2 + 3%", Answer::Tree),
 ];
 
-/// The table and the row of the first line that is answered otherwise.
-fn first_wrong_table(alloc: Global) -> Option<(usize, usize)> {
-    let tables: [&[Row]; 8] = [
-        &MET_FIRST,
-        &ASSIGNMENTS,
-        &PRINTING,
-        &JUMPS,
-        &FILES,
-        &HEADS,
-        &CHOICES,
-        &EXPRESSIONS,
-    ];
-    for (table, rows) in tables.iter().enumerate() {
-        if let Some(place) = first_wrong(alloc, rows) {
-            return Some((table, place));
-        }
-    }
-    None
-}
-
 #[test]
 fn lines_have_a_tree_or_are_refused(rt: HostRuntime) -> Result<(), Fail> {
-    let wrong = first_wrong_table(rt.alloc());
-    assert_eq!(rt; wrong, None);
+    let tables: [(&str, &[Row]); 8] = [
+        ("the lines met first", &MET_FIRST),
+        ("the assignments", &ASSIGNMENTS),
+        ("the lines that print and read", &PRINTING),
+        ("the jumps", &JUMPS),
+        ("the lines of files", &FILES),
+        ("the heads", &HEADS),
+        ("the choices", &CHOICES),
+        ("the expressions", &EXPRESSIONS),
+    ];
+    for (table, rows) in tables {
+        expect_none_of(rt.alloc(), table, first_wrong(rt.alloc(), rows))?;
+    }
     Ok(())
 }
 
@@ -481,33 +473,13 @@ fn first_wrong_word(
 
 #[test]
 fn words_stand_behind_a_value_or_not(rt: HostRuntime) -> Result<(), Fail> {
-    let wrong = first_wrong_word(rt.alloc(), &WORDS, Answer::Syntax(2))?;
-    assert_eq!(rt; wrong, None);
-    let wrong = first_wrong_word(rt.alloc(), &GOING_ON, Answer::Syntax(3))?;
-    assert_eq!(rt; wrong, None);
-    let remark = answer_of(rt.alloc(), b"PRINT 1% REM STOP");
-    assert_eq!(rt; remark, Answer::Tree);
-    Ok(())
-}
-
-/// The front, so many times the part, the middle, and so many times the end.
-fn nested(
-    alloc: Global,
-    front: &[u8],
-    part: &[u8],
-    times: usize,
-    middle: &[u8],
-    end: &[u8],
-) -> Result<Vec<u8>, AllocError> {
-    let mut bytes = joined(alloc, &[front])?;
-    for _ in 0..times {
-        bytes.extend_from_slice(part)?;
-    }
-    bytes.extend_from_slice(middle)?;
-    for _ in 0..times {
-        bytes.extend_from_slice(end)?;
-    }
-    Ok(bytes)
+    let alloc = rt.alloc();
+    let wrong = first_wrong_word(alloc, &WORDS, Answer::Syntax(2))?;
+    expect_none_of(alloc, "the words", wrong)?;
+    let wrong = first_wrong_word(alloc, &GOING_ON, Answer::Syntax(3))?;
+    expect_none_of(alloc, "the words that go on", wrong)?;
+    let remark = answer_of(alloc, b"PRINT 1% REM STOP");
+    expect(remark == Answer::Tree, "a remark behind a value")
 }
 
 /// What a nested line is, and where its level 65 opens: front, part, middle, end, levels, answer.
@@ -553,8 +525,23 @@ static NESTS: [Nest; 15] = [
     (b"PRINT 1 1", b"(", b"1", b")", 65, Answer::Syntax(2)),
 ];
 
+fn push_times(bytes: &mut Vec<u8>, part: &[u8], times: usize) -> Result<(), AllocError> {
+    for _ in 0..times {
+        bytes.extend_from_slice(part)?;
+    }
+    Ok(())
+}
+
+/// So many times the part, the middle, and so many times the end.
+fn push_levels(bytes: &mut Vec<u8>, nest: &Nest) -> Result<(), AllocError> {
+    push_times(bytes, nest.1, nest.4)?;
+    bytes.extend_from_slice(nest.2)?;
+    push_times(bytes, nest.3, nest.4)
+}
+
 fn nest_answer(alloc: Global, nest: &Nest) -> Result<Answer, AllocError> {
-    let line = nested(alloc, nest.0, nest.1, nest.4, nest.2, nest.3)?;
+    let mut line = Vec::from_slice(alloc, nest.0)?;
+    push_levels(&mut line, nest)?;
     Ok(answer_of(alloc, &line))
 }
 
@@ -569,7 +556,5 @@ fn first_wrong_nest(alloc: Global) -> Result<Option<usize>, AllocError> {
 
 #[test]
 fn the_65th_level_is_refused(rt: HostRuntime) -> Result<(), Fail> {
-    let wrong = first_wrong_nest(rt.alloc())?;
-    assert_eq!(rt; wrong, None);
-    Ok(())
+    expect_none(rt.alloc(), first_wrong_nest(rt.alloc())?)
 }

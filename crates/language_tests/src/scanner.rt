@@ -1,5 +1,6 @@
 //! Lines and their tokens.
 
+use crate::expects::{expect, expect_none, expect_none_of};
 use basic_scanner::{Token, Tokens, keyword_of, literal_value, scan, sign_of};
 use basic_tree::{Cause, Keyword, Sign, TokenKind};
 use std::alloc::{AllocError, Global};
@@ -365,11 +366,11 @@ fn is_refused(line: &[u8], place: u16, cause: Cause) -> bool {
     }
 }
 
-/// The first line that has other tokens.
-fn first_not_taken() -> Option<&'static [u8]> {
-    for (line, wanted) in TAKEN {
+/// The place of the first line that has other tokens.
+fn first_not_taken() -> Option<usize> {
+    for (place, (line, wanted)) in TAKEN.iter().enumerate() {
         if !is_taken(line, wanted) {
-            return Some(line);
+            return Some(place);
         }
     }
     None
@@ -386,9 +387,8 @@ fn first_not_refused(rows: &[(&[u8], u16, Cause)]) -> Option<usize> {
 
 #[test]
 fn lines_have_their_tokens_or_are_refused(rt: HostRuntime) -> Result<(), Fail> {
-    assert_eq!(rt; first_not_taken(), None);
-    assert_eq!(rt; first_not_refused(&REFUSED), None);
-    Ok(())
+    expect_none_of(rt.alloc(), "the lines", first_not_taken())?;
+    expect_none_of(rt.alloc(), "the refused lines", first_not_refused(&REFUSED))
 }
 
 /// The word with these bytes behind it.
@@ -441,9 +441,7 @@ fn first_wrong_word(alloc: Global) -> Result<Option<usize>, AllocError> {
 
 #[test]
 fn keywords_end_where_another_byte_begins(rt: HostRuntime) -> Result<(), Fail> {
-    let wrong = first_wrong_word(rt.alloc())?;
-    assert_eq!(rt; wrong, None);
-    Ok(())
+    expect_none(rt.alloc(), first_wrong_word(rt.alloc())?)
 }
 
 /// How many tokens a line has, where it is a line.
@@ -457,14 +455,23 @@ fn count(line: &[u8]) -> Option<u16> {
     }
 }
 
+/// Whether a line of 255 zeros is one token.
+fn is_one_token(alloc: Global) -> Result<bool, AllocError> {
+    let zeros = vec![in alloc; b'0'; 255]?;
+    Ok(count(&zeros) == Some(1))
+}
+
+/// Whether DATA with 251 commas is a line of 255 bytes, with an item more than commas.
+fn are_all_items(alloc: Global) -> Result<bool, AllocError> {
+    let commas = vec![in alloc; b','; 251]?;
+    let items = beside(alloc, b"DATA", &commas)?;
+    Ok(items.len() == 255 && count(&items) == Some(253))
+}
+
 #[test]
 fn long_lines_and_words(rt: HostRuntime) -> Result<(), Fail> {
-    let zeros = vec![in rt.alloc(); b'0'; 255]?;
-    assert_eq!(rt; count(&zeros), Some(1));
-    let commas = vec![in rt.alloc(); b','; 251]?;
-    let items = beside(rt.alloc(), b"DATA", &commas)?;
-    assert_eq!(rt; (items.len(), count(&items)), (255, Some(253)));
-    Ok(())
+    expect(is_one_token(rt.alloc())?, "255 zeros")?;
+    expect(are_all_items(rt.alloc())?, "251 commas")
 }
 
 /// Whether words, signs and literals are known by themselves.
@@ -480,6 +487,5 @@ fn are_known() -> bool {
 
 #[test]
 fn words_signs_and_literals_are_known(rt: HostRuntime) -> Result<(), Fail> {
-    assert!(rt; are_known());
-    Ok(())
+    expect(are_known(), "a word, a sign or a literal")
 }

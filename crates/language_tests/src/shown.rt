@@ -1,5 +1,6 @@
 //! The trees of lines: one row at least for each form of a statement.
 
+use crate::expects::expect_none_of;
 use crate::trees::line_told;
 use basic_line::read_line;
 use std::alloc::Global;
@@ -176,20 +177,18 @@ fn first_wrong(alloc: Global, rows: &[Row]) -> Result<Option<usize>, Fail> {
     Ok(None)
 }
 
-/// The table and the row of the first line that has another tree.
-fn first_wrong_table(alloc: Global) -> Result<Option<(usize, usize)>, Fail> {
-    let tables: [&[Row]; 6] = [&LINES, &EXPRESSIONS, &JUMPS, &FILES, &VALUES, &CHOICES];
-    for (table, rows) in tables.iter().enumerate() {
-        if let Some(place) = first_wrong(alloc, rows)? {
-            return Ok(Some((table, place)));
-        }
-    }
-    Ok(None)
-}
-
 #[test]
 fn trees_are_those_of_the_lines(rt: HostRuntime) -> Result<(), Fail> {
-    let wrong = first_wrong_table(rt.alloc())?;
-    assert_eq!(rt; wrong, None);
+    let tables: [(&str, &[Row]); 6] = [
+        ("the lines", &LINES),
+        ("the expressions", &EXPRESSIONS),
+        ("the jumps", &JUMPS),
+        ("the lines of files", &FILES),
+        ("the lines of values", &VALUES),
+        ("the choices", &CHOICES),
+    ];
+    for (table, rows) in tables {
+        expect_none_of(rt.alloc(), table, first_wrong(rt.alloc(), rows)?)?;
+    }
     Ok(())
 }

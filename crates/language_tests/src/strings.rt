@@ -1,5 +1,6 @@
 //! The string functions.
 
+use crate::expects::{expect, expect_none, expect_none_of};
 use basic_strings::{
     Cut, abs, ascii, chr, digits, instr, item_number, left, left_cut, len, mid, mid_cut, num, num1,
     number_of, right, right_cut, sgn, space, string, text_of, val, xlate,
@@ -150,14 +151,15 @@ static PARTS: [Row; 46] = [
     (Right(b"", 32767), b""),
 ];
 
+/// The parts as texts of their own, and cut in their place.
+fn expect_parts(alloc: Global, rows: &[Row]) -> Result<(), Fail> {
+    expect_none_of(alloc, "the parts", first_wrong(alloc, rows))?;
+    expect_none_of(alloc, "the cuts", first_wrong_cut(alloc, rows))
+}
+
 #[test]
 fn parts_by_length_and_place(rt: HostRuntime) -> Result<(), Fail> {
-    let wrong = (
-        first_wrong(rt.alloc(), &PARTS),
-        first_wrong_cut(rt.alloc(), &PARTS),
-    );
-    assert_eq!(rt; wrong, (None, None));
-    Ok(())
+    expect_parts(rt.alloc(), &PARTS)
 }
 
 /// From where on a text is searched, the text, what is sought, and its place.
@@ -197,9 +199,7 @@ fn first_wrong_place() -> Option<usize> {
 
 #[test]
 fn places_of_texts(rt: HostRuntime) -> Result<(), Fail> {
-    let wrong = first_wrong_place();
-    assert_eq!(rt; wrong, None);
-    Ok(())
+    expect_none(rt.alloc(), first_wrong_place())
 }
 
 static NUMBERS: [Row; 15] = [
@@ -267,11 +267,9 @@ fn first_wrong_pair() -> Option<usize> {
 
 #[test]
 fn numbers_as_texts_and_back(rt: HostRuntime) -> Result<(), Fail> {
-    let wrong = first_wrong(rt.alloc(), &NUMBERS);
-    assert_eq!(rt; wrong, None);
-    let wrong = (first_wrong_back(), first_wrong_pair());
-    assert_eq!(rt; wrong, (None, None));
-    Ok(())
+    expect_none_of(rt.alloc(), "the numbers", first_wrong(rt.alloc(), &NUMBERS))?;
+    expect_none_of(rt.alloc(), "the ways back", first_wrong_back())?;
+    expect_none_of(rt.alloc(), "the other pairs", first_wrong_pair())
 }
 
 /// A number, or the number of the error.
@@ -330,9 +328,7 @@ fn first_wrong_spelling() -> Option<usize> {
 
 #[test]
 fn texts_that_spell_numbers(rt: HostRuntime) -> Result<(), Fail> {
-    let wrong = first_wrong_spelling();
-    assert_eq!(rt; wrong, None);
-    Ok(())
+    expect_none(rt.alloc(), first_wrong_spelling())
 }
 
 static BYTES: [Row; 28] = [
@@ -380,9 +376,8 @@ fn first_wrong_first() -> Option<usize> {
 
 #[test]
 fn bytes_once_and_many_times(rt: HostRuntime) -> Result<(), Fail> {
-    let wrong = (first_wrong(rt.alloc(), &BYTES), first_wrong_first());
-    assert_eq!(rt; wrong, (None, None));
-    Ok(())
+    expect_none_of(rt.alloc(), "the bytes", first_wrong(rt.alloc(), &BYTES))?;
+    expect_none_of(rt.alloc(), "the first bytes", first_wrong_first())
 }
 
 /// So many times a byte.
@@ -431,13 +426,20 @@ fn is_beyond(alloc: Global) -> Result<bool, Fail> {
     )
 }
 
+/// Lengths of texts, and the same as numbers of the language.
+static LENGTHS: [(usize, i16); 4] = [(0, 0), (1, 1), (32766, 32766), (32767, 32767)];
+
+fn first_wrong_length(alloc: Global) -> Result<Option<usize>, Fail> {
+    for (place, (length, count)) in LENGTHS.iter().enumerate() {
+        if !is_whole(alloc, *length, *count)? {
+            return Ok(Some(place));
+        }
+    }
+    Ok(None)
+}
+
 #[test]
 fn texts_of_every_length(rt: HostRuntime) -> Result<(), Fail> {
-    for (length, count) in [(0, 0), (1, 1), (32766, 32766), (32767, 32767)] {
-        let is_whole = is_whole(rt.alloc(), length, count)?;
-        assert!(rt; is_whole, "{length} bytes");
-    }
-    let is_beyond = is_beyond(rt.alloc())?;
-    assert!(rt; is_beyond);
-    Ok(())
+    expect_none_of(rt.alloc(), "the lengths", first_wrong_length(rt.alloc())?)?;
+    expect(is_beyond(rt.alloc())?, "a text of 32,768 bytes")
 }

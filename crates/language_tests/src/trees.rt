@@ -1,10 +1,11 @@
 //! A tree as a text: one arm for each form of the grammar.
 
 use basic_tree::{
-    ChainLine, Clause, CloseChannel, Expr, FieldPart, FileShape, Line, MatrixValue, Modifier, Name,
-    OpenFor, PrintChannel, PrintItem, Printed, Prompt, Separator, Shape, Statement, Target,
-    UsingItem,
+    ChainLine, Clause, CloseChannel, Expr, FieldPart, FileShape, Function, Line, MatrixValue,
+    Modifier, Name, OpenFor, Operator, PrintChannel, PrintItem, Printed, Prompt, Relation,
+    Separator, Shape, Statement, Target, UsingItem,
 };
+use basic_values::Text;
 use std::alloc::{AllocError, Global};
 use std::test::Fail;
 
@@ -68,15 +69,42 @@ fn put_number(out: &mut Told, number: u16) {
     out.note(done);
 }
 
+/// A word, and a name behind it.
+fn put_named(out: &mut Told, word: &str, name: &Name) {
+    out.put(word);
+    put_name(out, name)
+}
+
+/// A word, and an expression behind it.
+fn put_worded(out: &mut Told, word: &str, tree: &Expr) {
+    out.put(word);
+    put_expr(out, tree)
+}
+
 /// What stands behind a word, where it stands there.
 fn put_behind(out: &mut Told, word: &str, tree: &Option<Expr>) {
     if let Some(tree) = tree {
-        out.put(word);
-        put_expr(out, tree);
+        put_worded(out, word, tree);
     }
 }
 
+fn put_function(out: &mut Told, function: Function) {
+    let done = write!(out.text, "{function:?}");
+    out.note(done);
+}
+
+fn put_operator(out: &mut Told, operator: Operator) {
+    let done = write!(out.text, " {operator:?} ");
+    out.note(done);
+}
+
+fn put_relation(out: &mut Told, relation: Relation) {
+    let done = write!(out.text, " {relation:?} ");
+    out.note(done);
+}
+
 /// An expression, with brackets round each operation.
+#[cycle(expressions)]
 fn put_expr(out: &mut Told, tree: &Expr) {
     match tree {
         Expr::Literal(number) => put_number(out, *number),
@@ -88,11 +116,9 @@ fn put_expr(out: &mut Told, tree: &Expr) {
             second,
         } => {
             put_name(out, name);
-            out.put("[");
-            put_expr(out, first);
+            put_between(out, "[", first, "");
             if let Some(second) = second {
-                out.put(",");
-                put_expr(out, second);
+                put_between(out, ",", second, "");
             }
             out.put("]")
         }
@@ -100,69 +126,54 @@ fn put_expr(out: &mut Told, tree: &Expr) {
             function,
             arguments,
         } => {
-            let done = write!(out.text, "{function:?}[");
-            out.note(done);
-            for argument in arguments {
-                put_expr(out, argument);
-                out.put(",");
-            }
-            out.put("]")
+            put_function(out, *function);
+            put_arguments(out, arguments.as_slice())
         }
         Expr::Call { name, arguments } => {
-            out.put("FN");
-            put_name(out, name);
-            out.put("[");
-            for argument in arguments {
-                put_expr(out, argument);
-                out.put(",");
-            }
-            out.put("]")
+            put_named(out, "FN", name);
+            put_arguments(out, arguments.as_slice())
         }
-        Expr::Parenthesized(inner) => {
-            out.put("(");
-            put_expr(out, inner);
-            out.put(")")
-        }
-        Expr::Negative(inner) => {
-            out.put("[-");
-            put_expr(out, inner);
-            out.put("]")
-        }
-        Expr::Positive(inner) => {
-            out.put("[+");
-            put_expr(out, inner);
-            out.put("]")
-        }
-        Expr::Not(inner) => {
-            out.put("[Not ");
-            put_expr(out, inner);
-            out.put("]")
-        }
+        Expr::Parenthesized(inner) => put_between(out, "(", inner, ")"),
+        Expr::Negative(inner) => put_between(out, "[-", inner, "]"),
+        Expr::Positive(inner) => put_between(out, "[+", inner, "]"),
+        Expr::Not(inner) => put_between(out, "[Not ", inner, "]"),
         Expr::Operation {
             left,
             operator,
             right,
         } => {
-            out.put("[");
-            put_expr(out, left);
-            let done = write!(out.text, " {operator:?} ");
-            out.note(done);
-            put_expr(out, right);
-            out.put("]")
+            put_between(out, "[", left, "");
+            put_operator(out, *operator);
+            put_between(out, "", right, "]")
         }
         Expr::Relation {
             left,
             relation,
             right,
         } => {
-            out.put("[");
-            put_expr(out, left);
-            let done = write!(out.text, " {relation:?} ");
-            out.note(done);
-            put_expr(out, right);
-            out.put("]")
+            put_between(out, "[", left, "");
+            put_relation(out, *relation);
+            put_between(out, "", right, "]")
         }
     }
+}
+
+/// An expression between two texts.
+#[cycle(expressions)]
+fn put_between(out: &mut Told, front: &str, tree: &Expr, end: &str) {
+    out.put(front);
+    put_expr(out, tree);
+    out.put(end)
+}
+
+#[cycle(expressions)]
+fn put_arguments(out: &mut Told, arguments: &[Expr]) {
+    out.put("[");
+    for argument in arguments {
+        put_expr(out, argument);
+        out.put(",");
+    }
+    out.put("]")
 }
 
 // Parts of statements
@@ -219,20 +230,13 @@ fn put_separator(out: &mut Told, separator: Separator) {
 
 fn put_printed(out: &mut Told, printed: &Printed) {
     match printed {
-        Printed::Value(tree) => {
-            out.put(" ");
-            put_expr(out, tree)
-        }
-        Printed::Tab(tree) => {
-            out.put(" TAB ");
-            put_expr(out, tree)
-        }
+        Printed::Value(tree) => put_worded(out, " ", tree),
+        Printed::Tab(tree) => put_worded(out, " TAB ", tree),
     }
 }
 
 fn put_print_channel(out: &mut Told, channel: &PrintChannel) {
-    out.put(" #");
-    put_expr(out, &channel.number);
+    put_worded(out, " #", &channel.number);
     if channel.comma {
         out.put(",");
     }
@@ -269,12 +273,8 @@ fn put_input(out: &mut Told, channel: &Option<Expr>, prompt: &Option<Prompt>, ta
 }
 
 fn put_range(out: &mut Told, variable: &Name, from: &Expr, to: &Expr, step: &Option<Expr>) {
-    out.put("FOR ");
-    put_name(out, variable);
-    out.put("=");
-    put_expr(out, from);
-    out.put(" TO ");
-    put_expr(out, to);
+    put_set(out, "FOR ", variable, from);
+    put_worded(out, " TO ", to);
     put_behind(out, " STEP ", step)
 }
 
@@ -296,11 +296,9 @@ fn put_line(out: &mut Told, word: &str, line: Option<u16>) {
 }
 
 fn put_chain(out: &mut Told, program: &Expr, line: &Option<ChainLine>) {
-    out.put("CHAIN ");
-    put_expr(out, program);
+    put_worded(out, "CHAIN ", program);
     if let Some(line) = line {
-        out.put(if line.word { " LINE " } else { " " });
-        put_expr(out, &line.number);
+        put_worded(out, if line.word { " LINE " } else { " " }, &line.number);
     }
 }
 
@@ -315,42 +313,33 @@ fn put_purpose(out: &mut Told, purpose: OpenFor) {
 fn put_channels(out: &mut Told, channels: &[CloseChannel]) {
     out.put("CLOSE");
     for channel in channels {
-        out.put(if channel.hash { " #" } else { " " });
-        put_expr(out, &channel.number);
+        put_worded(out, if channel.hash { " #" } else { " " }, &channel.number);
     }
 }
 
 fn put_fields(out: &mut Told, channel: &Expr, parts: &[FieldPart]) {
-    out.put("FIELD #");
-    put_expr(out, channel);
+    put_worded(out, "FIELD #", channel);
     for part in parts {
-        out.put(" ");
-        put_expr(out, &part.width);
-        out.put(" AS ");
-        put_name(out, &part.name);
+        put_worded(out, " ", &part.width);
+        put_named(out, " AS ", &part.name);
     }
 }
 
 fn put_record(out: &mut Told, word: &str, channel: &Expr, record: &Option<Expr>) {
-    out.put(word);
-    put_expr(out, channel);
+    put_worded(out, word, channel);
     put_behind(out, " RECORD ", record)
 }
 
 /// A word, a name, `=` and a value.
 fn put_set(out: &mut Told, word: &str, name: &Name, value: &Expr) {
-    out.put(word);
-    put_name(out, name);
-    out.put("=");
-    put_expr(out, value)
+    put_named(out, word, name);
+    put_worded(out, "=", value)
 }
 
 fn put_def(out: &mut Told, function: &Name, parameters: &[Name], value: &Option<Expr>) {
-    out.put("DEF FN");
-    put_name(out, function);
+    put_named(out, "DEF FN", function);
     for parameter in parameters {
-        out.put(" ");
-        put_name(out, parameter);
+        put_named(out, " ", parameter);
     }
     put_behind(out, " = ", value)
 }
@@ -358,28 +347,15 @@ fn put_def(out: &mut Told, function: &Name, parameters: &[Name], value: &Option<
 fn put_let(out: &mut Told, word: bool, targets: &[Target], value: &Expr) {
     out.put(if word { "LET" } else { "SET" });
     put_targets(out, targets);
-    out.put(" = ");
-    put_expr(out, value)
+    put_worded(out, " = ", value)
 }
 
 fn put_modifier(out: &mut Told, modifier: &Modifier) {
     match modifier {
-        Modifier::If(tree) => {
-            out.put(" IF ");
-            put_expr(out, tree)
-        }
-        Modifier::Unless(tree) => {
-            out.put(" UNLESS ");
-            put_expr(out, tree)
-        }
-        Modifier::While(tree) => {
-            out.put(" WHILE ");
-            put_expr(out, tree)
-        }
-        Modifier::Until(tree) => {
-            out.put(" UNTIL ");
-            put_expr(out, tree)
-        }
+        Modifier::If(tree) => put_worded(out, " IF ", tree),
+        Modifier::Unless(tree) => put_worded(out, " UNLESS ", tree),
+        Modifier::While(tree) => put_worded(out, " WHILE ", tree),
+        Modifier::Until(tree) => put_worded(out, " UNTIL ", tree),
         Modifier::For {
             variable,
             from,
@@ -390,6 +366,72 @@ fn put_modifier(out: &mut Told, modifier: &Modifier) {
             put_range(out, variable, from, to, step)
         }
     }
+}
+
+fn put_goto(out: &mut Told, apart: bool, line: u16) {
+    put_line(out, if apart { "GO TO" } else { "GOTO" }, Some(line))
+}
+
+fn put_gosub(out: &mut Told, apart: bool, line: u16) {
+    put_line(out, if apart { "GO SUB" } else { "GOSUB" }, Some(line))
+}
+
+fn put_on(out: &mut Told, selector: &Expr, word: &str, lines: &[u16]) {
+    put_worded(out, "ON ", selector);
+    put_lines(out, word, lines)
+}
+
+fn put_open(out: &mut Told, file: &Expr, purpose: OpenFor, hash: bool, channel: &Expr) {
+    put_worded(out, "OPEN ", file);
+    put_purpose(out, purpose);
+    put_worded(out, if hash { " AS FILE #" } else { " AS FILE " }, channel)
+}
+
+fn put_sizes(out: &mut Told, record: &Option<Expr>, cluster: &Option<Expr>, mode: &Option<Expr>) {
+    put_behind(out, " RECORDSIZE ", record);
+    put_behind(out, " CLUSTERSIZE ", cluster);
+    put_behind(out, " MODE ", mode)
+}
+
+fn put_rename(out: &mut Told, old: &Expr, new: &Expr) {
+    put_worded(out, "NAME ", old);
+    put_worded(out, " AS ", new)
+}
+
+fn put_data(out: &mut Told, items: &[Text]) {
+    out.put("DATA");
+    for item in items {
+        out.put(" ");
+        put_bytes(out, item.as_bytes());
+    }
+}
+
+fn put_dim(out: &mut Told, shapes: &[Shape]) {
+    out.put("DIM");
+    for shape in shapes {
+        out.put(" ");
+        put_shape(out, shape);
+    }
+}
+
+fn put_dim_file(out: &mut Told, channel: u16, shapes: &[FileShape]) {
+    out.put("DIM #");
+    put_number(out, channel);
+    for shape in shapes {
+        out.put(" ");
+        put_file_shape(out, shape);
+    }
+}
+
+fn put_input_line(out: &mut Told, channel: &Option<Expr>, variable: &Name) {
+    out.put("INPUT LINE");
+    put_behind(out, " #", channel);
+    put_named(out, " ", variable)
+}
+
+fn put_read(out: &mut Told, targets: &[Target]) {
+    out.put("READ");
+    put_targets(out, targets)
 }
 
 // Statements
@@ -403,38 +445,20 @@ fn put_jump(out: &mut Told, statement: &Statement) -> bool {
             to,
             step,
         } => put_range(out, variable, from, to, step),
-        Statement::Next(name) => {
-            out.put("NEXT ");
-            put_name(out, name);
-        }
+        Statement::Next(name) => put_named(out, "NEXT ", name),
         Statement::FnEnd => out.put("FNEND"),
         Statement::Restore => out.put("RESTORE"),
         Statement::Return => out.put("RETURN"),
         Statement::Stop => out.put("STOP"),
         Statement::End => out.put("END"),
-        Statement::Goto { apart, line } => {
-            put_line(out, if *apart { "GO TO" } else { "GOTO" }, Some(*line));
-        }
-        Statement::Gosub { apart, line } => {
-            put_line(out, if *apart { "GO SUB" } else { "GOSUB" }, Some(*line));
-        }
-        Statement::OnGoto { selector, lines } => {
-            out.put("ON ");
-            put_expr(out, selector);
-            put_lines(out, " GOTO", lines.as_slice());
-        }
-        Statement::OnGosub { selector, lines } => {
-            out.put("ON ");
-            put_expr(out, selector);
-            put_lines(out, " GOSUB", lines.as_slice());
-        }
+        Statement::Goto { apart, line } => put_goto(out, *apart, *line),
+        Statement::Gosub { apart, line } => put_gosub(out, *apart, *line),
+        Statement::OnGoto { selector, lines } => put_on(out, selector, " GOTO", lines.as_slice()),
+        Statement::OnGosub { selector, lines } => put_on(out, selector, " GOSUB", lines.as_slice()),
         Statement::OnErrorGoto(line) => put_line(out, "ON ERROR GOTO", *line),
         Statement::Resume(line) => put_line(out, "RESUME", *line),
         Statement::Chain { program, line } => put_chain(out, program, line),
-        Statement::Sleep(tree) => {
-            out.put("SLEEP ");
-            put_expr(out, tree);
-        }
+        Statement::Sleep(tree) => put_worded(out, "SLEEP ", tree),
         _ => return false,
     }
     true
@@ -452,35 +476,18 @@ fn put_file(out: &mut Told, statement: &Statement) -> bool {
             cluster_size,
             mode,
         } => {
-            out.put("OPEN ");
-            put_expr(out, file);
-            put_purpose(out, *purpose);
-            out.put(if *hash { " AS FILE #" } else { " AS FILE " });
-            put_expr(out, channel);
-            put_behind(out, " RECORDSIZE ", record_size);
-            put_behind(out, " CLUSTERSIZE ", cluster_size);
-            put_behind(out, " MODE ", mode);
+            put_open(out, file, *purpose, *hash, channel);
+            put_sizes(out, record_size, cluster_size, mode);
         }
         Statement::Close(channels) => put_channels(out, channels.as_slice()),
         Statement::Get { channel, record } => put_record(out, "GET #", channel, record),
         Statement::Put { channel, record } => put_record(out, "PUT #", channel, record),
-        Statement::Unlock(channel) => {
-            out.put("UNLOCK #");
-            put_expr(out, channel);
-        }
+        Statement::Unlock(channel) => put_worded(out, "UNLOCK #", channel),
         Statement::Field { channel, parts } => put_fields(out, channel, parts.as_slice()),
         Statement::Lset { variable, value } => put_set(out, "LSET ", variable, value),
         Statement::Rset { variable, value } => put_set(out, "RSET ", variable, value),
-        Statement::Kill(file) => {
-            out.put("KILL ");
-            put_expr(out, file);
-        }
-        Statement::Rename { old, new } => {
-            out.put("NAME ");
-            put_expr(out, old);
-            out.put(" AS ");
-            put_expr(out, new);
-        }
+        Statement::Kill(file) => put_worded(out, "KILL ", file),
+        Statement::Rename { old, new } => put_rename(out, old, new),
         _ => return false,
     }
     true
@@ -489,28 +496,9 @@ fn put_file(out: &mut Told, statement: &Statement) -> bool {
 /// Values that are declared, given, printed or read.
 fn put_value(out: &mut Told, statement: &Statement) -> bool {
     match statement {
-        Statement::Data(items) => {
-            out.put("DATA");
-            for item in items.as_slice() {
-                out.put(" ");
-                put_bytes(out, item.as_bytes());
-            }
-        }
-        Statement::Dim(shapes) => {
-            out.put("DIM");
-            for shape in shapes.as_slice() {
-                out.put(" ");
-                put_shape(out, shape);
-            }
-        }
-        Statement::DimFile { channel, shapes } => {
-            out.put("DIM #");
-            put_number(out, *channel);
-            for shape in shapes.as_slice() {
-                out.put(" ");
-                put_file_shape(out, shape);
-            }
-        }
+        Statement::Data(items) => put_data(out, items.as_slice()),
+        Statement::Dim(shapes) => put_dim(out, shapes.as_slice()),
+        Statement::DimFile { channel, shapes } => put_dim_file(out, *channel, shapes.as_slice()),
         Statement::Def {
             function,
             parameters,
@@ -532,16 +520,8 @@ fn put_value(out: &mut Told, statement: &Statement) -> bool {
             prompt,
             targets,
         } => put_input(out, channel, prompt, targets.as_slice()),
-        Statement::InputLine { channel, variable } => {
-            out.put("INPUT LINE");
-            put_behind(out, " #", channel);
-            out.put(" ");
-            put_name(out, variable);
-        }
-        Statement::Read(targets) => {
-            out.put("READ");
-            put_targets(out, targets.as_slice());
-        }
+        Statement::InputLine { channel, variable } => put_input_line(out, channel, variable),
+        Statement::Read(targets) => put_read(out, targets.as_slice()),
         _ => return false,
     }
     true
@@ -556,11 +536,9 @@ fn put_using(
 ) {
     out.put("PRINT");
     put_behind(out, " #", channel);
-    out.put(" USING ");
-    put_expr(out, format);
+    put_worded(out, " USING ", format);
     for item in values {
-        out.put(" ");
-        put_expr(out, &item.value);
+        put_worded(out, " ", &item.value);
         put_separator(out, item.separator);
     }
     put_behind(out, " ", last)
@@ -583,16 +561,31 @@ fn put_matrix(out: &mut Told, value: &MatrixValue) {
         MatrixValue::Difference(left, right) => put_pair(out, left, '-', right),
         MatrixValue::Product(left, right) => put_pair(out, left, '*', right),
         MatrixValue::Scaled { factor, matrix } => {
-            out.put("(");
-            put_expr(out, factor);
-            out.put(")*");
-            put_name(out, matrix)
+            put_worded(out, "(", factor);
+            put_named(out, ")*", matrix)
         }
-        MatrixValue::Transposed(name) => {
-            out.put("TRN ");
-            put_name(out, name)
-        }
+        MatrixValue::Transposed(name) => put_named(out, "TRN ", name),
     }
+}
+
+fn put_mat_read(out: &mut Told, names: &[Name]) {
+    out.put("MAT READ");
+    for name in names {
+        put_named(out, " ", name);
+    }
+}
+
+fn put_mat_print(out: &mut Told, matrix: &Name, separator: Option<Separator>) {
+    put_named(out, "MAT PRINT ", matrix);
+    if let Some(separator) = separator {
+        put_separator(out, separator);
+    }
+}
+
+fn put_mat_let(out: &mut Told, target: &Name, value: &MatrixValue) {
+    put_named(out, "MAT ", target);
+    out.put("=");
+    put_matrix(out, value)
 }
 
 /// What is printed by a format, and whole arrays.
@@ -604,37 +597,30 @@ fn put_array(out: &mut Told, statement: &Statement) -> bool {
             values,
             last,
         } => put_using(out, channel, format, values.as_slice(), last),
-        Statement::MatRead(names) => {
-            out.put("MAT READ");
-            for name in names.as_slice() {
-                out.put(" ");
-                put_name(out, name);
-            }
-        }
-        Statement::MatPrint { matrix, separator } => {
-            out.put("MAT PRINT ");
-            put_name(out, matrix);
-            if let Some(separator) = separator {
-                put_separator(out, *separator);
-            }
-        }
-        Statement::MatLet { target, value } => {
-            out.put("MAT ");
-            put_name(out, target);
-            out.put("=");
-            put_matrix(out, value);
-        }
+        Statement::MatRead(names) => put_mat_read(out, names.as_slice()),
+        Statement::MatPrint { matrix, separator } => put_mat_print(out, matrix, *separator),
+        Statement::MatLet { target, value } => put_mat_let(out, target, value),
         _ => return false,
     }
     true
 }
 
+/// A statement of none of the forms that hold other statements.
+fn put_simple(out: &mut Told, statement: &Statement) {
+    if !(put_jump(out, statement) || put_file(out, statement) || put_array(out, statement)) {
+        put_value(out, statement);
+    }
+}
+
+/// A word, and a clause in braces behind it.
 #[cycle(statements)]
-fn put_clause(out: &mut Told, clause: &Clause) {
+fn put_clause(out: &mut Told, word: &str, clause: &Clause) {
+    out.put(word);
     match clause {
         Clause::Line(line) => put_number(out, *line),
         Clause::Statement(statement) => put_statement(out, statement),
     }
+    out.put("}")
 }
 
 /// A statement, with braces round what is inside another one.
@@ -646,15 +632,10 @@ fn put_statement(out: &mut Told, statement: &Statement) {
             clause,
             otherwise,
         } => {
-            out.put("IF ");
-            put_expr(out, condition);
-            out.put(" THEN {");
-            put_clause(out, clause);
-            out.put("}");
+            put_worded(out, "IF ", condition);
+            put_clause(out, " THEN {", clause);
             if let Some(clause) = otherwise {
-                out.put(" ELSE {");
-                put_clause(out, clause);
-                out.put("}");
+                put_clause(out, " ELSE {", clause);
             }
         }
         Statement::IfGoto {
@@ -662,13 +643,10 @@ fn put_statement(out: &mut Told, statement: &Statement) {
             line,
             otherwise,
         } => {
-            out.put("IF ");
-            put_expr(out, condition);
+            put_worded(out, "IF ", condition);
             put_line(out, " GOTO", Some(*line));
             if let Some(clause) = otherwise {
-                out.put(" ELSE {");
-                put_clause(out, clause);
-                out.put("}");
+                put_clause(out, " ELSE {", clause);
             }
         }
         Statement::Modified {
@@ -680,11 +658,7 @@ fn put_statement(out: &mut Told, statement: &Statement) {
             out.put("}");
             put_modifier(out, modifier)
         }
-        other => {
-            if !(put_jump(out, other) || put_file(out, other) || put_array(out, other)) {
-                put_value(out, other);
-            }
-        }
+        other => put_simple(out, other),
     }
 }
 

@@ -1,5 +1,6 @@
 //! Whole numbers, texts, failures, and numbers that stand in a text.
 
+use crate::expects::{expect, expect_bytes, expect_none, expect_none_of};
 use basic_values::{
     Fault, Halt, Int, KeyLine, Series, Text, Trouble, blanks_at_end, blanks_in_front, compare,
     concat, digits_in_front, identical, letters_in_front, number_between, without_end_blanks,
@@ -33,9 +34,7 @@ fn first_wrong_sum() -> Option<usize> {
 
 #[test]
 fn sums_wrap_and_are_printed(rt: HostRuntime) -> Result<(), Fail> {
-    let wrong = first_wrong_sum();
-    assert_eq!(rt; wrong, None);
-    Ok(())
+    expect_none(rt.alloc(), first_wrong_sum())
 }
 
 const LOW: i16 = -32768;
@@ -187,13 +186,19 @@ fn first_wrong_turn() -> Option<usize> {
     None
 }
 
+/// Whether a division by 0 is refused with its own error.
+fn is_refused_at_zero() -> bool {
+    match Int::new(LOW).div(Int::new(0)) {
+        Ok(_) => false,
+        Err(fault) => fault == Fault::new(61),
+    }
+}
+
 #[test]
 fn operators_at_the_ends_of_their_range(rt: HostRuntime) -> Result<(), Fail> {
-    let wrong = (first_wrong_operation(), first_wrong_turn());
-    assert_eq!(rt; wrong, (None, None));
-    let refused = Int::new(LOW).div(Int::new(0));
-    assert_eq!(rt; refused, Err(Fault::new(61)));
-    Ok(())
+    expect_none_of(rt.alloc(), "the operations", first_wrong_operation())?;
+    expect_none_of(rt.alloc(), "the turned numbers", first_wrong_turn())?;
+    expect(is_refused_at_zero(), "a division by 0")
 }
 
 /// Two texts, their order, and whether they are the same to the last byte.
@@ -222,9 +227,7 @@ fn first_wrong_order() -> Option<usize> {
 
 #[test]
 fn texts_are_compared(rt: HostRuntime) -> Result<(), Fail> {
-    let wrong = first_wrong_order();
-    assert_eq!(rt; wrong, None);
-    Ok(())
+    expect_none(rt.alloc(), first_wrong_order())
 }
 
 /// So many spaces.
@@ -233,7 +236,9 @@ fn spaces(alloc: Global, count: usize) -> Result<Vec<u8>, AllocError> {
 }
 
 /// The lengths of two texts, and that of both as one; none where it is too long.
-static LENGTHS: [(usize, usize, Option<usize>); 8] = [
+type Lengths = (usize, usize, Option<usize>);
+
+static LENGTHS: [Lengths; 8] = [
     (0, 0, Some(0)),
     (1, 0, Some(1)),
     (1, 32765, Some(32766)),
@@ -267,23 +272,34 @@ fn length_in_place(alloc: Global, first: usize, second: usize) -> Result<Option<
     }
 }
 
+/// Whether two texts have that length as one, either way.
+fn have_length(alloc: Global, row: &Lengths) -> Result<bool, Fail> {
+    let both = length_of_both(alloc, row.0, row.1)?;
+    let in_place = length_in_place(alloc, row.0, row.1)?;
+    Ok(both == row.2 && in_place == row.2)
+}
+
 fn first_wrong_length(alloc: Global) -> Result<Option<usize>, Fail> {
-    for (place, (first, second, length)) in LENGTHS.iter().enumerate() {
-        let both = length_of_both(alloc, *first, *second)?;
-        if both != *length || length_in_place(alloc, *first, *second)? != *length {
+    for (place, row) in LENGTHS.iter().enumerate() {
+        if !have_length(alloc, row)? {
             return Ok(Some(place));
         }
     }
     Ok(None)
 }
 
+/// Fails unless a text has the bytes that it is made of.
+fn expect_text(alloc: Global, bytes: &[u8]) -> Result<(), Fail> {
+    match Text::of(alloc, bytes) {
+        Ok(text) => expect_bytes(alloc, text.as_bytes(), bytes),
+        Err(_) => Err("no text")?,
+    }
+}
+
 #[test]
 fn texts_end_at_their_greatest_length(rt: HostRuntime) -> Result<(), Fail> {
-    let wrong = first_wrong_length(rt.alloc())?;
-    assert_eq!(rt; wrong, None);
-    let text = Text::of(rt.alloc(), b"AB").ok().ok_or("no text")?;
-    assert_eq!(rt; text.as_bytes(), b"AB".as_slice());
-    Ok(())
+    expect_none(rt.alloc(), first_wrong_length(rt.alloc())?)?;
+    expect_text(rt.alloc(), b"AB")
 }
 
 /// The number of an error, and its words.
@@ -329,9 +345,8 @@ fn first_wrong_halt() -> Option<usize> {
 
 #[test]
 fn failures_have_their_words(rt: HostRuntime) -> Result<(), Fail> {
-    let wrong = (first_wrong_fault(), first_wrong_halt());
-    assert_eq!(rt; wrong, (None, None));
-    Ok(())
+    expect_none_of(rt.alloc(), "the errors", first_wrong_fault())?;
+    expect_none_of(rt.alloc(), "the halts", first_wrong_halt())
 }
 
 /// The least and the greatest number, a text, and the number that it is.
@@ -366,9 +381,7 @@ fn first_wrong_number() -> Option<usize> {
 
 #[test]
 fn numbers_stand_in_their_range(rt: HostRuntime) -> Result<(), Fail> {
-    let wrong = first_wrong_number();
-    assert_eq!(rt; wrong, None);
-    Ok(())
+    expect_none(rt.alloc(), first_wrong_number())
 }
 
 /// A text, the blanks, letters and digits in front of it, and the blanks at its end.
@@ -413,24 +426,23 @@ fn first_wrong_run() -> Option<usize> {
 
 #[test]
 fn texts_begin_and_end_with_runs(rt: HostRuntime) -> Result<(), Fail> {
-    let wrong = first_wrong_run();
-    assert_eq!(rt; wrong, None);
-    Ok(())
+    expect_none(rt.alloc(), first_wrong_run())
 }
 
-fn series_of(alloc: Global, numbers: &[u16]) -> Result<Series<u16>, Fail> {
-    let mut list = Vec::new(alloc);
-    for number in numbers {
-        list.push(*number)?;
-    }
-    Ok(Series::from_vec(list))
+/// Whether a list has the numbers that it is made of.
+fn gives_back(alloc: Global, numbers: &[u16]) -> Result<bool, Fail> {
+    let series = Series::from_vec(Vec::from_slice(alloc, numbers)?);
+    Ok(series.as_slice() == numbers)
+}
+
+/// Fails unless a line of keys has the bytes that it is made of.
+fn expect_keys(alloc: Global, bytes: &[u8]) -> Result<(), Fail> {
+    let line = KeyLine::of(alloc, bytes)?;
+    expect_bytes(alloc, line.as_bytes(), bytes)
 }
 
 #[test]
 fn lists_are_given_back_in_order(rt: HostRuntime) -> Result<(), Fail> {
-    let series = series_of(rt.alloc(), &[20, 10, 20])?;
-    assert_eq!(rt; series.as_slice(), [20, 10, 20].as_slice());
-    let line = KeyLine::of(rt.alloc(), b"PRINT 1")?;
-    assert_eq!(rt; line.as_bytes(), b"PRINT 1".as_slice());
-    Ok(())
+    expect(gives_back(rt.alloc(), &[20, 10, 20])?, "a list")?;
+    expect_keys(rt.alloc(), b"PRINT 1")
 }

@@ -13,12 +13,11 @@ ghost use Rattle.polish_code.specs.Code.{Ex, It, input_pieces, printed_on_pieces
 ghost use Rattle.lowering.specs.Emission.{with_expression, with_trees, with_pieces};
 
 use crate::expressions::emit_expr;
-use crate::lookups::Lookups;
-use crate::numbers::{counted, next};
 use crate::simple::emit_targets;
 use crate::sink::Sink;
 use basic_tree::{Expr, Name, Operator, PrintItem, Printed, Separator, Target, UsingItem};
 use basic_values::{NoMemory, Text};
+use code_places::{Lookups, counted, next};
 use polish_code::Item;
 use std::alloc::Global;
 

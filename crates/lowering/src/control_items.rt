@@ -10,11 +10,11 @@ ghost use Rattle.polish_code.specs.Code.{Ex, It, places_of, targets_pieces};
 ghost use Rattle.lowering.specs.Emission.{with_pieces, with_simple};
 
 use crate::expressions::emit_expr;
-use crate::lookups::Lookups;
 use crate::simple::{emit_step, emit_stores, line_places};
 use crate::sink::Sink;
 use basic_tree::{Expr, Name, Target};
 use basic_values::NoMemory;
+use code_places::Lookups;
 use polish_code::{FileAct, Item};
 use std::alloc::Global;
 

@@ -2,9 +2,9 @@
 
 ghost use Rattle.std.specs.Prelude.{◌≡◌};
 
-use crate::numbers::next;
 use crate::sink::{Jump, Over, Sink};
 use basic_values::NoMemory;
+use code_places::next;
 use polish_code::Item;
 use std::alloc::Global;
 use std::marker::Model;

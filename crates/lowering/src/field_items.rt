@@ -8,10 +8,10 @@ ghost use Rattle.program_model.specs.FileStatements.{in_order};
 ghost use Rattle.lowering.specs.Emission.{with_pieces, with_trees};
 
 use crate::expressions::emit_expr;
-use crate::lookups::Lookups;
 use crate::sink::Sink;
 use basic_tree::{Expr, FieldPart, Name, Series};
 use basic_values::NoMemory;
+use code_places::Lookups;
 use polish_code::{FileAct, Item};
 use record_fields::Side;
 use std::alloc::Global;

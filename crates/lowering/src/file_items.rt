@@ -9,10 +9,10 @@ ghost use Rattle.program_model.specs.FileStatements.{or_zero, kind_for};
 ghost use Rattle.lowering.specs.Emission.{with_expression, with_pieces};
 
 use crate::expressions::emit_expr;
-use crate::lookups::Lookups;
 use crate::sink::Sink;
 use basic_tree::{CloseChannel, Expr, OpenFor};
 use basic_values::NoMemory;
+use code_places::Lookups;
 use monitor_calls::OpenKind;
 use polish_code::{FileAct, Item};
 use std::alloc::Global;

@@ -5,9 +5,9 @@ ghost use Rattle.basic_tree.specs.StatementViews.{statement_of, clause_of};
 ghost use Rattle.program_model.specs.Program.{loops_in, loops_in_clause};
 ghost use Rattle.statement_walk.specs.Walk.{loops_by, loops_alone};
 
-use crate::numbers::add;
 use basic_tree::{Clause, Statement};
 use basic_values::NoMemory;
+use code_places::add;
 use statement_walk::{Part, Simple, Visitor, visit_clause, visit_parts};
 use std::marker::Model;
 

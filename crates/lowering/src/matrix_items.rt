@@ -9,10 +9,10 @@ ghost use Rattle.program_model.specs.Parts.{matrix_expressions};
 ghost use Rattle.lowering.specs.Emission.{with_pieces};
 
 use crate::expressions::emit_expr;
-use crate::lookups::Lookups;
 use crate::sink::Sink;
 use basic_tree::{MatrixValue, Name, Series};
 use basic_values::NoMemory;
+use code_places::Lookups;
 use polish_code::{Item, MatrixAct, MatrixForm};
 use std::alloc::Global;
 

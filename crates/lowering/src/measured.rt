@@ -11,12 +11,11 @@ ghost use Rattle.lowering.specs.Jumps.{items_over, jump_item};
 
 use crate::counted::Counted;
 use crate::expressions::emit_expr;
-use crate::nowhere::Nowhere;
-use crate::numbers::{next, sum};
 use crate::sink::{Jump, Over};
 use crate::statements::{emit_body, emit_clause};
 use basic_tree::{Clause, Expr, Statement};
 use basic_values::NoMemory;
+use code_places::{Nowhere, next, sum};
 use polish_code::Item;
 use std::alloc::Global;
 

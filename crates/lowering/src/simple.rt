@@ -15,18 +15,16 @@ use crate::channel_items::{emit_input_on, emit_line_on, emit_print_on, emit_prin
 use crate::control_items::{
     emit_end, emit_for, emit_let, emit_line_asked, emit_on_gosub, emit_on_goto, emit_result,
 };
-use crate::elements::store_item;
 use crate::expressions::emit_expr;
 use crate::field_items::{emit_field, emit_justify};
 use crate::file_items::{emit_close, emit_open, emit_with_block, emit_with_one, emit_with_two};
-use crate::lookups::Lookups;
 use crate::matrix_items::{emit_mat_let, emit_mat_read};
-use crate::numbers::counted;
 use crate::sink::{Jump, Over, Sink};
 use basic_tree::{
     ChainLine, Expr, PrintItem, Printed, Prompt, Separator, Series, Statement, Target,
 };
 use basic_values::{NoMemory, Text};
+use code_places::{Lookups, counted, store_item};
 use monitor_calls::copy_of;
 use polish_code::{FileAct, Item, MatrixAct};
 use program_soundness::named_line;

@@ -5,7 +5,7 @@ use crate::asks::Job::Zero;
 use crate::asks::Label::{First, Second};
 use crate::asks::OWNER;
 use crate::replies::Said::{Block, Done, Failed, Opened};
-use crate::runs::{Row, wrong_row};
+use crate::runs::{Row, expect_rows};
 use monitor_calls::OpenKind::Fresh;
 use std::test::Fail;
 
@@ -31,9 +31,7 @@ static HOLE: [Row; 16] = [
 
 #[test]
 fn a_file_grows_over_a_hole_of_zeros(rt: HostRuntime) -> Result<(), Fail> {
-    let wrong = wrong_row(&rt, 5, 100, &HOLE)?;
-    assert_eq!(rt; wrong, None);
-    Ok(())
+    expect_rows(rt.alloc(), 5, 100, &HOLE)
 }
 
 /// What a disk of three blocks has no room for is done behind a Kill.
@@ -50,7 +48,5 @@ static FULL: [Row; 8] = [
 
 #[test]
 fn a_full_disk_has_room_behind_a_kill(rt: HostRuntime) -> Result<(), Fail> {
-    let wrong = wrong_row(&rt, 3, 100, &FULL)?;
-    assert_eq!(rt; wrong, None);
-    Ok(())
+    expect_rows(rt.alloc(), 3, 100, &FULL)
 }

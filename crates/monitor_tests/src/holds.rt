@@ -5,7 +5,7 @@ use crate::asks::Job::{One, Zero};
 use crate::asks::Label::First;
 use crate::asks::{NEIGHBOUR, OWNER};
 use crate::replies::Said::{Block, Done, Expired, Failed, Opened};
-use crate::runs::{Row, wrong_row};
+use crate::runs::{Row, expect_rows};
 use monitor_calls::OpenKind::{Either, Fresh, Input};
 use std::test::Fail;
 
@@ -34,9 +34,7 @@ static IN_TURN: [Row; 19] = [
 
 #[test]
 fn channels_hold_a_block_in_turn(rt: HostRuntime) -> Result<(), Fail> {
-    let wrong = wrong_row(&rt, 8, 100, &IN_TURN)?;
-    assert_eq!(rt; wrong, None);
-    Ok(())
+    expect_rows(rt.alloc(), 8, 100, &IN_TURN)
 }
 
 /// An account of five calls: the fifth ends the job, and what it held is free.
@@ -56,7 +54,5 @@ static LAST_CALL: [Row; 11] = [
 
 #[test]
 fn an_expired_job_holds_nothing(rt: HostRuntime) -> Result<(), Fail> {
-    let wrong = wrong_row(&rt, 8, 5, &LAST_CALL)?;
-    assert_eq!(rt; wrong, None);
-    Ok(())
+    expect_rows(rt.alloc(), 8, 5, &LAST_CALL)
 }

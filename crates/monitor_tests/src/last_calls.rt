@@ -8,10 +8,9 @@ use crate::asks::Job::{One, Zero};
 use crate::asks::Label::{First, Second};
 use crate::asks::{NEIGHBOUR, OWNER};
 use crate::replies::Said::{Block, Done, Expired, Failed, Opened, Record};
-use crate::runs::{Row, volume_in_quota, wrong_row, wrong_row_over};
+use crate::runs::{Row, expect_rows, expect_rows_over, volume_in_quota};
 use monitor_calls::OpenKind::{Fresh, Input, Output};
-use std::alloc::AllocGlobal;
-use std::process::Abort;
+use std::alloc::Global;
 use std::test::Fail;
 
 /// A file of four blocks on two channels of one job, and on one of another.
@@ -40,9 +39,7 @@ static RECORDS: [Row; 20] = [
 
 #[test]
 fn a_channel_holds_a_record_whole_or_not_at_all(rt: HostRuntime) -> Result<(), Fail> {
-    let wrong = wrong_row(&rt, 8, 100, &RECORDS)?;
-    assert_eq!(rt; wrong, None);
-    Ok(())
+    expect_rows(rt.alloc(), 8, 100, &RECORDS)
 }
 
 /// What is no record, and what a file of two blocks grows to.
@@ -73,9 +70,7 @@ static RECORD_REFUSALS: [Row; 22] = [
 
 #[test]
 fn a_record_grows_a_file_whole_or_not_at_all(rt: HostRuntime) -> Result<(), Fail> {
-    let wrong = wrong_row(&rt, 8, 100, &RECORD_REFUSALS)?;
-    assert_eq!(rt; wrong, None);
-    Ok(())
+    expect_rows(rt.alloc(), 8, 100, &RECORD_REFUSALS)
 }
 
 /// The owner has a quota of one block, on a disk of eight.
@@ -92,9 +87,7 @@ static IN_QUOTA: [Row; 8] = [
 
 #[test]
 fn a_file_grows_in_its_owners_quota(rt: HostRuntime) -> Result<(), Fail> {
-    let wrong = wrong_row_in_quota(&rt, 1, &IN_QUOTA)?;
-    assert_eq!(rt; wrong, None);
-    Ok(())
+    expect_rows_in_quota(rt.alloc(), 1, &IN_QUOTA)
 }
 
 /// A neighbour, who has all blocks for files of his own, makes the owner's file anew.
@@ -112,20 +105,14 @@ static OVER_A_STRANGERS: [Row; 9] = [
 
 #[test]
 fn a_stranger_writes_in_the_owners_quota(rt: HostRuntime) -> Result<(), Fail> {
-    let wrong = wrong_row_in_quota(&rt, 2, &OVER_A_STRANGERS)?;
-    assert_eq!(rt; wrong, None);
-    Ok(())
+    expect_rows_in_quota(rt.alloc(), 2, &OVER_A_STRANGERS)
 }
 
-/// The place of the first row that is replied otherwise, over a disk of eight blocks of which the
-/// owner may have so many.
-fn wrong_row_in_quota(
-    rt: &(impl AllocGlobal + Abort),
-    quota: u16,
-    rows: &[Row],
-) -> Result<Option<usize>, Fail> {
-    let volume = volume_in_quota(rt.alloc(), 8, 100, quota)?;
-    wrong_row_over(rt, &volume, rows)
+/// Fails with the place of the first row that is replied otherwise, over a disk of eight blocks of
+/// which the owner may have so many.
+fn expect_rows_in_quota(alloc: Global, quota: u16, rows: &[Row]) -> Result<(), Fail> {
+    let volume = volume_in_quota(alloc, 8, 100, quota)?;
+    expect_rows_over(alloc, &volume, rows)
 }
 
 /// Two jobs want the printer.
@@ -158,9 +145,7 @@ static PRINTER: [Row; 24] = [
 
 #[test]
 fn one_job_at_a_time_has_the_printer(rt: HostRuntime) -> Result<(), Fail> {
-    let wrong = wrong_row(&rt, 8, 100, &PRINTER)?;
-    assert_eq!(rt; wrong, None);
-    Ok(())
+    expect_rows(rt.alloc(), 8, 100, &PRINTER)
 }
 
 /// An account of four calls: the fourth ends the job, and the printer is free.
@@ -177,7 +162,5 @@ static LAST_LISTING: [Row; 8] = [
 
 #[test]
 fn an_expired_job_has_no_printer(rt: HostRuntime) -> Result<(), Fail> {
-    let wrong = wrong_row(&rt, 8, 4, &LAST_LISTING)?;
-    assert_eq!(rt; wrong, None);
-    Ok(())
+    expect_rows(rt.alloc(), 8, 4, &LAST_LISTING)
 }

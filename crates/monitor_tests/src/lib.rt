@@ -7,6 +7,8 @@ mod asks;
 #[cfg(test)]
 mod disks;
 #[cfg(test)]
+mod expects;
+#[cfg(test)]
 mod holds;
 #[cfg(test)]
 mod last_calls;

@@ -4,10 +4,10 @@ use crate::asks::Ask::{Declare, Login, Logout, Receive, Remove, Send, SendLong, 
 use crate::asks::Job::{One, Zero};
 use crate::asks::Label::{First, Second};
 use crate::asks::{OWNER, STRANGER};
+use crate::expects::expect;
 use crate::replies::Said::{Done, Failed, Message, State};
-use crate::runs::{Row, Run, empty_volume, wrong_row};
-use std::alloc::{AllocGlobal, Global};
-use std::process::Abort;
+use crate::runs::{Row, Run, empty_volume, expect_rows};
+use std::alloc::Global;
 use std::test::Fail;
 
 /// A receiver takes two messages, and a job and a name declare once.
@@ -38,9 +38,7 @@ static TWO_MESSAGES: [Row; 22] = [
 
 #[test]
 fn a_job_receives_in_the_order_of_sending(rt: HostRuntime) -> Result<(), Fail> {
-    let wrong = wrong_row(&rt, 8, 100, &TWO_MESSAGES)?;
-    assert_eq!(rt; wrong, None);
-    Ok(())
+    expect_rows(rt.alloc(), 8, 100, &TWO_MESSAGES)
 }
 
 /// What was sent to a job is gone when the job ends, and so is its receiver.
@@ -63,9 +61,7 @@ static LOGGED_IN_AGAIN: [Row; 14] = [
 
 #[test]
 fn a_receiver_ends_with_its_job(rt: HostRuntime) -> Result<(), Fail> {
-    let wrong = wrong_row(&rt, 8, 100, &LOGGED_IN_AGAIN)?;
-    assert_eq!(rt; wrong, None);
-    Ok(())
+    expect_rows(rt.alloc(), 8, 100, &LOGGED_IN_AGAIN)
 }
 
 static DECLARED: [Row; 3] = [
@@ -79,44 +75,37 @@ static ONE_MORE: [Row; 1] = [(One, Send(Second, 32), Failed(32))];
 
 #[test]
 fn a_full_queue_keeps_its_order(rt: HostRuntime) -> Result<(), Fail> {
-    let kept = is_order_kept(&rt)?;
-    assert!(rt; kept);
+    let mut run = open_empty(rt.alloc())?;
+    expect_full_queue(&mut run, rt.alloc())
+}
+
+fn open_empty(alloc: Global) -> Result<Run, Fail> {
+    let volume = empty_volume(alloc, 8, 100)?;
+    Run::open(alloc, &volume)
+}
+
+/// Fails unless 32 messages are taken and no more, and are received in their order.
+fn expect_full_queue(run: &mut Run, alloc: Global) -> Result<(), Fail> {
+    run.expect_rows(alloc, &DECLARED)?;
+    expect_sent(run, alloc, 32)?;
+    run.expect_rows(alloc, &ONE_MORE)?;
+    expect_received(run, alloc, 32)
+}
+
+/// Fails unless so many messages are taken, the first of byte 0, the next of byte 1.
+fn expect_sent(run: &mut Run, alloc: Global, count: u8) -> Result<(), Fail> {
+    for byte in 0..count {
+        let is_sent = run.is_replied(alloc, One, Send(Second, byte), Done)?;
+        expect(is_sent, "a message is not taken")?;
+    }
     Ok(())
 }
 
-fn is_order_kept(rt: &(impl AllocGlobal + Abort)) -> Result<bool, Fail> {
-    let volume = empty_volume(rt.alloc(), 8, 100)?;
-    let mut run = Run::open(rt, &volume)?;
-    is_full_queue_kept(&mut run, rt.alloc())
-}
-
-/// Whether 32 messages are taken and no more, and are received in their order.
-fn is_full_queue_kept(run: &mut Run, alloc: Global) -> Result<bool, Fail> {
-    if run.first_wrong(alloc, &DECLARED)?.is_some() || !are_sent(run, alloc, 32)? {
-        return Ok(false);
-    }
-    if run.first_wrong(alloc, &ONE_MORE)?.is_some() {
-        return Ok(false);
-    }
-    are_received(run, alloc, 32)
-}
-
-/// Whether so many messages are taken, the first of byte 0, the next of byte 1.
-fn are_sent(run: &mut Run, alloc: Global, count: u8) -> Result<bool, Fail> {
+/// Fails unless these messages are received in their order.
+fn expect_received(run: &mut Run, alloc: Global, count: u8) -> Result<(), Fail> {
     for byte in 0..count {
-        if !run.is_replied(alloc, One, Send(Second, byte), Done)? {
-            return Ok(false);
-        }
+        let is_received = run.is_replied(alloc, Zero, Receive, Message(1, STRANGER, byte))?;
+        expect(is_received, "another message is received")?;
     }
-    Ok(true)
-}
-
-/// Whether these messages are received in their order.
-fn are_received(run: &mut Run, alloc: Global, count: u8) -> Result<bool, Fail> {
-    for byte in 0..count {
-        if !run.is_replied(alloc, Zero, Receive, Message(1, STRANGER, byte))? {
-            return Ok(false);
-        }
-    }
-    Ok(true)
+    Ok(())
 }

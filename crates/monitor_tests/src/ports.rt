@@ -3,13 +3,13 @@
 use crate::asks::Ask::{self, GetRecord, Guess, Login, Logout, Open, PutRecord, Status, Tick};
 use crate::asks::Label::First;
 use crate::asks::{NEIGHBOUR, OWNER, request};
+use crate::expects::expect_none;
 use crate::replies::Said::{self, Done, Expired, Failed, Opened, Record, State};
 use crate::runs::empty_volume;
 use monitor_calls::OpenKind::Fresh;
 use monitor_calls::{Port, RunRecord, Volume};
 use monitor_core::{Monitor, PlainPort};
-use std::alloc::{AllocGlobal, Global};
-use std::process::Abort;
+use std::alloc::Global;
 use std::test::Fail;
 
 /// What the port's job asks, and what it is to be replied.
@@ -30,9 +30,7 @@ static CALLS: [Call; 9] = [
 
 #[test]
 fn a_port_keeps_what_was_asked(rt: HostRuntime) -> Result<(), Fail> {
-    let wrong = wrong_call(&rt, 3, &CALLS)?;
-    assert_eq!(rt; wrong, None);
-    Ok(())
+    expect_none(rt.alloc(), wrong_call(rt.alloc(), 3, &CALLS)?)
 }
 
 /// Records of three blocks and of fewer, whose pages the history has too.
@@ -49,19 +47,13 @@ static RECORDS: [Call; 8] = [
 
 #[test]
 fn a_port_keeps_the_pages_of_records(rt: HostRuntime) -> Result<(), Fail> {
-    let wrong = wrong_call(&rt, 100, &RECORDS)?;
-    assert_eq!(rt; wrong, None);
-    Ok(())
+    expect_none(rt.alloc(), wrong_call(rt.alloc(), 100, &RECORDS)?)
 }
 
 /// The place of the first call that the port kept with another reply, or of the end where it kept
 /// more or fewer.
-fn wrong_call(
-    rt: &(impl AllocGlobal + Abort),
-    limit: u16,
-    calls: &[Call],
-) -> Result<Option<usize>, Fail> {
-    let record = kept(rt, limit, calls)?;
+fn wrong_call(alloc: Global, limit: u16, calls: &[Call]) -> Result<Option<usize>, Fail> {
+    let record = kept(alloc, limit, calls)?;
     if record.as_slice().len() != calls.len() {
         return Ok(Some(calls.len()));
     }
@@ -72,17 +64,19 @@ fn wrong_call(
 }
 
 /// What the port kept of the calls.
-fn kept(rt: &(impl AllocGlobal + Abort), limit: u16, calls: &[Call]) -> Result<RunRecord, Fail> {
-    let volume = empty_volume(rt.alloc(), 8, limit)?;
-    let mut port = opened(rt, &volume)?;
-    ask_all(&mut port, rt.alloc(), calls)?;
+fn kept(alloc: Global, limit: u16, calls: &[Call]) -> Result<RunRecord, Fail> {
+    let volume = empty_volume(alloc, 8, limit)?;
+    let mut port = opened(alloc, &volume)?;
+    ask_all(&mut port, alloc, calls)?;
     Ok(port.close())
 }
 
-fn opened(rt: &(impl AllocGlobal + Abort), volume: &Volume) -> Result<PlainPort, Fail> {
-    assert!(rt; volume.is_good());
-    let monitor = Monitor::open(rt.alloc(), volume, 1)?;
-    Ok(PlainPort::new(rt.alloc(), monitor, 0))
+fn opened(alloc: Global, volume: &Volume) -> Result<PlainPort, Fail> {
+    if !volume.is_good() {
+        return Err(Fail::new("the volume is not good"));
+    }
+    let monitor = Monitor::open(alloc, volume, 1)?;
+    Ok(PlainPort::new(alloc, monitor, 0))
 }
 
 fn ask_all<P: Port>(port: &mut P, alloc: Global, calls: &[Call]) -> Result<(), Fail> {

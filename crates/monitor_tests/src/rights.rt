@@ -5,7 +5,7 @@ use crate::asks::Job::{One, Zero};
 use crate::asks::Label::{First, Second, Third};
 use crate::asks::{NEIGHBOUR, OWNER, STRANGER, file};
 use crate::replies::Said::{Block, Done, Failed, Name, Opened, State};
-use crate::runs::{Row, accounts, wrong_row, wrong_row_over};
+use crate::runs::{Row, accounts, expect_rows, expect_rows_over};
 use crate::volumes::file_entry;
 use monitor_calls::OpenKind::{Fresh, Input, Output};
 use monitor_calls::Volume;
@@ -31,9 +31,7 @@ static ONE_FILE: [Row; 13] = [
 
 #[test]
 fn a_code_leaves_another_account_no_writing(rt: HostRuntime) -> Result<(), Fail> {
-    let wrong = wrong_row(&rt, 8, 100, &ONE_FILE)?;
-    assert_eq!(rt; wrong, None);
-    Ok(())
+    expect_rows(rt.alloc(), 8, 100, &ONE_FILE)
 }
 
 /// Each job acts for the account that it logged in to, and a job without one does nothing.
@@ -48,9 +46,7 @@ static OWN_ACCOUNTS: [Row; 6] = [
 
 #[test]
 fn a_job_acts_for_its_own_account(rt: HostRuntime) -> Result<(), Fail> {
-    let wrong = wrong_row(&rt, 8, 100, &OWN_ACCOUNTS)?;
-    assert_eq!(rt; wrong, None);
-    Ok(())
+    expect_rows(rt.alloc(), 8, 100, &OWN_ACCOUNTS)
 }
 
 /// The first file of the volume is denied to the stranger, the second is not.
@@ -74,9 +70,7 @@ static DIRECTORY: [Row; 14] = [
 #[test]
 fn a_denied_file_tells_no_blocks(rt: HostRuntime) -> Result<(), Fail> {
     let volume = volume(rt.alloc())?;
-    let wrong = wrong_row_over(&rt, &volume, &DIRECTORY)?;
-    assert_eq!(rt; wrong, None);
-    Ok(())
+    expect_rows_over(rt.alloc(), &volume, &DIRECTORY)
 }
 
 /// A file of two blocks with the code 60, and one of three with the code 0.

@@ -3,12 +3,12 @@
 ghost use Rattle.std.specs.Prelude.{◌≡◌, length};
 
 use crate::asks::{Ask, Job, NEIGHBOUR, OWNER, STRANGER, request, short};
+use crate::expects::expect_none;
 use crate::replies::Said;
 use basic_values::limits::MOST_QUOTA;
 use monitor_calls::{AccountEntry, Reply, Volume, blank_page};
 use monitor_core::Monitor;
-use std::alloc::{AllocGlobal, Global};
-use std::process::Abort;
+use std::alloc::Global;
 use std::test::Fail;
 
 /// A job, what it asks, and what it is to be replied.
@@ -23,18 +23,21 @@ pub(crate) struct Run {
 
 impl Run {
     /// Two jobs over a volume, which has to be good.
-    pub(crate) fn open(rt: &(impl AllocGlobal + Abort), volume: &Volume) -> Result<Run, Fail> {
-        assert!(rt; volume.is_good());
-        let monitor = Monitor::open(rt.alloc(), volume, 2)?;
+    pub(crate) fn open(alloc: Global, volume: &Volume) -> Result<Run, Fail> {
+        if !volume.is_good() {
+            return Err(Fail::new("the volume is not good"));
+        }
+        let monitor = Monitor::open(alloc, volume, 2)?;
         Ok(Run { monitor })
     }
 
-    /// The place of the first row that is replied otherwise, where the rows are asked in turn.
-    pub(crate) fn first_wrong(
-        &mut self,
-        alloc: Global,
-        rows: &[Row],
-    ) -> Result<Option<usize>, Fail> {
+    /// Fails with the place of the first row that is replied otherwise, where the rows are asked in
+    /// turn.
+    pub(crate) fn expect_rows(&mut self, alloc: Global, rows: &[Row]) -> Result<(), Fail> {
+        expect_none(alloc, self.first_wrong(alloc, rows)?)
+    }
+
+    fn first_wrong(&mut self, alloc: Global, rows: &[Row]) -> Result<Option<usize>, Fail> {
         for (place, row) in rows.iter().enumerate() {
             let (job, ask, said) = *row;
             if !self.is_replied(alloc, job, ask, said)? {
@@ -64,26 +67,22 @@ impl Run {
     }
 }
 
-/// The place of the first row that is replied otherwise, over a disk of so many blocks without
-/// files. Each account allows so many calls.
-pub(crate) fn wrong_row(
-    rt: &(impl AllocGlobal + Abort),
+/// Fails with the place of the first row that is replied otherwise, over a disk of so many blocks
+/// without files. Each account allows so many calls.
+pub(crate) fn expect_rows(
+    alloc: Global,
     blocks: u16,
     limit: u16,
     rows: &[Row],
-) -> Result<Option<usize>, Fail> {
-    let volume = empty_volume(rt.alloc(), blocks, limit)?;
-    wrong_row_over(rt, &volume, rows)
+) -> Result<(), Fail> {
+    let volume = empty_volume(alloc, blocks, limit)?;
+    expect_rows_over(alloc, &volume, rows)
 }
 
 /// The same over a volume, which has to be good.
-pub(crate) fn wrong_row_over(
-    rt: &(impl AllocGlobal + Abort),
-    volume: &Volume,
-    rows: &[Row],
-) -> Result<Option<usize>, Fail> {
-    let mut run = Run::open(rt, volume)?;
-    run.first_wrong(rt.alloc(), rows)
+pub(crate) fn expect_rows_over(alloc: Global, volume: &Volume, rows: &[Row]) -> Result<(), Fail> {
+    let mut run = Run::open(alloc, volume)?;
+    run.expect_rows(alloc, rows)
 }
 
 /// A disk of so many blocks without files.

@@ -1,6 +1,7 @@
 //! Which texts are names, and which volumes are good.
 
 use crate::asks::{OWNER, short};
+use crate::expects::expect_none;
 use basic_values::Series;
 use basic_values::limits::MOST_QUOTA;
 use monitor_calls::{
@@ -9,8 +10,10 @@ use monitor_calls::{
 use std::alloc::Global;
 use std::test::Fail;
 
-/// Whether a text is a short one, a password, and a terminal's name.
-static TEXTS: [(&[u8], bool, bool, bool); 8] = [
+/// A text, and whether it is a short one, a password, and a terminal's name.
+type TextRow = (&'static [u8], bool, bool, bool);
+
+static TEXTS: [TextRow; 8] = [
     (b"", true, false, false),
     (b"DEMO7", true, true, true),
     (b"demo7", true, false, false),
@@ -21,13 +24,17 @@ static TEXTS: [(&[u8], bool, bool, bool); 8] = [
     (b"A B", false, false, false),
 ];
 
+/// Whether a text is what its row says.
+fn is_taken(row: &TextRow) -> bool {
+    let (text, is_short, is_password, is_name) = *row;
+    Short::of(text).is_some() == is_short
+        && Short::password(text).is_some() == is_password
+        && TerminalName::of(text).is_some() == is_name
+}
+
 #[test]
-fn texts_are_taken_in_their_ranges(rt: HostRuntime) {
-    for (text, is_short, is_password, is_name) in TEXTS {
-        let found = (Short::of(text).is_some(), Short::password(text).is_some());
-        assert_eq!(rt; found, (is_short, is_password), "{text:?}");
-        assert_eq!(rt; TerminalName::of(text).is_some(), is_name, "{text:?}");
-    }
+fn texts_are_taken_in_their_ranges(rt: HostRuntime) -> Result<(), Fail> {
+    expect_none(rt.alloc(), TEXTS.iter().position(|row| !is_taken(row)))
 }
 
 /// The blocks of a volume, the numbers, the password and the limit of its second account, and
@@ -51,13 +58,18 @@ static ACCOUNTS: [AccountRow; 13] = [
     (8, 1, 1, b"DEMO", 16385, false),
 ];
 
+fn first_wrong_account(alloc: Global) -> Result<Option<usize>, Fail> {
+    for (place, row) in ACCOUNTS.iter().enumerate() {
+        if is_good_account(alloc, row)? != row.5 {
+            return Ok(Some(place));
+        }
+    }
+    Ok(None)
+}
+
 #[test]
 fn accounts_of_a_volume_are_in_their_ranges(rt: HostRuntime) -> Result<(), Fail> {
-    for (place, row) in ACCOUNTS.iter().enumerate() {
-        let is_good = is_good_account(rt.alloc(), row)?;
-        assert_eq!(rt; is_good, row.5, "row {place}");
-    }
-    Ok(())
+    expect_none(rt.alloc(), first_wrong_account(rt.alloc())?)
 }
 
 fn is_good_account(alloc: Global, row: &AccountRow) -> Result<bool, Fail> {
@@ -119,13 +131,18 @@ static FILES: [FileRow; 13] = [
     (5, b"SECOND", b"DAT", 64, 0, false),
 ];
 
+fn first_wrong_file(alloc: Global) -> Result<Option<usize>, Fail> {
+    for (place, row) in FILES.iter().enumerate() {
+        if is_good_file(alloc, row)? != row.5 {
+            return Ok(Some(place));
+        }
+    }
+    Ok(None)
+}
+
 #[test]
 fn files_of_a_volume_are_in_their_ranges(rt: HostRuntime) -> Result<(), Fail> {
-    for (place, row) in FILES.iter().enumerate() {
-        let is_good = is_good_file(rt.alloc(), row)?;
-        assert_eq!(rt; is_good, row.5, "row {place}");
-    }
-    Ok(())
+    expect_none(rt.alloc(), first_wrong_file(rt.alloc())?)
 }
 
 fn is_good_file(alloc: Global, row: &FileRow) -> Result<bool, Fail> {
@@ -174,13 +191,18 @@ static QUOTAS: [(u16, u8, bool); 5] = [
     (3, 2, false),
 ];
 
+fn first_wrong_quota(alloc: Global) -> Result<Option<usize>, Fail> {
+    for (place, row) in QUOTAS.iter().enumerate() {
+        if is_good_quota(alloc, row)? != row.2 {
+            return Ok(Some(place));
+        }
+    }
+    Ok(None)
+}
+
 #[test]
 fn files_of_a_volume_are_in_their_quotas(rt: HostRuntime) -> Result<(), Fail> {
-    for (place, row) in QUOTAS.iter().enumerate() {
-        let is_good = is_good_quota(rt.alloc(), row)?;
-        assert_eq!(rt; is_good, row.2, "row {place}");
-    }
-    Ok(())
+    expect_none(rt.alloc(), first_wrong_quota(rt.alloc())?)
 }
 
 fn is_good_quota(alloc: Global, row: &(u16, u8, bool)) -> Result<bool, Fail> {

@@ -1,5 +1,6 @@
 //! Arrays of numbers, read and stored whole.
 
+use crate::expects::{expect, expect_none};
 use crate::memory::{Told, dim, number_name};
 use basic_tree::Name;
 use basic_values::{Int, NoMemory};
@@ -31,7 +32,9 @@ fn memory_with(alloc: Global, name: Name, first: u16, second: Option<u16>) -> Re
 }
 
 /// The bounds of an array, the numbers that are stored, and those that are there then.
-static STORED: [(u16, Option<u16>, &[i16], &[i16]); 3] = [
+type Row = (u16, Option<u16>, &'static [i16], &'static [i16]);
+
+static STORED: [Row; 3] = [
     (2, Some(1), &[1, 2, 3, 4, 5, 6], &[0, 0, 0, 4, 0, 6]),
     (3, None, &[1, 2, 3, 4], &[0, 2, 3, 4]),
     (1, Some(2), &[1, 2, 3, 4], &[0, 0, 0, 0, 0, 0]),
@@ -39,17 +42,25 @@ static STORED: [(u16, Option<u16>, &[i16], &[i16]); 3] = [
 
 /// Whether the array has its bounds, and the numbers are stored to the elements without a subscript 0
 /// alone.
-fn stores_whole(
-    alloc: Global,
-    first: u16,
-    second: Option<u16>,
-    values: &[i16],
-    wanted: &[i16],
-) -> Result<bool, Fail> {
+fn stores_whole(alloc: Global, row: &Row) -> Result<bool, Fail> {
+    let mut memory = memory_with(alloc, number_name(b'A'), row.0, row.1)?;
+    is_stored_whole(alloc, &mut memory, row)
+}
+
+fn is_stored_whole(alloc: Global, memory: &mut Memory, row: &Row) -> Result<bool, Fail> {
+    let (first, second, values, wanted) = *row;
     let name = number_name(b'A');
-    let mut memory = memory_with(alloc, name, first, second)?;
-    set_all(alloc, &mut memory, name, values)?;
-    Ok(holds(&memory, name, wanted)? && memory.bounds(name) == Some((first, second)))
+    set_all(alloc, memory, name, values)?;
+    Ok(holds(memory, name, wanted)? && memory.bounds(name) == Some((first, second)))
+}
+
+fn first_wrong(alloc: Global) -> Result<Option<usize>, Fail> {
+    for (place, row) in STORED.iter().enumerate() {
+        if !stores_whole(alloc, row)? {
+            return Ok(Some(place));
+        }
+    }
+    Ok(None)
 }
 
 fn set_all(alloc: Global, memory: &mut Memory, name: Name, values: &[i16]) -> Result<(), Fail> {
@@ -65,11 +76,7 @@ pub(crate) fn holds(memory: &Memory, name: Name, wanted: &[i16]) -> Result<bool,
 
 #[test]
 fn elements_without_a_subscript_0_are_stored(rt: HostRuntime) -> Result<(), Fail> {
-    for (first, second, values, wanted) in &STORED {
-        let is_right = stores_whole(rt.alloc(), *first, *second, values, wanted)?;
-        assert!(rt; is_right);
-    }
-    Ok(())
+    expect_none(rt.alloc(), first_wrong(rt.alloc())?)
 }
 
 /// The last two numbers of an array of two rows and three columns.
@@ -80,20 +87,24 @@ fn last_two(memory: &Memory, name: Name) -> Result<Vec<Int>, Fail> {
     }
 }
 
+fn expect_last_two(alloc: Global, memory: &mut Memory, name: Name) -> Result<(), Fail> {
+    set_all(alloc, memory, name, &[1, 2, 3, 4, 5, 6])?;
+    let is_right = are(&last_two(memory, name)?, &[5, 6]);
+    expect(is_right, "other numbers")
+}
+
 #[test]
 fn a_part_of_an_array_is_read(rt: HostRuntime) -> Result<(), Fail> {
     let name = number_name(b'A');
     let mut memory = memory_with(rt.alloc(), name, 1, Some(2))?;
-    set_all(rt.alloc(), &mut memory, name, &[1, 2, 3, 4, 5, 6])?;
-    let is_right = are(&last_two(&memory, name)?, &[5, 6]);
-    assert!(rt; is_right);
-    Ok(())
+    expect_last_two(rt.alloc(), &mut memory, name)
 }
 
 #[test]
 fn an_array_that_was_not_made_has_no_bounds(rt: HostRuntime) -> Result<(), Fail> {
     let memory = Memory::new(rt.alloc());
-    let bounds = memory.bounds(number_name(b'A'));
-    assert_eq!(rt; bounds, None);
-    Ok(())
+    expect(
+        memory.bounds(number_name(b'A')).is_none(),
+        "bounds of no array",
+    )
 }

@@ -1,5 +1,6 @@
 //! Columns, and what moves them.
 
+use crate::expects::expect_none;
 use basic_values::Int;
 use std::alloc::Global;
 use std::test::Fail;
@@ -47,9 +48,7 @@ fn first_wrong_bytes(alloc: Global) -> Result<Option<usize>, Fail> {
 
 #[test]
 fn bytes_have_a_column(rt: HostRuntime) -> Result<(), Fail> {
-    let wrong = first_wrong_bytes(rt.alloc())?;
-    assert_eq!(rt; wrong, None);
-    Ok(())
+    expect_none(rt.alloc(), first_wrong_bytes(rt.alloc())?)
 }
 
 /// The column behind so many bytes, behind a TAB to the greatest one, and behind a return.
@@ -62,18 +61,26 @@ fn columns_at_the_end(alloc: Global, bytes: usize) -> Result<(u32, u32, u32), Fa
     Ok((written, behind, screen.column()))
 }
 
+/// So many bytes, and the column behind them.
+static ENDS: [(usize, u32); 4] = [
+    (32766, 32766),
+    (32767, 32767),
+    (32768, 32767),
+    (40000, 32767),
+];
+
+fn first_wrong_end(alloc: Global) -> Result<Option<usize>, Fail> {
+    for (place, (bytes, column)) in ENDS.iter().enumerate() {
+        if columns_at_the_end(alloc, *bytes)? != (*column, 32767, 0) {
+            return Ok(Some(place));
+        }
+    }
+    Ok(None)
+}
+
 #[test]
 fn the_greatest_column_stays(rt: HostRuntime) -> Result<(), Fail> {
-    for (bytes, column) in [
-        (32766, 32766),
-        (32767, 32767),
-        (32768, 32767),
-        (40000, 32767),
-    ] {
-        let columns = columns_at_the_end(rt.alloc(), bytes)?;
-        assert_eq!(rt; columns, (column, 32767, 0));
-    }
-    Ok(())
+    expect_none(rt.alloc(), first_wrong_end(rt.alloc())?)
 }
 
 /// A column, the one to which a comma goes from there, and how many bytes are then on the screen.
@@ -106,9 +113,7 @@ fn first_wrong_zone(alloc: Global) -> Result<Option<usize>, Fail> {
 
 #[test]
 fn a_comma_goes_to_the_next_zone(rt: HostRuntime) -> Result<(), Fail> {
-    let wrong = first_wrong_zone(rt.alloc())?;
-    assert_eq!(rt; wrong, None);
-    Ok(())
+    expect_none(rt.alloc(), first_wrong_zone(rt.alloc())?)
 }
 
 /// A column, the one that TAB is given there, and the one to which it goes.
@@ -140,7 +145,5 @@ fn first_wrong_tab(alloc: Global) -> Result<Option<usize>, Fail> {
 
 #[test]
 fn tab_goes_on_and_never_back(rt: HostRuntime) -> Result<(), Fail> {
-    let wrong = first_wrong_tab(rt.alloc())?;
-    assert_eq!(rt; wrong, None);
-    Ok(())
+    expect_none(rt.alloc(), first_wrong_tab(rt.alloc())?)
 }

@@ -1,5 +1,6 @@
 //! The disk: its files, their blocks and codes.
 
+use crate::expects::expect_none;
 use crate::names::file;
 use basic_values::{Fault, NoMemory, Trouble};
 use block_files::Disk;
@@ -73,11 +74,13 @@ fn answered(answer: Result<(), Trouble<Fault>>) -> Told {
 
 impl Files {
     fn new(alloc: Global, blocks: u16) -> Result<Files, Fail> {
+        let (master, other) = (file(b"MASTER")?, file(b"OTHER")?);
+        let disk = Disk::new(alloc, blocks)?;
         Ok(Files {
             alloc,
-            disk: Disk::new(alloc, blocks)?,
-            master: file(b"MASTER")?,
-            other: file(b"OTHER")?,
+            disk,
+            master,
+            other,
         })
     }
 
@@ -169,12 +172,16 @@ fn shown(page: &Page) -> Told {
 /// The place of the first row that tells another thing, over a disk of so many blocks.
 fn first_wrong(alloc: Global, blocks: u16, rows: &[Row]) -> Result<Option<usize>, Fail> {
     let mut files = Files::new(alloc, blocks)?;
+    Ok(first_told_wrong(&mut files, rows))
+}
+
+fn first_told_wrong(files: &mut Files, rows: &[Row]) -> Option<usize> {
     for (place, (step, want)) in rows.iter().enumerate() {
         if files.told_behind(*step) != *want {
-            return Ok(Some(place));
+            return Some(place);
         }
     }
-    Ok(None)
+    None
 }
 
 static ZEROS: [Row; 22] = [
@@ -204,9 +211,7 @@ static ZEROS: [Row; 22] = [
 
 #[test]
 fn a_write_behind_the_end_leaves_zeros_between(rt: HostRuntime) -> Result<(), Fail> {
-    let wrong = first_wrong(rt.alloc(), 8, &ZEROS)?;
-    assert_eq!(rt; wrong, None);
-    Ok(())
+    expect_none(rt.alloc(), first_wrong(rt.alloc(), 8, &ZEROS)?)
 }
 
 static REFUSALS: [Row; 11] = [
@@ -225,9 +230,7 @@ static REFUSALS: [Row; 11] = [
 
 #[test]
 fn each_refusal_has_its_number(rt: HostRuntime) -> Result<(), Fail> {
-    let wrong = first_wrong(rt.alloc(), 3, &REFUSALS)?;
-    assert_eq!(rt; wrong, None);
-    Ok(())
+    expect_none(rt.alloc(), first_wrong(rt.alloc(), 3, &REFUSALS)?)
 }
 
 static REMOVED: [Row; 11] = [
@@ -246,7 +249,5 @@ static REMOVED: [Row; 11] = [
 
 #[test]
 fn blocks_of_a_removed_file_are_free_again(rt: HostRuntime) -> Result<(), Fail> {
-    let wrong = first_wrong(rt.alloc(), 3, &REMOVED)?;
-    assert_eq!(rt; wrong, None);
-    Ok(())
+    expect_none(rt.alloc(), first_wrong(rt.alloc(), 3, &REMOVED)?)
 }

@@ -1,5 +1,6 @@
 //! Fields over the buffers of channels.
 
+use crate::expects::expect_none;
 use basic_values::{Int, Trouble};
 use record_fields::{Buffers, Part, RecordSize, Side, layout, lset, rset, shift_within};
 use std::alloc::Global;
@@ -70,9 +71,7 @@ fn first_wrong_layout(alloc: Global) -> Result<Option<usize>, Fail> {
 
 #[test]
 fn fields_stand_one_behind_the_other(rt: HostRuntime) -> Result<(), Fail> {
-    let wrong = first_wrong_layout(rt.alloc())?;
-    assert_eq!(rt; wrong, None);
-    Ok(())
+    expect_none(rt.alloc(), first_wrong_layout(rt.alloc())?)
 }
 
 /// A part from this byte on, of so many.
@@ -182,9 +181,7 @@ fn is_moved(alloc: Global, row: &Move) -> Result<bool, Fail> {
 
 #[test]
 fn a_field_is_moved_onto_one_that_it_meets(rt: HostRuntime) -> Result<(), Fail> {
-    let wrong = first_wrong_move(rt.alloc())?;
-    assert_eq!(rt; wrong, None);
-    Ok(())
+    expect_none(rt.alloc(), first_wrong_move(rt.alloc())?)
 }
 
 /// A value, and what a field of four bytes holds behind LSET and behind RSET.
@@ -208,8 +205,7 @@ fn is_justified(row: &Value) -> bool {
 
 #[test]
 fn a_value_is_cut_or_padded(rt: HostRuntime) -> Result<(), Fail> {
-    assert_eq!(rt; VALUES.iter().position(|row| !is_justified(row)), None);
-    Ok(())
+    expect_none(rt.alloc(), VALUES.iter().position(|row| !is_justified(row)))
 }
 
 /// What is done to the buffer of channel 3.
@@ -317,9 +313,13 @@ fn does(alloc: Global, buffers: &mut Buffers, act: Act) -> Result<(), Fail> {
 /// The place of the first row behind which the buffer, or another one, is not as it says.
 fn first_wrong_act(alloc: Global) -> Result<Option<usize>, Fail> {
     let mut buffers = Buffers::new(alloc)?;
+    first_shown_wrong(alloc, &mut buffers)
+}
+
+fn first_shown_wrong(alloc: Global, buffers: &mut Buffers) -> Result<Option<usize>, Fail> {
     for (place, row) in ROWS.iter().enumerate() {
-        does(alloc, &mut buffers, row.0)?;
-        if !shows(&buffers, row) {
+        does(alloc, buffers, row.0)?;
+        if !shows(buffers, row) {
             return Ok(Some(place));
         }
     }
@@ -337,7 +337,5 @@ fn shows(buffers: &Buffers, row: &Row) -> bool {
 
 #[test]
 fn a_buffer_has_the_size_of_its_records(rt: HostRuntime) -> Result<(), Fail> {
-    let wrong = first_wrong_act(rt.alloc())?;
-    assert_eq!(rt; wrong, None);
-    Ok(())
+    expect_none(rt.alloc(), first_wrong_act(rt.alloc())?)
 }

@@ -3,8 +3,8 @@
 ghost use Rattle.std.specs.Prelude.{◌≡◌};
 ghost use Rattle.monitor_model.specs.Holds.{is_held};
 
+use crate::expects::expect_none;
 use crate::names::file;
-use basic_values::NoMemory;
 use block_interlock::Holds;
 use monitor_calls::FileName;
 use std::alloc::Global;
@@ -40,7 +40,8 @@ struct Two {
 }
 
 impl Two {
-    fn new(alloc: Global, first: FileName, second: FileName) -> Result<Two, NoMemory> {
+    fn new(alloc: Global) -> Result<Two, Fail> {
+        let (first, second) = (file(b"MASTER")?, file(b"OTHER")?);
         let holds = Holds::new(alloc, 2)?;
         Ok(Two {
             holds,
@@ -135,12 +136,17 @@ static ROWS: [(Step, bool); 18] = [
     (Step::Has(0, 1, Named::First, 9), true),
 ];
 
+fn first_wrong(two: &mut Two) -> Option<usize> {
+    for (place, (step, told)) in ROWS.iter().enumerate() {
+        if two.told(*step) != *told {
+            return Some(place);
+        }
+    }
+    None
+}
+
 #[test]
 fn a_channel_holds_one_block_and_a_block_has_one_channel(rt: HostRuntime) -> Result<(), Fail> {
-    let mut two = Two::new(rt.alloc(), file(b"MASTER")?, file(b"OTHER")?)?;
-    for (place, (step, told)) in ROWS.iter().enumerate() {
-        let found = two.told(*step);
-        assert_eq!(rt; found, *told, "row {place}");
-    }
-    Ok(())
+    let mut two = Two::new(rt.alloc())?;
+    expect_none(rt.alloc(), first_wrong(&mut two))
 }

@@ -1,17 +1,22 @@
 //! Keys in order.
 
+use crate::expects::{expect, expect_bytes, expect_none};
 use basic_values::KeyLine;
 use std::alloc::Global;
 use std::test::Fail;
 use terminal_line::{Key, Keys};
 
+fn key_line(alloc: Global, line: &[u8]) -> Result<KeyLine, Fail> {
+    if line.len() > 255 {
+        return Err("a line is too long")?;
+    }
+    Ok(KeyLine::of(alloc, line)?)
+}
+
 fn keys(alloc: Global, lines: &[&[u8]]) -> Result<Keys, Fail> {
     let mut typed = Vec::new(alloc);
     for line in lines {
-        if line.len() > 255 {
-            return Err("a line is too long")?;
-        }
-        typed.push(KeyLine::of(alloc, line)?)?;
+        typed.push(key_line(alloc, line)?)?;
     }
     Ok(Keys::new(alloc, &typed)?)
 }
@@ -48,22 +53,27 @@ static TOLD: [&[u8]; 8] = [
 
 #[test]
 fn keys_come_in_order_and_then_the_end(rt: HostRuntime) -> Result<(), Fail> {
-    let wrong = first_wrong(rt.alloc(), &TYPED, &TOLD)?;
-    assert_eq!(rt; wrong, None);
+    expect_none(rt.alloc(), first_wrong(rt.alloc(), &TYPED, &TOLD)?)?;
     let mut none = keys(rt.alloc(), &[])?;
-    assert!(rt; none.next_line().is_none());
-    Ok(())
+    expect(none.next_line().is_none(), "a line that nobody typed")
+}
+
+/// Whether this line is taken.
+fn is_taken(keys: &mut Keys, wanted: &[u8]) -> bool {
+    match keys.next_line() {
+        Some(line) => line.as_bytes() == wanted,
+        None => false,
+    }
+}
+
+/// Fails unless this line is taken, and the end comes behind it.
+fn expect_last(alloc: Global, keys: &mut Keys, wanted: &[u8]) -> Result<(), Fail> {
+    expect(is_taken(keys, wanted), "another line")?;
+    expect_bytes(alloc, &next(alloc, keys)?, b"END")
 }
 
 #[test]
 fn a_key_line_is_taken_as_it_was_typed(rt: HostRuntime) -> Result<(), Fail> {
     let mut keys = keys(rt.alloc(), &[b"^Z"])?;
-    let is_typed = match keys.next_line() {
-        Some(line) => line.as_bytes() == b"^Z".as_slice(),
-        None => false,
-    };
-    assert!(rt; is_typed);
-    let last = next(rt.alloc(), &mut keys)?;
-    assert_eq!(rt; last.as_slice(), b"END".as_slice());
-    Ok(())
+    expect_last(rt.alloc(), &mut keys, b"^Z")
 }

@@ -13,6 +13,8 @@ mod columns;
 #[cfg(test)]
 mod disks;
 #[cfg(test)]
+mod expects;
+#[cfg(test)]
 mod fields;
 #[cfg(test)]
 mod interlock;

@@ -1,6 +1,7 @@
 //! MAT on a memory: rows of assignments, arrays that are made where they are named, and rows that are read.
 
 use crate::arrays::{are, holds};
+use crate::expects::{expect, expect_none};
 use crate::memory::{Told, dim, number_at, number_name, set_number_at, stored};
 use basic_matrix::{MatValue, assign, row, touch};
 use basic_tree::Name;
@@ -126,13 +127,12 @@ fn next_subscripts(second: Option<u16>, i: i16, j: i16) -> (i16, i16) {
     }
 }
 
-fn memory_of_arrays(alloc: Global) -> Result<Memory, Fail> {
-    let mut memory = Memory::new(alloc);
+fn make_arrays(memory: &mut Memory) -> Result<(), Fail> {
     for (letter, first, second, values) in &ARRAYS {
-        make(&mut memory, *letter, *first, *second)?;
-        store(&mut memory, *letter, *second, values)?;
+        make(memory, *letter, *first, *second)?;
+        store(memory, *letter, *second, values)?;
     }
-    Ok(memory)
+    Ok(())
 }
 
 /// An array of numbers is made.
@@ -188,8 +188,8 @@ fn zero_subscripts_stay(memory: &Memory, letter: u8) -> bool {
 }
 
 /// What the assignment of a value to an array tells.
-fn assigned(memory: &mut Memory, letter: u8, value: &MatValue) -> Told {
-    stored(assign(memory, number_name(letter), value))
+fn assigned(memory: &mut Memory, letter: u8, given: Given) -> Told {
+    stored(assign(memory, number_name(letter), &value_of(given)))
 }
 
 /// An array that is named is there.
@@ -203,17 +203,20 @@ fn named(memory: &mut Memory, letter: u8) -> Told {
 
 /// Whether an assignment leaves what the row wants.
 fn is_assigned(alloc: Global, letter: u8, given: Given, wanted: &[i16]) -> Result<bool, Fail> {
-    let target = number_name(letter);
-    let mut memory = memory_of_arrays(alloc)?;
-    match assigned(&mut memory, letter, &value_of(given)) {
-        Told::Done => {
-            let is_right = rows_are(&memory, target, wanted)?
-                && zero_subscripts_stay(&memory, letter);
-            Ok(is_right && others_stay(&memory, target)?)
-        }
+    let mut memory = Memory::new(alloc);
+    make_arrays(&mut memory)?;
+    match assigned(&mut memory, letter, given) {
+        Told::Done => is_changed(&memory, letter, wanted),
         Told::Fault(55) => Ok(wanted.is_empty() && others_stay(&memory, number_name(b'Z'))?),
         _ => Ok(false),
     }
+}
+
+/// Whether an array has these numbers, and all else is as it was made.
+fn is_changed(memory: &Memory, letter: u8, wanted: &[i16]) -> Result<bool, Fail> {
+    let target = number_name(letter);
+    let is_right = rows_are(memory, target, wanted)? && zero_subscripts_stay(memory, letter);
+    Ok(is_right && others_stay(memory, target)?)
 }
 
 fn first_wrong_assignment(alloc: Global) -> Result<Option<usize>, Fail> {
@@ -227,9 +230,7 @@ fn first_wrong_assignment(alloc: Global) -> Result<Option<usize>, Fail> {
 
 #[test]
 fn each_value_of_mat_is_assigned_or_refused(rt: HostRuntime) -> Result<(), Fail> {
-    let wrong = first_wrong_assignment(rt.alloc())?;
-    assert_eq!(rt; wrong, None);
-    Ok(())
+    expect_none(rt.alloc(), first_wrong_assignment(rt.alloc())?)
 }
 
 /// The bounds of an array behind its being named, where one with these is there before.
@@ -250,10 +251,12 @@ fn bounds_behind_touch(
 #[test]
 fn an_array_that_is_named_is_made(rt: HostRuntime) -> Result<(), Fail> {
     let made = bounds_behind_touch(rt.alloc(), None)?;
-    assert_eq!(rt; made, Some((10, Some(10))));
+    expect(made == Some((10, Some(10))), "a new array has other bounds")?;
     let kept = bounds_behind_touch(rt.alloc(), Some((3, None)))?;
-    assert_eq!(rt; kept, Some((3, None)));
-    Ok(())
+    expect(
+        kept == Some((3, None)),
+        "an array that is there has other bounds",
+    )
 }
 
 /// Whether there is no room for another array where one fills it.
@@ -266,22 +269,22 @@ fn is_full(alloc: Global) -> Result<bool, Fail> {
 
 #[test]
 fn an_array_without_room_is_not_made(rt: HostRuntime) -> Result<(), Fail> {
-    let is_right = is_full(rt.alloc())?;
-    assert!(rt; is_right);
-    Ok(())
+    expect(is_full(rt.alloc())?, "an array is made without room")
 }
 
 /// Whether an array that was just made takes CON from 1 to 10.
 fn is_made_of_ones(alloc: Global) -> bool {
     let mut memory = Memory::new(alloc);
     named(&mut memory, A) == Told::Done
-        && assigned(&mut memory, A, &MatValue::One) == Told::Done
+        && assigned(&mut memory, A, Given::One) == Told::Done
         && number_at(&memory, A, 10, Some(10)) == Told::Is(1)
         && number_at(&memory, A, 0, Some(10)) == Told::Is(0)
 }
 
 #[test]
 fn an_array_that_was_just_made_is_assigned(rt: HostRuntime) -> Result<(), Fail> {
-    assert!(rt; is_made_of_ones(rt.alloc()));
-    Ok(())
+    expect(
+        is_made_of_ones(rt.alloc()),
+        "an array without the ones of CON",
+    )
 }

@@ -1,5 +1,6 @@
 //! Variables, arrays and calls.
 
+use crate::expects::expect_none;
 use basic_tree::{Name, Shape};
 use basic_values::{Halt, Int, Stop, Text, Trouble};
 use job_memory::Memory;
@@ -123,26 +124,45 @@ fn stopped(stop: &Stop) -> Told {
 /// What a step tells.
 fn told_behind(alloc: Global, memory: &mut Memory, step: Step) -> Result<Told, Fail> {
     match step {
-        Step::Number(letter) => Ok(Told::Is(memory.number(number_name(letter)).value())),
-        Step::SetNumber(letter, value) => Ok(set_number(memory, letter, value)),
         Step::SetText(letter, byte, length) => {
             Ok(set_text(memory, letter, text(alloc, byte, length)?))
         }
-        Step::Append(letter, byte, length) => {
-            Ok(append(memory, letter, text(alloc, byte, length)?.as_bytes()))
-        }
-        Step::Cut(letter, before, count) => {
-            Ok(changed(memory.cut(text_name(letter), before, count)))
-        }
-        Step::Dim(letter, first, second) => Ok(dim(memory, number_name(letter), first, second)),
-        Step::DimTexts(letter, first, second) => Ok(dim(memory, text_name(letter), first, second)),
-        Step::NumberAt(..) | Step::SetNumberAt(..) | Step::TextAt(..) => Ok(element(memory, step)),
+        Step::Append(letter, byte, length) => append(alloc, memory, letter, byte, length),
         Step::SetTextAt(letter, first, second, byte, length) => {
             let value = text(alloc, byte, length)?;
             Ok(set_text_at(memory, letter, first, second, value))
         }
-        _ => call(alloc, memory, step),
+        Step::Length(letter) => length_of(alloc, memory, letter),
+        Step::Enter(letters) => enter(alloc, memory, letters),
+        Step::NumberAt(..) | Step::SetNumberAt(..) | Step::TextAt(..) => Ok(element(memory, step)),
+        Step::Bind(_) | Step::Field(..) | Step::Place(_) | Step::OwnLength(_) => {
+            Ok(lent(memory, step))
+        }
+        Step::EnterText(_) | Step::EnterTextTwice(_) | Step::Leave => Ok(call(memory, step)),
+        _ => Ok(variable(memory, step)),
     }
+}
+
+/// What a step on a whole variable, or on all of them, tells.
+fn variable(memory: &mut Memory, step: Step) -> Told {
+    match step {
+        Step::Number(letter) => Told::Is(memory.number(number_name(letter)).value()),
+        Step::SetNumber(letter, value) => set_number(memory, letter, value),
+        Step::Cut(letter, before, count) => changed(memory.cut(text_name(letter), before, count)),
+        Step::Dim(letter, first, second) => dim(memory, number_name(letter), first, second),
+        Step::DimTexts(letter, first, second) => dim(memory, text_name(letter), first, second),
+        _ => emptied(memory, step),
+    }
+}
+
+fn emptied(memory: &mut Memory, step: Step) -> Told {
+    match step {
+        Step::Clear => memory.clear(),
+        Step::Forget(channel) => memory.forget_channel(channel),
+        Step::ForgetAll => memory.forget_all(),
+        _ => return Told::Other,
+    }
+    Told::Done
 }
 
 fn set_number(memory: &mut Memory, letter: u8, value: i16) -> Told {
@@ -153,8 +173,19 @@ fn set_text(memory: &mut Memory, letter: u8, value: Text) -> Told {
     made(memory.set_text(text_name(letter), value))
 }
 
-fn append(memory: &mut Memory, letter: u8, more: &[u8]) -> Told {
-    match memory.append(text_name(letter), more) {
+fn append(
+    alloc: Global,
+    memory: &mut Memory,
+    letter: u8,
+    byte: u8,
+    length: usize,
+) -> Result<Told, Fail> {
+    let more = text(alloc, byte, length)?;
+    Ok(appended(memory.append(text_name(letter), more.as_bytes())))
+}
+
+fn appended(answer: Result<bool, Trouble<Halt>>) -> Told {
+    match answer {
         Ok(done) => changed(done),
         Err(Trouble::Refused(Halt::RoomFull)) => Told::Full,
         Err(Trouble::Refused(Halt::TooLong)) => Told::TooLong,
@@ -221,38 +252,31 @@ fn set_text_at(
     stored(memory.set_text_at(text_name(letter), Int::new(first), int_of(second), value))
 }
 
-fn call(alloc: Global, memory: &mut Memory, step: Step) -> Result<Told, Fail> {
+/// What a step on a text that is lent from a buffer tells.
+fn lent(memory: &mut Memory, step: Step) -> Told {
     match step {
-        Step::Bind(letter) => Ok(field(memory, letter, 1, 0, 512)),
+        Step::Bind(letter) => field(memory, letter, 1, 0, 512),
         Step::Field(letter, channel, offset, length) => {
-            Ok(field(memory, letter, channel, offset, length))
+            field(memory, letter, channel, offset, length)
         }
-        Step::Place(letter) => Ok(place_of(memory, letter)),
-        Step::Length(letter) => length_of(alloc, memory, letter),
-        Step::OwnLength(letter) => Ok(own_length(memory, letter)),
-        Step::EnterText(letter) => Ok(made(memory.enter(&[text_name(letter)]))),
+        Step::Place(letter) => place_of(memory, letter),
+        Step::OwnLength(letter) => own_length(memory, letter),
+        _ => Told::Other,
+    }
+}
+
+fn call(memory: &mut Memory, step: Step) -> Told {
+    match step {
+        Step::EnterText(letter) => made(memory.enter(&[text_name(letter)])),
         Step::EnterTextTwice(letter) => {
             let name = text_name(letter);
-            Ok(made(memory.enter(&[name, name])))
+            made(memory.enter(&[name, name]))
         }
-        Step::Enter(letters) => enter(alloc, memory, letters),
         Step::Leave => {
             memory.leave();
-            Ok(Told::Done)
+            Told::Done
         }
-        Step::Clear => {
-            memory.clear();
-            Ok(Told::Done)
-        }
-        Step::Forget(channel) => {
-            memory.forget_channel(channel);
-            Ok(Told::Done)
-        }
-        Step::ForgetAll => {
-            memory.forget_all();
-            Ok(Told::Done)
-        }
-        _ => Ok(Told::Other),
+        _ => Told::Other,
     }
 }
 
@@ -297,6 +321,11 @@ pub(crate) fn first_wrong(alloc: Global, rows: &[Row]) -> Result<Option<usize>, 
     first_told_wrong(alloc, &mut memory, rows)
 }
 
+/// Fails with that place.
+pub(crate) fn expect_rows(alloc: Global, rows: &[Row]) -> Result<(), Fail> {
+    expect_none(alloc, first_wrong(alloc, rows)?)
+}
+
 fn first_told_wrong(
     alloc: Global,
     memory: &mut Memory,
@@ -322,56 +351,52 @@ static SUBSCRIPTS: [(i16, Option<i16>, bool); 8] = [
     (0, Some(-1), false),
 ];
 
-/// Whether a store to the element makes an array, which then has the element, and its first one
-/// with as many subscripts alone; or is refused, and leaves none.
-fn makes_an_array(
-    alloc: Global,
-    first: i16,
-    second: Option<i16>,
-    is_inside: bool,
-) -> Result<bool, Fail> {
-    let origin = match second {
-        Some(_) => Some(0),
-        None => None,
-    };
-    let other = match second {
-        Some(_) => None,
-        None => Some(0),
-    };
-    let wrong = Told::Fault(55);
-    let (zero, seven, done) = if is_inside {
-        (Told::Is(0), Told::Is(7), Told::Done)
+/// What is told of an element, of a store of 7 to it, and of it behind that.
+fn told_in_turn(is_inside: bool) -> [Told; 3] {
+    if is_inside {
+        [Told::Is(0), Told::Done, Told::Is(7)]
     } else {
-        (wrong, wrong, wrong)
-    };
-    let rows = [
-        (Step::NumberAt(b'A', first, second), zero),
-        (Step::SetNumberAt(b'A', first, second, 7), done),
-        (Step::NumberAt(b'A', first, second), seven),
-    ];
-    let mut memory = Memory::new(alloc);
-    if first_told_wrong(alloc, &mut memory, &rows)?.is_some() {
-        return Ok(false);
+        [Told::Fault(55); 3]
     }
-    let has_origin = number_at(&memory, b'A', 0, origin) != wrong;
-    let has_other = number_at(&memory, b'A', 0, other) != wrong;
-    Ok(has_origin && has_other == !is_inside)
 }
 
-fn first_wrong_subscript(alloc: Global) -> Result<Option<usize>, Fail> {
+fn is_stored(memory: &mut Memory, first: i16, second: Option<i16>, is_inside: bool) -> bool {
+    let [before, store, behind] = told_in_turn(is_inside);
+    number_at(memory, b'A', first, second) == before
+        && set_number_at(memory, b'A', (first, second), 7) == store
+        && number_at(memory, b'A', first, second) == behind
+}
+
+/// Whether there is an array with as many subscripts alone; or none, where the element is outside.
+fn has_subscripts(memory: &Memory, second: Option<i16>, is_inside: bool) -> bool {
+    let (origin, other) = match second {
+        Some(_) => (Some(0), None),
+        None => (None, Some(0)),
+    };
+    let wrong = Told::Fault(55);
+    let has_other = number_at(memory, b'A', 0, other) != wrong;
+    number_at(memory, b'A', 0, origin) != wrong && has_other == !is_inside
+}
+
+/// Whether a store to the element makes an array, which then has the element, and its first one
+/// with as many subscripts alone; or is refused, and leaves none.
+fn makes_an_array(alloc: Global, first: i16, second: Option<i16>, is_inside: bool) -> bool {
+    let mut memory = Memory::new(alloc);
+    is_stored(&mut memory, first, second, is_inside) && has_subscripts(&memory, second, is_inside)
+}
+
+fn first_wrong_subscript(alloc: Global) -> Option<usize> {
     for (place, (first, second, is_inside)) in SUBSCRIPTS.iter().enumerate() {
-        if !makes_an_array(alloc, *first, *second, *is_inside)? {
-            return Ok(Some(place));
+        if !makes_an_array(alloc, *first, *second, *is_inside) {
+            return Some(place);
         }
     }
-    Ok(None)
+    None
 }
 
 #[test]
 fn a_store_makes_an_array(rt: HostRuntime) -> Result<(), Fail> {
-    let wrong = first_wrong_subscript(rt.alloc())?;
-    assert_eq!(rt; wrong, None);
-    Ok(())
+    expect_none(rt.alloc(), first_wrong_subscript(rt.alloc()))
 }
 
 static OWN_TEXTS: [Row; 8] = [
@@ -387,9 +412,7 @@ static OWN_TEXTS: [Row; 8] = [
 
 #[test]
 fn own_texts_have_a_length(rt: HostRuntime) -> Result<(), Fail> {
-    let wrong = first_wrong(rt.alloc(), &OWN_TEXTS)?;
-    assert_eq!(rt; wrong, None);
-    Ok(())
+    expect_rows(rt.alloc(), &OWN_TEXTS)
 }
 
 /// Own texts are changed in their place, up to their greatest length and to the room that is left; a
@@ -431,9 +454,7 @@ static CHANGED: [Row; 31] = [
 
 #[test]
 fn own_texts_change_in_their_place(rt: HostRuntime) -> Result<(), Fail> {
-    let wrong = first_wrong(rt.alloc(), &CHANGED)?;
-    assert_eq!(rt; wrong, None);
-    Ok(())
+    expect_rows(rt.alloc(), &CHANGED)
 }
 
 static BOUNDS: [Row; 13] = [
@@ -454,9 +475,7 @@ static BOUNDS: [Row; 13] = [
 
 #[test]
 fn an_array_has_the_bounds_of_its_dim(rt: HostRuntime) -> Result<(), Fail> {
-    let wrong = first_wrong(rt.alloc(), &BOUNDS)?;
-    assert_eq!(rt; wrong, None);
-    Ok(())
+    expect_rows(rt.alloc(), &BOUNDS)
 }
 
 static CALLS: [Row; 18] = [
@@ -482,9 +501,7 @@ static CALLS: [Row; 18] = [
 
 #[test]
 fn a_call_puts_its_parameters_back(rt: HostRuntime) -> Result<(), Fail> {
-    let wrong = first_wrong(rt.alloc(), &CALLS)?;
-    assert_eq!(rt; wrong, None);
-    Ok(())
+    expect_rows(rt.alloc(), &CALLS)
 }
 
 /// A parameter that was fielded on a channel that is closed meanwhile comes back empty, also where
@@ -521,7 +538,5 @@ static FIELDED: [Row; 27] = [
 
 #[test]
 fn a_closed_channel_empties_its_fields(rt: HostRuntime) -> Result<(), Fail> {
-    let wrong = first_wrong(rt.alloc(), &FIELDED)?;
-    assert_eq!(rt; wrong, None);
-    Ok(())
+    expect_rows(rt.alloc(), &FIELDED)
 }

@@ -1,5 +1,6 @@
 //! Names of files, and pages.
 
+use crate::expects::{expect, expect_none};
 use monitor_calls::{Account, FileName, Page, Short};
 use std::alloc::Global;
 use std::test::Fail;
@@ -53,9 +54,7 @@ fn first_wrong(rows: &[Row]) -> Result<Option<usize>, Fail> {
 
 #[test]
 fn one_name_is_one_owner_stem_and_extension(rt: HostRuntime) -> Result<(), Fail> {
-    let wrong = first_wrong(&NAMES)?;
-    assert_eq!(rt; wrong, None);
-    Ok(())
+    expect_none(rt.alloc(), first_wrong(&NAMES)?)
 }
 
 /// The byte that a page is full of.
@@ -81,8 +80,10 @@ fn page_steps(alloc: Global) -> Result<[Option<u8>; 4], Fail> {
 #[test]
 fn a_page_has_512_bytes(rt: HostRuntime) -> Result<(), Fail> {
     let steps = page_steps(rt.alloc())?;
-    assert_eq!(rt; steps, [Some(0), Some(7), Some(0), Some(7)]);
+    expect(
+        steps == [Some(0), Some(7), Some(0), Some(7)],
+        "a page of other bytes",
+    )?;
     let bytes = Page::new(rt.alloc())?.as_bytes().len();
-    assert_eq!(rt; bytes, 512);
-    Ok(())
+    expect(bytes == 512, "a page of another length")
 }

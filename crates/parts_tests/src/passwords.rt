@@ -1,5 +1,6 @@
 //! The table of accounts.
 
+use crate::expects::{expect, expect_none};
 use crate::names::{account, short};
 use accounts::AccountTable;
 use monitor_calls::{Account, AccountEntry};
@@ -58,15 +59,12 @@ fn first_wrong(alloc: Global, rows: &[Row]) -> Result<Option<usize>, Fail> {
 fn an_account_is_found_by_its_numbers_and_checked_by_its_password(
     rt: HostRuntime,
 ) -> Result<(), Fail> {
-    let wrong = first_wrong(rt.alloc(), &ROWS)?;
-    assert_eq!(rt; wrong, None);
-    Ok(())
+    expect_none(rt.alloc(), first_wrong(rt.alloc(), &ROWS)?)
 }
 
 #[test]
 fn a_quota_is_told_and_0_where_there_is_no_account(rt: HostRuntime) -> Result<(), Fail> {
     let table = table(rt.alloc())?;
-    assert_eq!(rt; table.quota(account(1, 2)), 8);
-    assert_eq!(rt; table.quota(account(5, 100)), 0);
-    Ok(())
+    let quotas = (table.quota(account(1, 2)), table.quota(account(5, 100)));
+    expect(quotas == (8, 0), "another quota")
 }

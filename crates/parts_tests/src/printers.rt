@@ -2,6 +2,7 @@
 
 ghost use Rattle.std.specs.Prelude.{◌≡◌};
 
+use crate::expects::{expect_bytes, expect_none};
 use basic_values::{Fault, Text};
 use monitor_calls::{Entry, Reply, Request, TerminalName};
 use print_spool::{Printer, printed};
@@ -79,9 +80,7 @@ fn first_wrong(printer: &mut Printer) -> Option<usize> {
 
 #[test]
 fn the_printer_is_one_job_s(rt: HostRuntime) -> Result<(), Fail> {
-    let wrong = first_wrong(&mut Printer::new());
-    assert_eq!(rt; wrong, None);
-    Ok(())
+    expect_none(rt.alloc(), first_wrong(&mut Printer::new()))
 }
 
 fn print(alloc: Global, text: &[u8]) -> Result<Request, Fail> {
@@ -89,13 +88,16 @@ fn print(alloc: Global, text: &[u8]) -> Result<Request, Fail> {
     Ok(Request::Print { text })
 }
 
+fn print_two(alloc: Global, first: &[u8], second: &[u8]) -> Result<(Request, Request), Fail> {
+    let first = print(alloc, first)?;
+    let second = print(alloc, second)?;
+    Ok((first, second))
+}
+
 /// What is printed: two lines of one listing with one that is lost between, and a part of another.
-/// No other value is alive where one of them cannot be made.
 fn prints(alloc: Global) -> Result<[Request; 4], Fail> {
-    let begun = print(alloc, b"10 PRINT\r\n")?;
-    let lost = print(alloc, b"LOST")?;
-    let ended = print(alloc, b"20 END\r\n")?;
-    let cut = print(alloc, b"A")?;
+    let (begun, lost) = print_two(alloc, b"10 PRINT\r\n", b"LOST")?;
+    let (ended, cut) = print_two(alloc, b"20 END\r\n", b"A")?;
     Ok([begun, lost, ended, cut])
 }
 
@@ -114,9 +116,8 @@ fn entry(job: u32, request: Request, reply: Reply) -> Entry
     }
 }
 
-#[test]
-fn listings_stand_in_the_order_of_their_beginning(rt: HostRuntime) -> Result<(), Fail> {
-    let alloc = rt.alloc();
+/// The listings of two jobs, of which each has the printer in turn.
+fn listings(alloc: Global) -> Result<Vec<u8>, Fail> {
     let names = [terminal(b"T1")?, terminal(b"CONSOLE")?];
     let [begun, lost, ended, cut] = prints(alloc)?;
     let refused = || Reply::Failed(Fault::new(8));
@@ -133,16 +134,19 @@ fn listings_stand_in_the_order_of_their_beginning(rt: HostRuntime) -> Result<(),
         entry(1, cut, Reply::Done),
         entry(1, Request::Tick, Reply::Expired),
     ];
-    let bytes = printed(alloc, &names, &history)?;
+    Ok(printed(alloc, &names, &history)?)
+}
+
+#[test]
+fn listings_stand_in_the_order_of_their_beginning(rt: HostRuntime) -> Result<(), Fail> {
     let wanted =
         b"PRINTED 3\nLISTING CONSOLE 18\n10 PRINT\r\n20 END\r\n\nLISTING T1 0\n\nLISTING CONSOLE 1\nA\n";
-    assert_eq!(rt; bytes.as_slice(), wanted.as_slice());
-    Ok(())
+    let bytes = listings(rt.alloc())?;
+    expect_bytes(rt.alloc(), &bytes, wanted)
 }
 
 #[test]
 fn a_history_without_a_listing_prints_none(rt: HostRuntime) -> Result<(), Fail> {
     let bytes = printed(rt.alloc(), &[], &[])?;
-    assert_eq!(rt; bytes.as_slice(), b"PRINTED 0\n".as_slice());
-    Ok(())
+    expect_bytes(rt.alloc(), &bytes, b"PRINTED 0\n")
 }

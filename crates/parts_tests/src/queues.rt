@@ -1,5 +1,6 @@
 //! The message queues.
 
+use crate::expects::expect_none;
 use crate::names::{account, short};
 use basic_values::{Fault, Text, Trouble};
 use message_queues::Queues;
@@ -99,9 +100,7 @@ static DECLARED: [Row; 5] = [
 
 #[test]
 fn a_name_and_a_job_declare_once(rt: HostRuntime) -> Result<(), Fail> {
-    let wrong = first_wrong(rt.alloc(), &DECLARED)?;
-    assert_eq!(rt; wrong, None);
-    Ok(())
+    expect_none(rt.alloc(), first_wrong(rt.alloc(), &DECLARED)?)
 }
 
 static SENT: [Row; 11] = [
@@ -120,7 +119,5 @@ static SENT: [Row; 11] = [
 
 #[test]
 fn letters_come_in_their_order_up_to_the_most(rt: HostRuntime) -> Result<(), Fail> {
-    let wrong = first_wrong(rt.alloc(), &SENT)?;
-    assert_eq!(rt; wrong, None);
-    Ok(())
+    expect_none(rt.alloc(), first_wrong(rt.alloc(), &SENT)?)
 }

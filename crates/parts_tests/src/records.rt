@@ -3,9 +3,10 @@
 ghost use Rattle.std.specs.Prelude.{◌≡◌, ◌+◌, ◌<◌, ◌^◌};
 ghost use Rattle.monitor_model.specs.Holds.{any_held};
 
+use crate::expects::{expect, expect_none};
 use crate::interlock::is_held;
 use crate::names::{account, file, short};
-use basic_values::{NoMemory, Trouble};
+use basic_values::{Fault, Trouble};
 use block_files::Disk;
 use block_interlock::Holds;
 use monitor_calls::{FileName, Page};
@@ -29,7 +30,8 @@ struct Desk {
 }
 
 impl Desk {
-    fn new(alloc: Global, name: FileName) -> Result<Desk, NoMemory> {
+    fn new(alloc: Global) -> Result<Desk, Fail> {
+        let name = file(b"MASTER")?;
         let holds = Holds::new(alloc, 1)?;
         Ok(Desk { holds, name })
     }
@@ -123,14 +125,20 @@ fn first_wrong(desk: &mut Desk) -> Option<usize> {
     None
 }
 
+/// Fails with the place of a row that leaves another thing; channels that are not there hold none.
+fn expect_rows(alloc: Global, desk: &mut Desk) -> Result<(), Fail> {
+    expect_none(alloc, first_wrong(desk))?;
+    let beyond = (desk.held(13), desk.held(255));
+    expect(
+        beyond == ((0, 0), (0, 0)),
+        "a channel beyond the last holds a block",
+    )
+}
+
 #[test]
 fn a_record_is_held_whole_or_not_at_all(rt: HostRuntime) -> Result<(), Fail> {
-    let mut desk = Desk::new(rt.alloc(), file(b"MASTER")?)?;
-    let wrong = first_wrong(&mut desk);
-    assert_eq!(rt; wrong, None);
-    let beyond = (desk.held(13), desk.held(255));
-    assert_eq!(rt; beyond, ((0, 0), (0, 0)));
-    Ok(())
+    let mut desk = Desk::new(rt.alloc())?;
+    expect_rows(rt.alloc(), &mut desk)
 }
 
 fn named(project: u8, stem: &[u8]) -> Result<FileName, Fail> {
@@ -161,7 +169,11 @@ fn refused(
 ) -> Result<u8, Fail> {
     let (name, page) = (named(project, stem)?, Page::new(alloc)?);
     let _ = disk.create(name, 60);
-    match disk.write(&name, block, &page) {
+    number_of(disk.write(&name, block, &page))
+}
+
+fn number_of(answer: Result<(), Trouble<Fault>>) -> Result<u8, Fail> {
+    match answer {
         Ok(()) => Ok(0),
         Err(Trouble::Refused(fault)) => Ok(fault.number()),
         Err(Trouble::NoMemory) => Err("no memory")?,
@@ -189,14 +201,25 @@ fn used_behind_removal(disk: &mut Disk) -> Result<(u32, u32), Fail> {
     Ok(used(disk))
 }
 
+/// Fails unless each owner has the blocks of its files, behind writes, a refused one and a removal.
+fn expect_owned(alloc: Global, disk: &mut Disk) -> Result<(), Fail> {
+    expect_none(alloc, first_wrong_write(alloc, disk)?)?;
+    expect_full(alloc, disk)?;
+    expect_left(disk)
+}
+
+fn expect_full(alloc: Global, disk: &mut Disk) -> Result<(), Fail> {
+    let number = refused(alloc, disk, 10, b"A", 3)?;
+    expect(number == 4, "a full disk takes a block")
+}
+
+fn expect_left(disk: &mut Disk) -> Result<(), Fail> {
+    let left = (used_behind_removal(disk)?, disk.used_by(account(30, 1)));
+    expect(left == ((2, 3), 0), "other blocks behind the removal")
+}
+
 #[test]
 fn an_owner_s_blocks_are_those_of_its_files(rt: HostRuntime) -> Result<(), Fail> {
     let mut disk = Disk::new(rt.alloc(), 8)?;
-    let wrong = first_wrong_write(rt.alloc(), &mut disk)?;
-    assert_eq!(rt; wrong, None);
-    let full = refused(rt.alloc(), &mut disk, 10, b"A", 3)?;
-    assert_eq!(rt; full, 4);
-    let left = used_behind_removal(&mut disk)?;
-    assert_eq!(rt; (left, disk.used_by(account(30, 1))), ((2, 3), 0));
-    Ok(())
+    expect_owned(rt.alloc(), &mut disk)
 }

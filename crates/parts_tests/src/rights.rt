@@ -1,5 +1,6 @@
 //! Protection codes.
 
+use crate::expects::{expect, expect_none};
 use crate::names::account;
 use monitor_calls::Account;
 use monitor_model::Right;
@@ -56,9 +57,7 @@ fn first_wrong(rows: &[Row]) -> Option<usize> {
 
 #[test]
 fn each_bit_refuses_one_right_of_one_kind_of_caller(rt: HostRuntime) -> Result<(), Fail> {
-    let wrong = first_wrong(&ROWS);
-    assert_eq!(rt; wrong, None);
-    Ok(())
+    expect_none(rt.alloc(), first_wrong(&ROWS))
 }
 
 /// Whether project 1 may read and write another's file with this code, and write its own.
@@ -69,6 +68,6 @@ fn passes(code: u8) -> bool {
 
 #[test]
 fn project_1_passes_every_code(rt: HostRuntime) -> Result<(), Fail> {
-    assert!(rt; passes(0) && passes(60) && passes(63));
-    Ok(())
+    let is_passed = passes(0) && passes(60) && passes(63);
+    expect(is_passed, "a code that project 1 does not pass")
 }

@@ -1,6 +1,7 @@
 //! Room to the last byte.
 
-use crate::memory::{Row, Step, Told, first_wrong};
+use crate::expects::expect_none;
+use crate::memory::{Row, Step, Told, expect_rows, first_wrong};
 use std::alloc::Global;
 use std::test::Fail;
 
@@ -26,9 +27,7 @@ static TEXTS: [Row; 14] = [
 
 #[test]
 fn texts_fill_the_room(rt: HostRuntime) -> Result<(), Fail> {
-    let wrong = first_wrong(rt.alloc(), &TEXTS)?;
-    assert_eq!(rt; wrong, None);
-    Ok(())
+    expect_rows(rt.alloc(), &TEXTS)
 }
 
 /// The bounds of an array, and whether it finds room.
@@ -54,9 +53,7 @@ fn first_wrong_array(alloc: Global) -> Result<Option<usize>, Fail> {
 
 #[test]
 fn arrays_fill_the_room(rt: HostRuntime) -> Result<(), Fail> {
-    let wrong = first_wrong_array(rt.alloc())?;
-    assert_eq!(rt; wrong, None);
-    Ok(())
+    expect_none(rt.alloc(), first_wrong_array(rt.alloc())?)
 }
 
 /// The first row leaves 65,536 bytes.
@@ -75,9 +72,7 @@ static ELEMENTS: [Row; 10] = [
 
 #[test]
 fn elements_fill_the_room(rt: HostRuntime) -> Result<(), Fail> {
-    let wrong = first_wrong(rt.alloc(), &ELEMENTS)?;
-    assert_eq!(rt; wrong, None);
-    Ok(())
+    expect_rows(rt.alloc(), &ELEMENTS)
 }
 
 /// The first row leaves 65,536 bytes.
@@ -98,7 +93,5 @@ static PARAMETERS: [Row; 12] = [
 
 #[test]
 fn parameters_kept_aside_fill_the_room(rt: HostRuntime) -> Result<(), Fail> {
-    let wrong = first_wrong(rt.alloc(), &PARAMETERS)?;
-    assert_eq!(rt; wrong, None);
-    Ok(())
+    expect_rows(rt.alloc(), &PARAMETERS)
 }

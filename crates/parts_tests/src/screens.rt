@@ -1,46 +1,46 @@
 //! What a screen keeps.
 
+use crate::expects::{expect, expect_bytes};
 use std::alloc::Global;
 use std::test::Fail;
 use terminal_line::Screen;
 
-/// A new screen has nothing; this one has what was written and echoed.
-fn written(alloc: Global) -> Result<Screen, Fail> {
-    let mut screen = Screen::new(alloc);
-    if !screen.bytes().is_empty() {
-        return Err("a new screen has bytes")?;
-    }
+/// What is echoed and written.
+static KEPT: &[u8] = b"\xFF\x00\r\nReady\r\n";
+
+fn write_lines(screen: &mut Screen) -> Result<(), Fail> {
     screen.echo(b"\xFF\x00")?;
     screen.write(b"Ready")?;
     screen.write(b"")?;
-    screen.echo(b"")?;
-    Ok(screen)
+    Ok(screen.echo(b"")?)
+}
+
+/// Fails unless a new screen has nothing, and keeps what is written.
+fn expect_kept(alloc: Global, screen: &mut Screen) -> Result<(), Fail> {
+    expect(screen.bytes().is_empty(), "a new screen has bytes")?;
+    write_lines(screen)?;
+    expect_bytes(alloc, screen.bytes(), KEPT)
 }
 
 #[test]
 fn a_screen_keeps_what_is_written(rt: HostRuntime) -> Result<(), Fail> {
-    let want = b"\xFF\x00\r\nReady\r\n".as_slice();
-    let screen = written(rt.alloc())?;
-    assert_eq!(rt; screen.bytes(), want);
-    let closed = screen.close();
-    assert_eq!(rt; closed.as_slice(), want);
-    Ok(())
+    let mut screen = Screen::new(rt.alloc());
+    expect_kept(rt.alloc(), &mut screen)?;
+    expect_bytes(rt.alloc(), screen.close().as_slice(), KEPT)
 }
 
-fn with_fresh_lines(alloc: Global) -> Result<Screen, Fail> {
-    let mut screen = Screen::new(alloc);
+fn write_fresh_lines(screen: &mut Screen) -> Result<(), Fail> {
     screen.fresh_line()?;
     screen.write(b"A\n")?;
     screen.fresh_line()?;
     screen.fresh_line()?;
     screen.write(b"\x07")?;
-    screen.fresh_line()?;
-    Ok(screen)
+    Ok(screen.fresh_line()?)
 }
 
 #[test]
 fn a_fresh_line_is_begun_once(rt: HostRuntime) -> Result<(), Fail> {
-    let screen = with_fresh_lines(rt.alloc())?;
-    assert_eq!(rt; screen.bytes(), b"A\n\r\n\x07".as_slice());
-    Ok(())
+    let mut screen = Screen::new(rt.alloc());
+    write_fresh_lines(&mut screen)?;
+    expect_bytes(rt.alloc(), screen.bytes(), b"A\n\r\n\x07")
 }

@@ -2,8 +2,8 @@
 
 ghost use Rattle.std.specs.Prelude.{◌≡◌, ◌<◌, length};
 
+use crate::expects::expect_none;
 use crate::names::file;
-use basic_values::NoMemory;
 use job_table::{ChannelEntry, JobTable};
 use monitor_calls::{Account, FileName};
 use std::alloc::Global;
@@ -41,7 +41,8 @@ struct Three {
 }
 
 impl Three {
-    fn new(alloc: Global, name: FileName) -> Result<Three, NoMemory> {
+    fn new(alloc: Global) -> Result<Three, Fail> {
+        let name = file(b"MASTER")?;
         let jobs = JobTable::new(alloc, 3)?;
         Ok(Three { jobs, name })
     }
@@ -145,12 +146,17 @@ static ROWS: [(Step, Told); 14] = [
     (Step::End(1), (None, 0, false)),
 ];
 
+fn first_wrong(three: &mut Three) -> Option<usize> {
+    for (place, (step, told)) in ROWS.iter().enumerate() {
+        if three.told_behind(*step) != Some(*told) {
+            return Some(place);
+        }
+    }
+    None
+}
+
 #[test]
 fn a_job_has_an_account_calls_and_channels_to_its_end(rt: HostRuntime) -> Result<(), Fail> {
-    let mut three = Three::new(rt.alloc(), file(b"MASTER")?)?;
-    for (place, (step, told)) in ROWS.iter().enumerate() {
-        let found = three.told_behind(*step);
-        assert_eq!(rt; found, Some(*told), "row {place}");
-    }
-    Ok(())
+    let mut three = Three::new(rt.alloc())?;
+    expect_none(rt.alloc(), first_wrong(&mut three))
 }

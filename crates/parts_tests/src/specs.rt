@@ -1,5 +1,6 @@
 //! Names of files, as they are typed and printed.
 
+use crate::expects::expect_none;
 use crate::names::{account, short};
 use basic_values::Fault;
 use file_names::{Spec, parse_spec, print};
@@ -64,9 +65,7 @@ fn first_wrong_parts(rows: &[Parts]) -> Option<usize> {
 
 #[test]
 fn each_part_but_the_stem_may_be_left_out(rt: HostRuntime) -> Result<(), Fail> {
-    let wrong = first_wrong_parts(&READ);
-    assert_eq!(rt; wrong, None);
-    Ok(())
+    expect_none(rt.alloc(), first_wrong_parts(&READ))
 }
 
 static REFUSED: [(&[u8], u8); 22] = [
@@ -113,9 +112,7 @@ fn first_wrong_fault(rows: &[(&[u8], u8)]) -> Option<usize> {
 
 #[test]
 fn another_device_is_8_and_any_other_text_2(rt: HostRuntime) -> Result<(), Fail> {
-    let wrong = first_wrong_fault(&REFUSED);
-    assert_eq!(rt; wrong, None);
-    Ok(())
+    expect_none(rt.alloc(), first_wrong_fault(&REFUSED))
 }
 
 /// A stem, an extension, and how their name is printed for [100,5].
@@ -157,7 +154,5 @@ fn first_wrong_print(rows: &[(&[u8], &[u8], &[u8])]) -> Result<Option<usize>, Fa
 
 #[test]
 fn what_is_printed_is_read_again(rt: HostRuntime) -> Result<(), Fail> {
-    let wrong = first_wrong_print(&PRINTED)?;
-    assert_eq!(rt; wrong, None);
-    Ok(())
+    expect_none(rt.alloc(), first_wrong_print(&PRINTED)?)
 }

@@ -1,5 +1,6 @@
 //! The texts of SYS.
 
+use crate::expects::expect_none;
 use crate::names::account;
 use basic_values::{Text, Trouble};
 use monitor_calls::{Reply, Request};
@@ -85,9 +86,7 @@ static ASKED: [(&[u8], Asked); 12] = [
 
 #[test]
 fn each_row_of_the_table_asks_its_call(rt: HostRuntime) -> Result<(), Fail> {
-    let wrong = first_wrong_call(rt.alloc(), &ASKED);
-    assert_eq!(rt; wrong, None);
-    Ok(())
+    expect_none(rt.alloc(), first_wrong_call(rt.alloc(), &ASKED))
 }
 
 static REFUSED: [(&[u8], Asked); 20] = [
@@ -115,9 +114,7 @@ static REFUSED: [(&[u8], Asked); 20] = [
 
 #[test]
 fn any_other_text_is_18(rt: HostRuntime) -> Result<(), Fail> {
-    let wrong = first_wrong_call(rt.alloc(), &REFUSED);
-    assert_eq!(rt; wrong, None);
-    Ok(())
+    expect_none(rt.alloc(), first_wrong_call(rt.alloc(), &REFUSED))
 }
 
 /// Some bytes, and so many times the letter x.
@@ -161,9 +158,7 @@ fn first_wrong_length(
 
 #[test]
 fn a_common_has_127_bytes_and_a_message_512(rt: HostRuntime) -> Result<(), Fail> {
-    let wrong = first_wrong_length(rt.alloc(), &LONG)?;
-    assert_eq!(rt; wrong, None);
-    Ok(())
+    expect_none(rt.alloc(), first_wrong_length(rt.alloc(), &LONG)?)
 }
 
 /// What the monitor replied, to a job of [100,5].
@@ -216,9 +211,14 @@ static GIVEN: [(Replied, &[u8]); 6] = [
     (Replied::State(4, 16384), b"\x05\x64\x05\x40\x00"),
 ];
 
+fn is_given(alloc: Global, replied: Replied, want: &[u8]) -> Result<bool, Fail> {
+    let text = given(alloc, replied)?;
+    Ok(text.as_bytes() == want)
+}
+
 fn first_wrong_text(alloc: Global, rows: &[(Replied, &[u8])]) -> Result<Option<usize>, Fail> {
     for (place, (replied, want)) in rows.iter().enumerate() {
-        if given(alloc, *replied)?.as_bytes() != *want {
+        if !is_given(alloc, *replied, want)? {
             return Ok(Some(place));
         }
     }
@@ -227,7 +227,5 @@ fn first_wrong_text(alloc: Global, rows: &[(Replied, &[u8])]) -> Result<Option<u
 
 #[test]
 fn a_reply_is_told_by_its_row(rt: HostRuntime) -> Result<(), Fail> {
-    let wrong = first_wrong_text(rt.alloc(), &GIVEN)?;
-    assert_eq!(rt; wrong, None);
-    Ok(())
+    expect_none(rt.alloc(), first_wrong_text(rt.alloc(), &GIVEN)?)
 }

@@ -1,5 +1,6 @@
 //! An error, its handler, and the way back.
 
+use crate::expects::expect_none;
 use basic_values::Fault;
 use error_trap::{Raised, Trap};
 use std::test::Fail;
@@ -84,9 +85,7 @@ static HANDLED: [(Step, Told); 9] = [
 
 #[test]
 fn an_error_goes_to_its_handler_and_back(rt: HostRuntime) -> Result<(), Fail> {
-    let wrong = first_wrong(&HANDLED);
-    assert_eq!(rt; wrong, None);
-    Ok(())
+    expect_none(rt.alloc(), first_wrong(&HANDLED))
 }
 
 static LEFT: [(Step, Told); 3] = [
@@ -97,7 +96,5 @@ static LEFT: [(Step, Told); 3] = [
 
 #[test]
 fn a_handler_taken_away_leaves_its_error(rt: HostRuntime) -> Result<(), Fail> {
-    let wrong = first_wrong(&LEFT);
-    assert_eq!(rt; wrong, None);
-    Ok(())
+    expect_none(rt.alloc(), first_wrong(&LEFT))
 }

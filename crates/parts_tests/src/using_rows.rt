@@ -1,5 +1,6 @@
 //! What PRINT USING writes.
 
+use crate::expects::{expect, expect_none};
 use basic_values::Trouble;
 use print_using::{Using, format_line, format_values};
 use std::alloc::Global;
@@ -52,9 +53,7 @@ static NUMBERS: [Row; 14] = [
 
 #[test]
 fn a_number_stands_right_in_its_places(rt: HostRuntime) -> Result<(), Fail> {
-    let wrong = first_wrong(rt.alloc(), &NUMBERS)?;
-    assert_eq!(rt; wrong, None);
-    Ok(())
+    expect_none(rt.alloc(), first_wrong(rt.alloc(), &NUMBERS)?)
 }
 
 static TEXTS: [Row; 9] = [
@@ -75,9 +74,7 @@ static TEXTS: [Row; 9] = [
 
 #[test]
 fn a_text_is_cut_to_its_field(rt: HostRuntime) -> Result<(), Fail> {
-    let wrong = first_wrong(rt.alloc(), &TEXTS)?;
-    assert_eq!(rt; wrong, None);
-    Ok(())
+    expect_none(rt.alloc(), first_wrong(rt.alloc(), &TEXTS)?)
 }
 
 static TAKEN: [Row; 14] = [
@@ -119,9 +116,7 @@ static TAKEN: [Row; 14] = [
 
 #[test]
 fn each_value_takes_the_next_field_of_its_kind(rt: HostRuntime) -> Result<(), Fail> {
-    let wrong = first_wrong(rt.alloc(), &TAKEN)?;
-    assert_eq!(rt; wrong, None);
-    Ok(())
+    expect_none(rt.alloc(), first_wrong(rt.alloc(), &TAKEN)?)
 }
 
 fn line_of(alloc: Global, format: &[u8], number: i16, want: &[u8]) -> bool {
@@ -133,7 +128,5 @@ fn line_of(alloc: Global, format: &[u8], number: i16, want: &[u8]) -> bool {
 
 #[test]
 fn a_line_ends_behind_its_bytes(rt: HostRuntime) -> Result<(), Fail> {
-    let ended = line_of(rt.alloc(), b"## A", 5, b" 5 A\r\n");
-    assert!(rt; ended);
-    Ok(())
+    expect(line_of(rt.alloc(), b"## A", 5, b" 5 A\r\n"), "another line")
 }

@@ -1,5 +1,6 @@
 //! Variables: each is found by its letter, its digit and its kind.
 
+use crate::expects::expect;
 use crate::memory::text;
 use basic_tree::Name;
 use basic_values::Int;
@@ -72,19 +73,17 @@ fn count_of(place: usize) -> u8 {
 }
 
 /// Stores under each name, from the last one on or from the first.
-fn memory_with_all(alloc: Global, from_last: bool) -> Result<Memory, Fail> {
-    let mut memory = Memory::new(alloc);
+fn store_all(alloc: Global, memory: &mut Memory, from_last: bool) -> Result<(), Fail> {
     for step in 0..STORED.len() {
         let place = if from_last {
             STORED.len() - 1 - step
         } else {
             step
         };
-        if !stores(alloc, &mut memory, named(STORED[place]), count_of(place))? {
-            Err("not stored")?;
-        }
+        let is_stored = stores(alloc, memory, named(STORED[place]), count_of(place))?;
+        expect(is_stored, "not stored")?;
     }
-    Ok(memory)
+    Ok(())
 }
 
 /// Whether each name has what was stored under it.
@@ -104,13 +103,24 @@ fn has_no_other(memory: &Memory, buffers: &Buffers) -> bool {
         .all(|name| is(memory, buffers, named(*name), 0))
 }
 
+/// Fails unless each name has what was stored under it alone.
+fn expect_own_values(memory: &Memory, buffers: &Buffers) -> Result<(), Fail> {
+    expect(has_all(memory, buffers), "a name has another value")?;
+    expect(
+        has_no_other(memory, buffers),
+        "a name has a value that was not stored",
+    )
+}
+
+fn expect_stored(alloc: Global, buffers: &Buffers, from_last: bool) -> Result<(), Fail> {
+    let mut memory = Memory::new(alloc);
+    store_all(alloc, &mut memory, from_last)?;
+    expect_own_values(&memory, buffers)
+}
+
 #[test]
 fn each_variable_has_its_own_value(rt: HostRuntime) -> Result<(), Fail> {
     let buffers = Buffers::new(rt.alloc())?;
-    for from_last in [false, true] {
-        let memory = memory_with_all(rt.alloc(), from_last)?;
-        assert!(rt; has_all(&memory, &buffers));
-        assert!(rt; has_no_other(&memory, &buffers));
-    }
-    Ok(())
+    expect_stored(rt.alloc(), &buffers, false)?;
+    expect_stored(rt.alloc(), &buffers, true)
 }

@@ -1,6 +1,7 @@
 //! Arguments of functions of the program: as many as the parameters, and each of its kind.
 
-use crate::read::judged;
+use crate::expects::{expect_none, expect_none_of};
+use crate::read::{Verdict, is_judged};
 use program_model::LowerCause;
 use std::alloc::Global;
 use std::test::Fail;
@@ -53,8 +54,8 @@ static TEXTS: [&str; 18] = [
     "(I$+LEFT(J$,1%))",
 ];
 
-/// What is told of a program whose line 40 gives a function this argument.
-fn told(alloc: Global, function: &str, argument: &str) -> Result<Option<(u16, LowerCause)>, Fail> {
+/// Whether this is told of a program whose line 40 gives a function that argument.
+fn is_told(alloc: Global, function: &str, argument: &str, wanted: Verdict) -> Result<bool, Fail> {
     let call = format!(in alloc; "A%={function}({argument})")?;
     let lines: [&[u8]; 4] = [
         b"DEF FNN%(X%)=X%",
@@ -62,10 +63,10 @@ fn told(alloc: Global, function: &str, argument: &str) -> Result<Option<(u16, Lo
         b"DEF FNN$(X%)='A'",
         call.as_bytes(),
     ];
-    judged(alloc, &lines)
+    is_judged(alloc, &lines, wanted)
 }
 
-const UNFIT: Option<(u16, LowerCause)> = Some((40, LowerCause::Arguments));
+const UNFIT: Verdict = Some((40, LowerCause::Arguments));
 
 /// The first argument that does not fit its own function alone.
 fn first_misfit(
@@ -75,7 +76,8 @@ fn first_misfit(
     other: &str,
 ) -> Result<Option<usize>, Fail> {
     for (place, argument) in arguments.iter().enumerate() {
-        if told(alloc, own, argument)? != None || told(alloc, other, argument)? != UNFIT {
+        let is_fit = is_told(alloc, own, argument, None)?;
+        if !is_fit || !is_told(alloc, other, argument, UNFIT)? {
             return Ok(Some(place));
         }
     }
@@ -85,10 +87,9 @@ fn first_misfit(
 #[test]
 fn an_argument_has_the_kind_of_its_parameter(rt: HostRuntime) -> Result<(), Fail> {
     let wrong = first_misfit(rt.alloc(), &NUMBERS, "FNN%", "FNT%")?;
-    assert_eq!(rt; wrong, None);
+    expect_none_of(rt.alloc(), "the numbers", wrong)?;
     let wrong = first_misfit(rt.alloc(), &TEXTS, "FNT%", "FNN%")?;
-    assert_eq!(rt; wrong, None);
-    Ok(())
+    expect_none_of(rt.alloc(), "the texts", wrong)
 }
 
 /// Arguments of a function with the parameters X%, Y$ and Z%, and whether they fit.
@@ -111,7 +112,7 @@ fn first_wrong_list(alloc: Global) -> Result<Option<usize>, Fail> {
         } else {
             Some((20, LowerCause::Arguments))
         };
-        if judged(alloc, &[b"DEF FNA%(X%,Y$,Z%)=X%+Z%", line])? != wanted {
+        if !is_judged(alloc, &[b"DEF FNA%(X%,Y$,Z%)=X%+Z%", line], wanted)? {
             return Ok(Some(place));
         }
     }
@@ -120,7 +121,5 @@ fn first_wrong_list(alloc: Global) -> Result<Option<usize>, Fail> {
 
 #[test]
 fn each_argument_is_judged(rt: HostRuntime) -> Result<(), Fail> {
-    let wrong = first_wrong_list(rt.alloc())?;
-    assert_eq!(rt; wrong, None);
-    Ok(())
+    expect_none(rt.alloc(), first_wrong_list(rt.alloc())?)
 }

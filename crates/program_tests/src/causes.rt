@@ -1,13 +1,17 @@
 //! Each cause by itself, each pair of causes on one line and on two, and in immediate mode.
 
-use crate::read::{Verdict, judged, judged_now};
+use crate::expects::expect_none;
+use crate::read::{Verdict, is_judged, is_judged_now};
 use program_model::LowerCause;
 use std::alloc::Global;
 use std::test::Fail;
 
+/// A cause, and a line that is refused for it.
+type Row = (LowerCause, &'static [u8]);
+
 /// A line for each cause, in the order in which those of one line are told. None of them takes a
 /// cause from another.
-static ROWS: [(LowerCause, &[u8]); 12] = [
+static ROWS: [Row; 12] = [
     (LowerCause::NoLine, b"GOTO 5"),
     (LowerCause::OpenFor, b"FOR I%=1% TO 2%"),
     (LowerCause::StrayNext, b"NEXT J%"),
@@ -25,6 +29,10 @@ static ROWS: [(LowerCause, &[u8]); 12] = [
     (LowerCause::MatFile, b"DIM #1%,M%(2%):MAT M%=ZER"),
 ];
 
+fn rows() -> &'static [Row] {
+    &ROWS
+}
+
 /// Two lines as one.
 fn joined(alloc: Global, first: &[u8], second: &[u8]) -> Result<Vec<u8>, Fail> {
     let mut line = Vec::from_slice(alloc, first)?;
@@ -34,8 +42,8 @@ fn joined(alloc: Global, first: &[u8], second: &[u8]) -> Result<Vec<u8>, Fail> {
 }
 
 fn first_wrong_by_itself(alloc: Global) -> Result<Option<usize>, Fail> {
-    for (place, (cause, line)) in ROWS.iter().enumerate() {
-        if judged(alloc, &[b"A%=1%", line, b"END"])? != Some((20, *cause)) {
+    for (place, (cause, line)) in rows().iter().enumerate() {
+        if !is_judged(alloc, &[b"A%=1%", line, b"END"], Some((20, *cause)))? {
             return Ok(Some(place));
         }
     }
@@ -44,38 +52,53 @@ fn first_wrong_by_itself(alloc: Global) -> Result<Option<usize>, Fail> {
 
 #[test]
 fn each_cause_is_told_at_its_line(rt: HostRuntime) -> Result<(), Fail> {
-    let wrong = first_wrong_by_itself(rt.alloc())?;
-    assert_eq!(rt; wrong, None);
-    Ok(())
+    expect_none(rt.alloc(), first_wrong_by_itself(rt.alloc())?)
 }
 
-/// The first row whose line is judged otherwise in front of this row's or behind it, on one line.
-fn wrong_on_one_line(alloc: Global, row: usize) -> Result<Option<usize>, Fail> {
-    let (cause, line) = ROWS.get(row).ok_or("no row")?;
-    for (place, (other, behind)) in ROWS.iter().enumerate() {
-        let both = joined(alloc, line, behind)?;
-        let wanted = if row < place { *cause } else { *other };
-        if place != row && judged(alloc, &[both.as_slice()])? != Some((10, wanted)) {
+/// Whether this cause is told of a line with another one behind it.
+fn is_told_of_both(
+    alloc: Global,
+    line: &[u8],
+    behind: &[u8],
+    cause: LowerCause,
+) -> Result<bool, Fail> {
+    let both = joined(alloc, line, behind)?;
+    is_judged(alloc, &[both.as_slice()], Some((10, cause)))
+}
+
+/// The first other row with whose line behind it this row's line is told otherwise, on one line.
+fn wrong_on_one_line(alloc: Global, row: usize, first: &Row) -> Result<Option<usize>, Fail> {
+    for (place, (other, behind)) in rows().iter().enumerate() {
+        let wanted = if row < place { first.0 } else { *other };
+        if place != row && !is_told_of_both(alloc, first.1, behind, wanted)? {
             return Ok(Some(place));
         }
     }
     Ok(None)
 }
 
+/// Fails with two rows of which the one is told otherwise with the other behind it.
+fn expect_none_behind(alloc: Global, row: usize, wrong: Option<usize>) -> Result<(), Fail> {
+    match wrong {
+        None => Ok(()),
+        Some(place) => Err(Fail::new(format!(in alloc;
+            "row {row} is told otherwise with row {place} behind it"
+        )?)),
+    }
+}
+
 #[test]
 fn the_first_cause_of_a_line_is_told(rt: HostRuntime) -> Result<(), Fail> {
-    for row in 0..ROWS.len() {
-        let wrong = wrong_on_one_line(rt.alloc(), row)?;
-        assert_eq!(rt; wrong, None, "row {row}");
+    for (row, first) in rows().iter().enumerate() {
+        expect_none_behind(rt.alloc(), row, wrong_on_one_line(rt.alloc(), row, first)?)?;
     }
     Ok(())
 }
 
 /// The first row whose line is told behind this row's, where that stands one line before.
-fn wrong_on_two_lines(alloc: Global, row: usize) -> Result<Option<usize>, Fail> {
-    let (cause, line) = ROWS.get(row).ok_or("no row")?;
-    for (place, (_, behind)) in ROWS.iter().enumerate() {
-        if place != row && judged(alloc, &[*line, *behind])? != Some((10, *cause)) {
+fn wrong_on_two_lines(alloc: Global, row: usize, first: &Row) -> Result<Option<usize>, Fail> {
+    for (place, (_, behind)) in rows().iter().enumerate() {
+        if place != row && !is_judged(alloc, &[first.1, *behind], Some((10, first.0)))? {
             return Ok(Some(place));
         }
     }
@@ -84,9 +107,8 @@ fn wrong_on_two_lines(alloc: Global, row: usize) -> Result<Option<usize>, Fail> 
 
 #[test]
 fn the_least_line_is_told(rt: HostRuntime) -> Result<(), Fail> {
-    for row in 0..ROWS.len() {
-        let wrong = wrong_on_two_lines(rt.alloc(), row)?;
-        assert_eq!(rt; wrong, None, "row {row}");
+    for (row, first) in rows().iter().enumerate() {
+        expect_none_behind(rt.alloc(), row, wrong_on_two_lines(rt.alloc(), row, first)?)?;
     }
     Ok(())
 }
@@ -94,8 +116,8 @@ fn the_least_line_is_told(rt: HostRuntime) -> Result<(), Fail> {
 const IMMEDIATE: Verdict = Some((0, LowerCause::Immediate));
 
 fn first_not_immediate(alloc: Global) -> Result<Option<usize>, Fail> {
-    for (place, (_, line)) in ROWS.iter().enumerate() {
-        if judged_now(alloc, line)? != IMMEDIATE {
+    for (place, (_, line)) in rows().iter().enumerate() {
+        if !is_judged_now(alloc, line, IMMEDIATE)? {
             return Ok(Some(place));
         }
     }
@@ -104,9 +126,7 @@ fn first_not_immediate(alloc: Global) -> Result<Option<usize>, Fail> {
 
 #[test]
 fn immediate_mode_has_one_cause(rt: HostRuntime) -> Result<(), Fail> {
-    let wrong = first_not_immediate(rt.alloc())?;
-    assert_eq!(rt; wrong, None);
-    Ok(())
+    expect_none(rt.alloc(), first_not_immediate(rt.alloc())?)
 }
 
 static NOW: [(&[u8], bool); 24] = [
@@ -139,7 +159,7 @@ static NOW: [(&[u8], bool); 24] = [
 fn first_wrong_now(alloc: Global) -> Result<Option<usize>, Fail> {
     for (place, (line, fits)) in NOW.iter().enumerate() {
         let wanted = if *fits { None } else { IMMEDIATE };
-        if judged_now(alloc, line)? != wanted {
+        if !is_judged_now(alloc, line, wanted)? {
             return Ok(Some(place));
         }
     }
@@ -148,7 +168,5 @@ fn first_wrong_now(alloc: Global) -> Result<Option<usize>, Fail> {
 
 #[test]
 fn immediate_mode_refuses_what_belongs_to_programs(rt: HostRuntime) -> Result<(), Fail> {
-    let wrong = first_wrong_now(rt.alloc())?;
-    assert_eq!(rt; wrong, None);
-    Ok(())
+    expect_none(rt.alloc(), first_wrong_now(rt.alloc())?)
 }

@@ -1,5 +1,6 @@
 //! How many items code has, where its lines begin, and how many FORs there are.
 
+use crate::expects::{expect, expect_none};
 use crate::read::program_of;
 use basic_values::Trouble;
 use line_editor::ProgramText;
@@ -73,9 +74,7 @@ fn first_wrong(alloc: Global) -> Result<Option<usize>, Fail> {
 
 #[test]
 fn code_has_its_items(rt: HostRuntime) -> Result<(), Fail> {
-    let wrong = first_wrong(rt.alloc())?;
-    assert_eq!(rt; wrong, None);
-    Ok(())
+    expect_none(rt.alloc(), first_wrong(rt.alloc())?)
 }
 
 /// The bytes of their files at which the arrays begin from which elements are loaded.
@@ -89,17 +88,22 @@ fn starts_loaded(alloc: Global, code: &Code) -> Result<Vec<u64>, Fail> {
     Ok(starts)
 }
 
+/// The same of a program of these lines.
+fn starts_in(alloc: Global, lines: &[&[u8]]) -> Result<Vec<u64>, Fail> {
+    let text = program_of(alloc, lines)?;
+    let code = code_of(lower(alloc, text.program()))?;
+    starts_loaded(alloc, &code)
+}
+
 #[test]
 fn elements_are_in_the_files_of_dim(rt: HostRuntime) -> Result<(), Fail> {
-    let alloc = rt.alloc();
     let lines: [&[u8]; 2] = [
         b"DIM #1%,A%(3%),B$(2%)=8%,C%(1%),D$(0%)",
         b"PRINT A%(0%);B$(0%);C%(0%);D$(0%);E%(0%)",
     ];
-    let code = code_of(lower(alloc, program_of(alloc, &lines)?.program()))?;
-    assert_eq!(rt;
-        starts_loaded(alloc, &code)?.as_slice(),
-        [0, 8, 32, 48].as_slice()
-    );
-    Ok(())
+    let starts = starts_in(rt.alloc(), &lines)?;
+    expect(
+        starts.as_slice() == [0, 8, 32, 48].as_slice(),
+        "the starts of the arrays",
+    )
 }

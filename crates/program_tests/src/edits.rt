@@ -1,5 +1,6 @@
 //! Lines that are stored, replaced, deleted, listed and refused.
 
+use crate::expects::{expect, expect_none};
 use basic_tree::{Cause, Refusal};
 use basic_values::Trouble;
 use line_editor::{EditRefusal, ProgramText};
@@ -7,7 +8,7 @@ use std::alloc::Global;
 use std::test::Fail;
 
 /// The answer to a line that is put into a text.
-#[derive(Clone, Copy, Debug, PartialEq, Eq)]
+#[derive(Clone, Copy, PartialEq, Eq)]
 enum Put {
     Done,
     /// The line's number is none.
@@ -81,10 +82,8 @@ fn count(text: &ProgramText) -> usize {
 #[test]
 fn lines_are_stored_in_order(rt: HostRuntime) -> Result<(), Fail> {
     let mut text = ProgramText::new(rt.alloc());
-    let wrong = first_wrong_store(&mut text, &STORED);
-    assert_eq!(rt; wrong, None);
-    assert_eq!(rt; count(&text), 3);
-    Ok(())
+    expect_none(rt.alloc(), first_wrong_store(&mut text, &STORED))?;
+    expect(count(&text) == 3, "how many lines there are")
 }
 
 /// A range, what is listed of it, and what is left when it has been deleted.
@@ -132,9 +131,7 @@ fn first_wrong_range(alloc: Global) -> Result<Option<usize>, Fail> {
 
 #[test]
 fn ranges_are_listed_and_deleted(rt: HostRuntime) -> Result<(), Fail> {
-    let wrong = first_wrong_range(rt.alloc())?;
-    assert_eq!(rt; wrong, None);
-    Ok(())
+    expect_none(rt.alloc(), first_wrong_range(rt.alloc())?)
 }
 
 /// Lines that grow, shrink and go, at both ends of three lines and between them.
@@ -155,9 +152,7 @@ static CHANGED: [(u16, &[u8], &[u8]); 11] = [
 #[test]
 fn lines_grow_and_shrink_in_place(rt: HostRuntime) -> Result<(), Fail> {
     let mut text = three_lines(rt.alloc()).ok_or("a line is refused")?;
-    let wrong = first_wrong_store(&mut text, &CHANGED);
-    assert_eq!(rt; wrong, None);
-    Ok(())
+    expect_none(rt.alloc(), first_wrong_store(&mut text, &CHANGED))
 }
 
 /// A number, and what is lent of its line among three.
@@ -184,9 +179,7 @@ fn first_wrong_line(text: &ProgramText) -> Option<usize> {
 #[test]
 fn a_line_is_lent_where_it_is_there(rt: HostRuntime) -> Result<(), Fail> {
     let text = three_lines(rt.alloc()).ok_or("a line is refused")?;
-    let wrong = first_wrong_line(&text);
-    assert_eq!(rt; wrong, None);
-    Ok(())
+    expect_none(rt.alloc(), first_wrong_line(&text))
 }
 
 /// The number of a line, the rest of it, and its answer; none stands for 300 bytes.
@@ -227,9 +220,7 @@ fn first_wrong_refusal(alloc: Global) -> Result<Option<usize>, Fail> {
 
 #[test]
 fn refused_lines_change_nothing(rt: HostRuntime) -> Result<(), Fail> {
-    let wrong = first_wrong_refusal(rt.alloc())?;
-    assert_eq!(rt; wrong, None);
-    Ok(())
+    expect_none(rt.alloc(), first_wrong_refusal(rt.alloc())?)
 }
 
 /// The answer to a comment of so many bytes.
@@ -239,16 +230,28 @@ fn comment(alloc: Global, number: u16, length: usize) -> Result<Put, Fail> {
     Ok(line_put(&mut text, number, &rest))
 }
 
+/// A number, the length of a comment behind it, and its answer.
+static COMMENTS: [(u16, usize, Put); 6] = [
+    (1, 254, Put::Done),
+    (1, 255, Put::TooLong),
+    (99, 253, Put::Done),
+    (99, 254, Put::TooLong),
+    (32767, 250, Put::Done),
+    (32767, 251, Put::TooLong),
+];
+
+fn first_wrong_comment(alloc: Global) -> Result<Option<usize>, Fail> {
+    for (place, (number, length, answer)) in COMMENTS.iter().enumerate() {
+        if comment(alloc, *number, *length)? != *answer {
+            return Ok(Some(place));
+        }
+    }
+    Ok(None)
+}
+
 #[test]
 fn a_line_has_255_bytes_with_its_number(rt: HostRuntime) -> Result<(), Fail> {
-    for (number, longest, longer) in [(1, 254, 255), (99, 253, 254), (32767, 250, 251)] {
-        let answers = (
-            comment(rt.alloc(), number, longest)?,
-            comment(rt.alloc(), number, longer)?,
-        );
-        assert_eq!(rt; answers, (Put::Done, Put::TooLong));
-    }
-    Ok(())
+    expect_none(rt.alloc(), first_wrong_comment(rt.alloc())?)
 }
 
 /// A text of 1,000 lines; none where a line is refused.
@@ -273,14 +276,19 @@ fn fallen_text(alloc: Global) -> Option<ProgramText> {
     Some(text)
 }
 
+/// Fails unless a text of falling lines has those of a text of rising ones.
+fn expect_same(risen: &ProgramText, fallen: &ProgramText) -> Result<(), Fail> {
+    let middle = b"499!\r\n500!\r\n501!\r\n";
+    expect(lists(fallen, 1, 32767, risen.list(1, 32767)), "all lines")?;
+    expect(lists(fallen, 499, 501, middle), "the lines in the middle")?;
+    expect(count(fallen) == 1000, "how many lines there are")
+}
+
 #[test]
 fn lines_may_be_entered_in_falling_order(rt: HostRuntime) -> Result<(), Fail> {
     let risen = full_text(rt.alloc()).ok_or("a line is refused")?;
     let fallen = fallen_text(rt.alloc()).ok_or("a line is refused")?;
-    assert!(rt; lists(&fallen, 1, 32767, risen.list(1, 32767)));
-    assert!(rt; lists(&fallen, 499, 501, b"499!\r\n500!\r\n501!\r\n"));
-    assert_eq!(rt; count(&fallen), 1000);
-    Ok(())
+    expect_same(&risen, &fallen)
 }
 
 /// 1,000 lines of 255 bytes with their numbers, from 1000 on.
@@ -294,16 +302,20 @@ fn long_text(alloc: Global, rest: &[u8]) -> Option<ProgramText> {
     Some(text)
 }
 
+/// Fails unless those lines are listed whole, and the first and the last are lent.
+fn expect_long(text: &ProgramText, rest: &[u8]) -> Result<(), Fail> {
+    expect(text.list(1, 32767).len() == 257_000, "all lines")?;
+    expect(text.list(1500, 1500).len() == 257, "line 1500")?;
+    expect(lends(text, 1000, Some(rest)), "line 1000")?;
+    expect(lends(text, 1999, Some(rest)), "line 1999")?;
+    expect(lends(text, 2000, None), "line 2000")
+}
+
 #[test]
 fn long_lines_are_listed_whole(rt: HostRuntime) -> Result<(), Fail> {
     let rest = vec![in rt.alloc(); b'!'; 251]?;
     let text = long_text(rt.alloc(), &rest).ok_or("a line is refused")?;
-    assert_eq!(rt; text.list(1, 32767).len(), 257_000);
-    assert_eq!(rt; text.list(1500, 1500).len(), 257);
-    assert!(rt; lends(&text, 1000, Some(&rest)));
-    assert!(rt; lends(&text, 1999, Some(&rest)));
-    assert!(rt; lends(&text, 2000, None));
-    Ok(())
+    expect_long(&text, &rest)
 }
 
 /// Lines that are put into a text of 1,000 lines one after another, and their answers.
@@ -329,8 +341,6 @@ fn first_wrong_beyond(text: &mut ProgramText) -> Option<usize> {
 #[test]
 fn a_text_has_1000_lines(rt: HostRuntime) -> Result<(), Fail> {
     let mut text = full_text(rt.alloc()).ok_or("a line is refused")?;
-    let wrong = first_wrong_beyond(&mut text);
-    assert_eq!(rt; wrong, None);
-    assert_eq!(rt; count(&text), 1000);
-    Ok(())
+    expect_none(rt.alloc(), first_wrong_beyond(&mut text))?;
+    expect(count(&text) == 1000, "how many lines there are")
 }

@@ -1,15 +1,14 @@
 //! What a program finds that begins, and what is written where one ends.
 
-use basic_interpreter::{Exit, Running, Spot, Stack, Storage, clear, write_ending};
+use crate::expects::{expect, expect_none};
+use crate::jobs::at_rest;
+use basic_interpreter::{Exit, Running, Spot, clear, write_ending};
 use basic_tree::Name;
-use basic_values::{Fault, Halt, Int, Text, Trouble};
-use error_trap::Trap;
-use monitor_calls::Account;
-use program_model::{Destination, Home};
-use record_fields::Buffers;
+use basic_values::{Fault, Halt, Int};
+use program_model::Home;
 use std::alloc::Global;
 use std::test::Fail;
-use terminal_line::{Keys, Screen};
+use terminal_line::Screen;
 
 const HOME: Home = Home {
     start: 3,
@@ -17,34 +16,22 @@ const HOME: Home = Home {
     line: 10,
 };
 
-/// Whose files a job names where it names no account.
-const ACCOUNT: Account = Account {
-    project: 1,
-    programmer: 2,
-};
-
-/// A job whose screen shows this.
-fn running(alloc: Global, shown: &[u8]) -> Result<Running, Fail> {
+/// A screen that shows this.
+fn screen_of(alloc: Global, shown: &[u8]) -> Result<Screen, Fail> {
     let mut screen = Screen::new(alloc);
     screen.write(shown)?;
-    Ok(Running {
-        alloc,
-        storage: Storage::new(alloc, ACCOUNT, Buffers::new(alloc)?),
-        screen,
-        keys: Keys::new(alloc, &[])?,
-        trap: Trap::new(),
-        returns: Stack::new(alloc),
-        limits: Vec::new(alloc),
-        item: 5,
-        line: 10,
-        home: HOME,
-        frames: Stack::new(alloc),
-        destination: Destination {
-            name: Text::empty(alloc),
-            line: None,
-        },
-        exit: Trouble::Refused(Exit::Ended),
-    })
+    Ok(screen)
+}
+
+/// A job at an item of line 10, whose screen shows this.
+fn running(alloc: Global, shown: &[u8]) -> Result<Running, Fail> {
+    let screen = screen_of(alloc, shown)?;
+    let mut state = at_rest(alloc)?;
+    state.screen = screen;
+    state.item = 5;
+    state.line = 10;
+    state.home = HOME;
+    Ok(state)
 }
 
 /// How a program ends, in few words.
@@ -106,9 +93,7 @@ fn first_wrong(alloc: Global) -> Result<Option<usize>, Fail> {
 
 #[test]
 fn endings_are_told_at_the_start_of_a_line(rt: HostRuntime) -> Result<(), Fail> {
-    let wrong = first_wrong(rt.alloc())?;
-    assert_eq!(rt; wrong, None);
-    Ok(())
+    expect_none(rt.alloc(), first_wrong(rt.alloc())?)
 }
 
 const A: Name = Name {
@@ -146,6 +131,5 @@ fn has_limits(state: &Running) -> bool {
 fn a_program_begins_with_nothing_kept(rt: HostRuntime) -> Result<(), Fail> {
     let mut state = kept(rt.alloc())?;
     clear(&mut state, 2)?;
-    assert!(rt; is_cleared(&state) && has_limits(&state));
-    Ok(())
+    expect(is_cleared(&state) && has_limits(&state), "what is kept")
 }

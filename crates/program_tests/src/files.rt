@@ -1,5 +1,6 @@
 //! Program files, written and read.
 
+use crate::expects::expect_none;
 use basic_values::Trouble;
 use line_editor::ProgramText;
 use monitor_calls::Page;
@@ -8,12 +9,11 @@ use std::test::Fail;
 
 /// One page that begins with these bytes.
 fn page_of(alloc: Global, bytes: &[u8]) -> Result<Page, Fail> {
-    let mut whole = Vec::from_slice(alloc, bytes)?;
-    whole.resize(512, 0)?;
+    let mut whole = [0u8; 512];
+    let count = bytes.len().min(512);
+    whole[..count].copy_from_slice(&bytes[..count]);
     let mut page = Page::new(alloc)?;
-    if whole.len() == 512 {
-        page.fill(&whole);
-    }
+    page.fill(&whole);
     Ok(page)
 }
 
@@ -42,31 +42,30 @@ static FILES: [(&[u8], Option<&[u8]>); 18] = [
     (b"10 A=1\r\n10 STOP", None),
 ];
 
-/// The listing of a file's program; none where it is refused with 50.
-fn listing(alloc: Global, pages: &[Page]) -> Result<Option<Vec<u8>>, Fail> {
+fn has_listing(text: &ProgramText, wanted: Option<&[u8]>) -> bool {
+    match wanted {
+        Some(listing) => text.list(1, 32767) == listing,
+        None => false,
+    }
+}
+
+/// Whether the program of a file has this listing; for none, whether it is refused with 50.
+fn is_listed(alloc: Global, pages: &[Page], wanted: Option<&[u8]>) -> Result<bool, Fail> {
     match ProgramText::from_file(alloc, pages) {
-        Ok(text) => Ok(Some(listed(alloc, &text)?)),
-        Err(Trouble::Refused(fault)) if fault.number() == 50 => Ok(None),
+        Ok(text) => Ok(has_listing(&text, wanted)),
+        Err(Trouble::Refused(fault)) if fault.number() == 50 => Ok(wanted.is_none()),
         Err(_) => Err("another answer")?,
     }
 }
 
-fn listed(alloc: Global, text: &ProgramText) -> Result<Vec<u8>, Fail> {
-    Ok(text.list(1, 32767).to_vec(alloc)?)
-}
-
-fn is_same(listing: &Option<Vec<u8>>, wanted: &Option<&[u8]>) -> bool {
-    match (listing, wanted) {
-        (Some(bytes), Some(wanted)) => bytes.as_slice() == *wanted,
-        (None, None) => true,
-        _ => false,
-    }
+fn is_read(alloc: Global, bytes: &[u8], wanted: Option<&[u8]>) -> Result<bool, Fail> {
+    let pages = [page_of(alloc, bytes)?];
+    is_listed(alloc, &pages, wanted)
 }
 
 fn first_wrong(alloc: Global) -> Result<Option<usize>, Fail> {
     for (place, (bytes, wanted)) in FILES.iter().enumerate() {
-        let pages = [page_of(alloc, bytes)?];
-        if !is_same(&listing(alloc, &pages)?, wanted) {
+        if !is_read(alloc, bytes, *wanted)? {
             return Ok(Some(place));
         }
     }
@@ -75,9 +74,7 @@ fn first_wrong(alloc: Global) -> Result<Option<usize>, Fail> {
 
 #[test]
 fn a_file_is_read(rt: HostRuntime) -> Result<(), Fail> {
-    let wrong = first_wrong(rt.alloc())?;
-    assert_eq!(rt; wrong, None);
-    Ok(())
+    expect_none(rt.alloc(), first_wrong(rt.alloc())?)
 }
 
 /// A program of so many lines.
@@ -91,21 +88,27 @@ fn lines_of_two(alloc: Global, count: u16) -> Result<ProgramText, Fail> {
     Ok(text)
 }
 
-/// How many pages the file of a program of so many lines has, and whether it is read as that
-/// program.
-fn written(alloc: Global, count: u16) -> Result<(usize, bool), Fail> {
+/// Whether the file of a program of so many lines has so many pages, and is read as that program.
+fn is_written(alloc: Global, count: u16, pages: usize) -> Result<bool, Fail> {
     let text = lines_of_two(alloc, count)?;
     let file = text.to_file()?;
-    let wanted = listed(alloc, &text)?;
-    let found = listing(alloc, file.as_slice())?;
-    Ok((file.len(), is_same(&found, &Some(wanted.as_slice()))))
+    let is_same = is_listed(alloc, file.as_slice(), Some(text.list(1, 32767)))?;
+    Ok(is_same && file.len() == pages)
+}
+
+/// How many lines a program has, and how many pages its file.
+static SIZES: [(u16, usize); 5] = [(0, 0), (1, 1), (73, 1), (74, 2), (147, 3)];
+
+fn first_wrong_size(alloc: Global) -> Result<Option<usize>, Fail> {
+    for (place, (lines, pages)) in SIZES.iter().enumerate() {
+        if !is_written(alloc, *lines, *pages)? {
+            return Ok(Some(place));
+        }
+    }
+    Ok(None)
 }
 
 #[test]
 fn a_file_has_whole_pages(rt: HostRuntime) -> Result<(), Fail> {
-    for (lines, pages) in [(0, 0), (1, 1), (73, 1), (74, 2), (147, 3)] {
-        let found = written(rt.alloc(), lines)?;
-        assert_eq!(rt; found, (pages, true));
-    }
-    Ok(())
+    expect_none(rt.alloc(), first_wrong_size(rt.alloc())?)
 }

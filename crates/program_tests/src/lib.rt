@@ -13,7 +13,11 @@ mod edits;
 #[cfg(test)]
 mod endings;
 #[cfg(test)]
+mod expects;
+#[cfg(test)]
 mod files;
+#[cfg(test)]
+mod jobs;
 #[cfg(test)]
 mod read;
 #[cfg(test)]

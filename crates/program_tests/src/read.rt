@@ -33,7 +33,7 @@ fn stored(answer: Result<(), Trouble<EditRefusal>>) -> Result<(), Fail> {
     }
 }
 
-pub(crate) fn verdict_of(answer: Result<Code, Trouble<LowerRefusal>>) -> Result<Verdict, Fail> {
+fn verdict_of(answer: Result<Code, Trouble<LowerRefusal>>) -> Result<Verdict, Fail> {
     match answer {
         Ok(_) => Ok(None),
         Err(Trouble::Refused(refusal)) => Ok(Some((refusal.line, refusal.cause))),
@@ -42,16 +42,26 @@ pub(crate) fn verdict_of(answer: Result<Code, Trouble<LowerRefusal>>) -> Result<
 }
 
 /// What a program of these lines is answered.
-pub(crate) fn judged(alloc: Global, lines: &[&[u8]]) -> Result<Verdict, Fail> {
+fn judged(alloc: Global, lines: &[&[u8]]) -> Result<Verdict, Fail> {
     let text = program_of(alloc, lines)?;
     verdict_of(lower(alloc, text.program()))
 }
 
+/// Whether a program of these lines is answered so.
+pub(crate) fn is_judged(alloc: Global, lines: &[&[u8]], wanted: Verdict) -> Result<bool, Fail> {
+    Ok(judged(alloc, lines)? == wanted)
+}
+
 /// What a line is answered in immediate mode.
-pub(crate) fn judged_now(alloc: Global, line: &[u8]) -> Result<Verdict, Fail> {
+fn judged_now(alloc: Global, line: &[u8]) -> Result<Verdict, Fail> {
     let text = program_of(alloc, &[line])?;
     match text.program().lines.get(&10) {
         Some(line) => verdict_of(lower_now(alloc, line)),
         None => Err(Fail::from("no line")),
     }
+}
+
+/// Whether a line is answered so in immediate mode.
+pub(crate) fn is_judged_now(alloc: Global, line: &[u8], wanted: Verdict) -> Result<bool, Fail> {
+    Ok(judged_now(alloc, line)? == wanted)
 }

@@ -1,6 +1,7 @@
 //! References into, out of and beside the bodies of functions, and what makes a program sound.
 
-use crate::read::{Verdict, judged};
+use crate::expects::expect_none;
+use crate::read::{Verdict, is_judged};
 use program_model::LowerCause;
 use std::alloc::Global;
 use std::test::Fail;
@@ -12,7 +13,7 @@ const ACROSS: LowerCause = LowerCause::AcrossBody;
 
 fn first_wrong(alloc: Global, rows: &[Row]) -> Result<Option<usize>, Fail> {
     for (place, (lines, wanted)) in rows.iter().enumerate() {
-        if judged(alloc, lines.as_slice())? != *wanted {
+        if !is_judged(alloc, lines.as_slice(), *wanted)? {
             return Ok(Some(place));
         }
     }
@@ -127,9 +128,7 @@ static BODIES: [Row; 14] = [
 
 #[test]
 fn references_stay_in_their_body(rt: HostRuntime) -> Result<(), Fail> {
-    let wrong = first_wrong(rt.alloc(), &BODIES)?;
-    assert_eq!(rt; wrong, None);
-    Ok(())
+    expect_none(rt.alloc(), first_wrong(rt.alloc(), &BODIES)?)
 }
 
 static LINES: [Row; 19] = [
@@ -225,9 +224,7 @@ static LINES: [Row; 19] = [
 
 #[test]
 fn lines_arrays_and_functions_are_found(rt: HostRuntime) -> Result<(), Fail> {
-    let wrong = first_wrong(rt.alloc(), &LINES)?;
-    assert_eq!(rt; wrong, None);
-    Ok(())
+    expect_none(rt.alloc(), first_wrong(rt.alloc(), &LINES)?)
 }
 
 static LOOPS: [Row; 10] = [
@@ -317,7 +314,5 @@ static LOOPS: [Row; 10] = [
 
 #[test]
 fn loops_and_bodies_are_closed(rt: HostRuntime) -> Result<(), Fail> {
-    let wrong = first_wrong(rt.alloc(), &LOOPS)?;
-    assert_eq!(rt; wrong, None);
-    Ok(())
+    expect_none(rt.alloc(), first_wrong(rt.alloc(), &LOOPS)?)
 }

@@ -1,52 +1,13 @@
 //! What a run writes and asks, and how it ends.
 
-use basic_interpreter::{Clock, Exit, Running, Stack, Storage, run};
+use crate::jobs::{at_rest, home};
+use basic_interpreter::{Clock, Exit, Running, run};
 use basic_tree::{Function, Name, Operator, Series};
 use basic_values::{Halt, Text, Trouble};
-use error_trap::Trap;
-use monitor_calls::{Account, Reply, ScriptPort};
+use monitor_calls::{Reply, ScriptPort};
 use polish_code::{Code, Item};
-use program_model::{Destination, Home};
-use record_fields::Buffers;
 use std::alloc::Global;
 use std::test::Fail;
-use terminal_line::{Keys, Screen};
-
-/// Whose files a job names where it names no account.
-const ACCOUNT: Account = Account {
-    project: 1,
-    programmer: 2,
-};
-
-/// The state of a job before its program runs.
-fn at_rest(alloc: Global) -> Result<Running, Fail> {
-    Ok(Running {
-        alloc,
-        storage: Storage::new(alloc, ACCOUNT, Buffers::new(alloc)?),
-        screen: Screen::new(alloc),
-        keys: Keys::new(alloc, &[])?,
-        trap: Trap::new(),
-        returns: Stack::new(alloc),
-        limits: Vec::new(alloc),
-        item: 0,
-        line: 0,
-        home: home(0, 0, 0),
-        frames: Stack::new(alloc),
-        destination: Destination {
-            name: Text::empty(alloc),
-            line: None,
-        },
-        exit: Trouble::Refused(Exit::Ended),
-    })
-}
-
-fn home(start: u32, behind: u32, line: u16) -> Home {
-    Home {
-        start,
-        behind,
-        line,
-    }
-}
 
 fn name(letter: u8) -> Name {
     Name {
@@ -61,16 +22,20 @@ fn ending(answer: Result<(), Trouble<Exit>>) -> &'static str {
     match answer {
         Ok(()) => "left a body",
         Err(Trouble::NoMemory) => "no memory",
-        Err(Trouble::Refused(exit)) => match exit {
-            Exit::Fault(_) => "fault",
-            Exit::Halt(Halt::TooDeep) => "too deep",
-            Exit::Halt(_) => "halt",
-            Exit::Gone => "gone",
-            Exit::Ended => "ended",
-            Exit::Chained => "chained",
-            Exit::Stopped(_) => "stopped",
-            Exit::StoppedInside(_) => "stopped inside",
-        },
+        Err(Trouble::Refused(exit)) => word_of(exit),
+    }
+}
+
+fn word_of(exit: Exit) -> &'static str {
+    match exit {
+        Exit::Fault(_) => "fault",
+        Exit::Halt(Halt::TooDeep) => "too deep",
+        Exit::Halt(_) => "halt",
+        Exit::Gone => "gone",
+        Exit::Ended => "ended",
+        Exit::Chained => "chained",
+        Exit::Stopped(_) => "stopped",
+        Exit::StoppedInside(_) => "stopped inside",
     }
 }
 
@@ -108,11 +73,15 @@ fn item(alloc: Global, small: Small) -> Result<Item, Fail> {
         Small::Arrive(start, behind, line) => Ok(Item::Arrive(home(start, behind, line))),
         Small::Stop(start, behind, line) => Ok(Item::Stop(home(start, behind, line))),
         Small::Call(has_parameter, body) => call(alloc, has_parameter, body),
-        Small::Remove => match Text::of(alloc, &[6, 22, 0]) {
-            Ok(text) => Ok(Item::Quoted(text)),
-            Err(_) => Err(Fail::from("no text")),
-        },
+        Small::Remove => quoted(alloc, &[6, 22, 0]),
         _ => Ok(plain(small)),
+    }
+}
+
+fn quoted(alloc: Global, bytes: &[u8]) -> Result<Item, Fail> {
+    match Text::of(alloc, bytes) {
+        Ok(text) => Ok(Item::Quoted(text)),
+        Err(_) => Err(Fail::from("no text")),
     }
 }
 
@@ -153,47 +122,26 @@ fn call(alloc: Global, has_parameter: bool, body: u32) -> Result<Item, Fail> {
     })
 }
 
-fn items(alloc: Global, row: &[Small]) -> Result<Vec<Item>, Fail> {
-    let mut items = Vec::new(alloc);
-    for small in row {
-        items.push(item(alloc, *small)?)?;
-    }
-    Ok(items)
+fn push_item(alloc: Global, items: &mut Vec<Item>, small: Small) -> Result<(), Fail> {
+    let item = item(alloc, small)?;
+    Ok(items.push(item)?)
 }
 
-/// So many replies that let a job go on.
-fn done(alloc: Global, count: usize) -> Result<Vec<Reply>, Fail> {
+fn code_of(alloc: Global, row: &[Small]) -> Result<Code, Fail> {
+    let mut items = Vec::new(alloc);
+    for small in row {
+        push_item(alloc, &mut items, *small)?;
+    }
+    Ok(Code::new(items, Vec::new(alloc), Vec::new(alloc)))
+}
+
+/// A port with so many replies that let a job go on.
+fn port_of(alloc: Global, count: usize) -> Result<ScriptPort, Fail> {
     let mut replies = Vec::new(alloc);
     for _ in 0..count {
         replies.push(Reply::Done)?;
     }
-    Ok(replies)
-}
-
-/// What a run of items comes to.
-#[derive(Drop)]
-struct Ran {
-    ended: &'static str,
-    written: Vec<u8>,
-    asked: usize,
-    line: u16,
-    frames: usize,
-}
-
-/// Runs these items from the first one on, over a port with so many replies.
-fn run_of(alloc: Global, items: Vec<Item>, replies: Vec<Reply>) -> Result<Ran, Fail> {
-    let code = Code::new(items, Vec::new(alloc), Vec::new(alloc));
-    let mut state = at_rest(alloc)?;
-    let mut clock = Clock::new();
-    let mut port = ScriptPort::new(alloc, replies);
-    let answer = run(&code, 0, &mut state, &mut clock, &mut port);
-    Ok(Ran {
-        ended: ending(answer),
-        written: state.screen.bytes().to_vec(alloc)?,
-        asked: port.log().len(),
-        line: state.line,
-        frames: state.frames.len(),
-    })
+    Ok(ScriptPort::new(alloc, replies))
 }
 
 /// Items, how many replies there are, how the run ends, what it writes, how often it asks, and in
@@ -207,15 +155,36 @@ type Row = (
     u16,
 );
 
-/// Fails with how a run ended, unless it comes to this.
-fn expect(alloc: Global, row: &Row) -> Result<(), Fail> {
-    let ran = run_of(alloc, items(alloc, row.0)?, done(alloc, row.1)?)?;
-    let is_written = ran.written.as_slice() == row.3;
-    if ran.ended == row.2 && is_written && (ran.asked, ran.line, ran.frames) == (row.4, row.5, 0) {
+/// Runs a code from its first item on, and tells how that ended.
+fn ran(code: &Code, state: &mut Running, port: &mut ScriptPort) -> &'static str {
+    let mut clock = Clock::new();
+    ending(run(code, 0, state, &mut clock, port))
+}
+
+/// Whether a job is left so, outside every body, and has asked so often.
+fn is_left(state: &Running, port: &ScriptPort, row: &Row) -> bool {
+    state.screen.bytes() == row.3
+        && port.log().len() == row.4
+        && state.line == row.5
+        && state.frames.len() == 0
+}
+
+/// Fails with how a run over this port ended, unless it comes to this.
+fn expect_over(alloc: Global, port: &mut ScriptPort, code: &Code, row: &Row) -> Result<(), Fail> {
+    let mut state = at_rest(alloc)?;
+    let ended = ran(code, &mut state, port);
+    if ended == row.2 && is_left(&state, port, row) {
         Ok(())
     } else {
-        Err(Fail::from(ran.ended))
+        Err(Fail::from(ended))
     }
+}
+
+/// The same with a port and a code of its own.
+fn expect(alloc: Global, row: &Row) -> Result<(), Fail> {
+    let mut port = port_of(alloc, row.1)?;
+    let code = code_of(alloc, row.0)?;
+    expect_over(alloc, &mut port, &code, row)
 }
 
 static SUM: Row = (

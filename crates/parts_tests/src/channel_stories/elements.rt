@@ -1,9 +1,9 @@
 //! Elements of virtual arrays: where they stand, what is asked for them, and what they hold.
 
 use crate::channel_stories::jobs::{
-    Call, Job, asked_behind, bytes_told, call_told, job_with, stop_told,
+    Call, Job, asked_and_ended, bytes_told, call_told, done_told, expect_told, job_with, stop_told,
 };
-use crate::channel_stories::scripts::{Told, push_told};
+use crate::channel_stories::scripts::{Told, push_all};
 use basic_tree::Name;
 use basic_values::{Int, Stop, Text};
 use monitor_calls::{OpenKind, Reply};
@@ -311,7 +311,7 @@ fn write_told(
 ) -> Result<String, Fail> {
     let shape = shape_of(array);
     let (channels, buffers, port) = (&mut job.channels, &mut job.buffers, &mut job.port);
-    match write(
+    let written = write(
         alloc,
         channels,
         buffers,
@@ -320,10 +320,8 @@ fn write_told(
         Int::new(first),
         second,
         value,
-    ) {
-        Ok(()) => Ok(String::from_str(alloc, "ok")?),
-        Err(stop) => stop_told(alloc, stop),
-    }
+    );
+    done_told(alloc, written)
 }
 
 fn int_of(subscript: Option<i16>) -> Option<Int> {
@@ -357,18 +355,14 @@ fn access_told(alloc: Global, job: &mut Job, access: Access) -> Result<String, F
 fn step_told(alloc: Global, job: &mut Job, access: Access) -> Result<String, Fail> {
     let before = job.port.log().len();
     let end = access_told(alloc, job, access)?;
-    let mut text = asked_behind(alloc, job.port.log(), before)?;
-    text.push_str(end.as_str())?;
-    Ok(text)
+    asked_and_ended(alloc, job.port.log(), before, end.as_str())
 }
 
 /// The replies of a whole story.
 fn replies_of(alloc: Global, steps: &[Step]) -> Result<Vec<Reply>, Fail> {
     let mut replies = Vec::new(alloc);
     for (_, told, _) in steps {
-        for told in *told {
-            push_told(alloc, &mut replies, *told)?;
-        }
+        push_all(alloc, &mut replies, told)?;
     }
     Ok(replies)
 }
@@ -376,19 +370,24 @@ fn replies_of(alloc: Global, steps: &[Step]) -> Result<Vec<Reply>, Fail> {
 /// Fails with what came of the first step of which another thing is wanted.
 fn expect_story(alloc: Global, steps: &[Step]) -> Result<(), Fail> {
     let mut job = job_with(alloc, replies_of(alloc, steps)?)?;
+    expect_steps(alloc, &mut job, steps)
+}
+
+fn expect_steps(alloc: Global, job: &mut Job, steps: &[Step]) -> Result<(), Fail> {
     for (access, _, wanted) in steps {
-        let told = step_told(alloc, &mut job, *access)?;
-        if told.as_str() != *wanted {
-            return Err(Fail::new(told));
-        }
+        expect_told(step_told(alloc, job, *access)?, wanted)?;
+    }
+    Ok(())
+}
+
+fn expect_stories(alloc: Global, stories: &[&[Step]]) -> Result<(), Fail> {
+    for steps in stories {
+        expect_story(alloc, steps)?;
     }
     Ok(())
 }
 
 #[test]
 fn elements_stand_in_windows(rt: HostRuntime) -> Result<(), Fail> {
-    for steps in &STORIES {
-        expect_story(rt.alloc(), steps)?;
-    }
-    Ok(())
+    expect_stories(rt.alloc(), &STORIES)
 }

@@ -1,6 +1,6 @@
 //! A job's side of files over a script, and its story step by step.
 
-use crate::channel_stories::scripts::{Told, push_told, request_told};
+use crate::channel_stories::scripts::{Told, push_all, request_told, words};
 use basic_values::{Int, Stop, Text};
 use channels::{ChannelState, Channels};
 use monitor_calls::{Account, FileName, OpenKind, Reply, Request, ScriptPort, Short};
@@ -73,15 +73,15 @@ fn a_name() -> Result<FileName, Fail> {
 pub(crate) fn stop_told(alloc: Global, stop: Stop) -> Result<String, Fail> {
     match stop {
         Stop::Fault(fault) => Ok(format!(in alloc; "fault {}", fault.number())?),
-        Stop::Expired => Ok(String::from_str(alloc, "expired")?),
-        Stop::Halt(_) => Ok(String::from_str(alloc, "halt")?),
-        Stop::NoMemory => Ok(String::from_str(alloc, "no memory")?),
+        Stop::Expired => words(alloc, "expired"),
+        Stop::Halt(_) => words(alloc, "halt"),
+        Stop::NoMemory => words(alloc, "no memory"),
     }
 }
 
-fn done_told(alloc: Global, outcome: Result<(), Stop>) -> Result<String, Fail> {
+pub(crate) fn done_told(alloc: Global, outcome: Result<(), Stop>) -> Result<String, Fail> {
     match outcome {
-        Ok(()) => Ok(String::from_str(alloc, "ok")?),
+        Ok(()) => words(alloc, "ok"),
         Err(stop) => stop_told(alloc, stop),
     }
 }
@@ -89,22 +89,25 @@ fn done_told(alloc: Global, outcome: Result<(), Stop>) -> Result<String, Fail> {
 fn closed_told(alloc: Global, outcome: Result<Option<u8>, Stop>) -> Result<String, Fail> {
     match outcome {
         Ok(Some(channel)) => Ok(format!(in alloc; "closed {channel}")?),
-        Ok(None) => Ok(String::from_str(alloc, "none")?),
+        Ok(None) => words(alloc, "none"),
         Err(stop) => stop_told(alloc, stop),
     }
 }
 
-/// A line: its bytes, where they are few; else how many, the first and the last.
 fn line_told(alloc: Global, outcome: Result<Text, Stop>) -> Result<String, Fail> {
-    let line = match outcome {
-        Ok(line) => line,
-        Err(stop) => return stop_told(alloc, stop),
-    };
-    match line.as_bytes() {
-        [first, .., last] if line.as_bytes().len() > 20 => {
-            Ok(format!(in alloc; "line {} {first} {last}", line.as_bytes().len())?)
+    match outcome {
+        Ok(line) => ends_told(alloc, line.as_bytes()),
+        Err(stop) => stop_told(alloc, stop),
+    }
+}
+
+/// The bytes of a line, where they are few; else how many, the first and the last.
+fn ends_told(alloc: Global, bytes: &[u8]) -> Result<String, Fail> {
+    match bytes {
+        [first, .., last] if bytes.len() > 20 => {
+            Ok(format!(in alloc; "line {} {} {}", bytes.len(), *first, *last)?)
         }
-        bytes => bytes_told(alloc, bytes),
+        _ => bytes_told(alloc, bytes),
     }
 }
 
@@ -121,18 +124,35 @@ fn state_told(alloc: Global, job: &Job, channel: u8) -> Result<String, Fail> {
     if !(1..=12).contains(&channel) {
         Err("no channel")?;
     }
+    let state = job.channels.state(channel);
+    let blocks = job.channels.blocks(channel);
+    let bytes = job.buffers.buffer(channel).len();
+    let numbers = (job.channels.recount().value(), column_of(job, channel));
+    numbers_told(alloc, state, numbers, blocks, bytes)
+}
+
+fn column_of(job: &Job, channel: u8) -> i16 {
+    match job.channels.column(Int::new(i16::from(channel))) {
+        Ok(column) => column.value(),
+        Err(_) => -1,
+    }
+}
+
+/// A channel's numbers; those of the job are RECOUNT and the column.
+fn numbers_told(
+    alloc: Global,
+    state: ChannelState,
+    of_job: (i16, i16),
+    blocks: u8,
+    bytes: usize,
+) -> Result<String, Fail> {
     let ChannelState {
         next,
         recount,
         unread,
         ..
-    } = job.channels.state(channel);
-    let column = match job.channels.column(Int::new(i16::from(channel))) {
-        Ok(column) => column.value(),
-        Err(_) => -1,
-    };
-    let (whole, blocks) = (job.channels.recount().value(), job.channels.blocks(channel));
-    let bytes = job.buffers.buffer(channel).len();
+    } = state;
+    let (whole, column) = of_job;
     Ok(format!(in alloc; "{next} {recount} {unread} {whole} {column} {blocks} {bytes}")?)
 }
 
@@ -141,8 +161,8 @@ fn byte_told(alloc: Global, job: &Job, channel: u8, place: u16) -> Result<String
         Err("no channel")?;
     }
     match job.buffers.buffer(channel).get(place as usize) {
-        Some(byte) => Ok(format!(in alloc; "{byte}")?),
-        None => Ok(String::from_str(alloc, "none")?),
+        Some(byte) => Ok(format!(in alloc; "{}", *byte)?),
+        None => words(alloc, "none"),
     }
 }
 
@@ -227,7 +247,7 @@ fn shut_told(alloc: Global, job: &mut Job, channel: u8) -> Result<String, Fail> 
     closed_told(alloc, shut)
 }
 
-/// Does what is done on records and lines, and tells how it ended.
+/// Closes, reads a line, or does what is done on blocks, and tells how it ended.
 fn record_told(alloc: Global, job: &mut Job, call: Call) -> Result<String, Fail> {
     let (channels, buffers, port) = (&mut job.channels, &mut job.buffers, &mut job.port);
     match call {
@@ -238,6 +258,20 @@ fn record_told(alloc: Global, job: &mut Job, call: Call) -> Result<String, Fail>
             )
         }
         Call::CloseAll => done_told(alloc, channels.close_all(alloc, buffers, port)),
+        Call::Read(channel) => {
+            line_told(
+                alloc,
+                channels.read_line(alloc, buffers, port, Int::new(channel)),
+            )
+        }
+        _ => block_told(alloc, job, call),
+    }
+}
+
+/// Does what is done on blocks, and tells how it ended.
+fn block_told(alloc: Global, job: &mut Job, call: Call) -> Result<String, Fail> {
+    let (channels, buffers, port) = (&mut job.channels, &mut job.buffers, &mut job.port);
+    match call {
         Call::Get(channel, block) => done_told(
             alloc,
             channels.get(alloc, buffers, port, Int::new(channel), Int::new(block)),
@@ -250,12 +284,6 @@ fn record_told(alloc: Global, job: &mut Job, call: Call) -> Result<String, Fail>
             done_told(
                 alloc,
                 channels.unlock(alloc, buffers, port, Int::new(channel)),
-            )
-        }
-        Call::Read(channel) => {
-            line_told(
-                alloc,
-                channels.read_line(alloc, buffers, port, Int::new(channel)),
             )
         }
         _ => Err("another call")?,
@@ -279,31 +307,46 @@ pub(crate) fn call_told(alloc: Global, job: &mut Job, call: Call) -> Result<Stri
     }
 }
 
-/// The first of many requests, the last, and how many.
-fn many_told(alloc: Global, first: &Request, last: &Request, count: usize) -> Result<String, Fail> {
-    let (first, last) = (request_told(alloc, first)?, request_told(alloc, last)?);
-    Ok(format!(in alloc; "{first} to {last}, {count}; ")?)
+fn push_request(
+    alloc: Global,
+    text: &mut String,
+    request: &Request,
+    behind: &str,
+) -> Result<(), Fail> {
+    text.push_str(request_told(alloc, request)?.as_str())?;
+    Ok(text.push_str(behind)?)
 }
 
-/// What was asked behind the first so many requests.
-pub(crate) fn asked_behind(
+/// The first of many requests, the last, and how many.
+fn push_many(alloc: Global, text: &mut String, asked: &[(Request, Reply)]) -> Result<(), Fail> {
+    if let [(first, _), .., (last, _)] = asked {
+        push_request(alloc, text, first, " to ")?;
+        push_request(alloc, text, last, ", ")?;
+        text.push_str(format!(in alloc; "{}; ", asked.len())?.as_str())?;
+    }
+    Ok(())
+}
+
+fn push_asked(alloc: Global, text: &mut String, asked: &[(Request, Reply)]) -> Result<(), Fail> {
+    if asked.len() > 8 {
+        return push_many(alloc, text, asked);
+    }
+    for (request, _) in asked {
+        push_request(alloc, text, request, "; ")?;
+    }
+    Ok(())
+}
+
+/// What was asked behind the first so many requests, and the end.
+pub(crate) fn asked_and_ended(
     alloc: Global,
     log: &[(Request, Reply)],
     before: usize,
+    end: &str,
 ) -> Result<String, Fail> {
-    let count = log.len().saturating_sub(before);
-    if count > 8 {
-        let ends = (log.get(before), log.last());
-        let (Some((first, _)), Some((last, _))) = ends else {
-            return Ok(String::new(alloc));
-        };
-        return many_told(alloc, first, last, count);
-    }
     let mut text = String::new(alloc);
-    for (request, _) in log.iter().skip(before) {
-        text.push_str(request_told(alloc, request)?.as_str())?;
-        text.push_str("; ")?;
-    }
+    push_asked(alloc, &mut text, log.get(before..).unwrap_or(&[]))?;
+    text.push_str(end)?;
     Ok(text)
 }
 
@@ -311,18 +354,14 @@ pub(crate) fn asked_behind(
 fn step_told(alloc: Global, job: &mut Job, call: Call) -> Result<String, Fail> {
     let before = job.port.log().len();
     let end = call_told(alloc, job, call)?;
-    let mut text = asked_behind(alloc, job.port.log(), before)?;
-    text.push_str(end.as_str())?;
-    Ok(text)
+    asked_and_ended(alloc, job.port.log(), before, end.as_str())
 }
 
 /// The replies of a whole story.
 fn replies_of(alloc: Global, steps: &[Step]) -> Result<Vec<Reply>, Fail> {
     let mut replies = Vec::new(alloc);
     for (_, told, _) in steps {
-        for told in *told {
-            push_told(alloc, &mut replies, *told)?;
-        }
+        push_all(alloc, &mut replies, told)?;
     }
     Ok(replies)
 }
@@ -330,13 +369,23 @@ fn replies_of(alloc: Global, steps: &[Step]) -> Result<Vec<Reply>, Fail> {
 /// Fails with what came of the first step of which another thing is wanted.
 fn expect_story(alloc: Global, steps: &[Step]) -> Result<(), Fail> {
     let mut job = job_with(alloc, replies_of(alloc, steps)?)?;
+    expect_steps(alloc, &mut job, steps)
+}
+
+fn expect_steps(alloc: Global, job: &mut Job, steps: &[Step]) -> Result<(), Fail> {
     for (call, _, wanted) in steps {
-        let told = step_told(alloc, &mut job, *call)?;
-        if told.as_str() != *wanted {
-            return Err(Fail::new(told));
-        }
+        expect_told(step_told(alloc, job, *call)?, wanted)?;
     }
     Ok(())
+}
+
+/// Fails with what is told where it is not what is wanted.
+pub(crate) fn expect_told(told: String, wanted: &str) -> Result<(), Fail> {
+    if told.as_str() == wanted {
+        Ok(())
+    } else {
+        Err(Fail::new(told))
+    }
 }
 
 /// Fails unless each story is as it is told.

@@ -80,12 +80,25 @@ fn reply_of(alloc: Global, told: Told) -> Result<Reply, Fail> {
 }
 
 /// Adds what is told to the replies.
-pub(crate) fn push_told(alloc: Global, replies: &mut Vec<Reply>, told: Told) -> Result<(), Fail> {
+fn push_told(alloc: Global, replies: &mut Vec<Reply>, told: Told) -> Result<(), Fail> {
     if let Told::Blocks(byte, count) = told {
         return push_blocks(alloc, replies, byte, count);
     }
     replies.push(reply_of(alloc, told)?)?;
     Ok(())
+}
+
+/// The same of each that is told.
+pub(crate) fn push_all(alloc: Global, replies: &mut Vec<Reply>, told: &[Told]) -> Result<(), Fail> {
+    for told in told {
+        push_told(alloc, replies, *told)?;
+    }
+    Ok(())
+}
+
+/// A text that is owned.
+pub(crate) fn words(alloc: Global, text: &str) -> Result<String, Fail> {
+    Ok(String::from_str(alloc, text)?)
 }
 
 fn kind_told(kind: OpenKind) -> &'static str {
@@ -102,15 +115,19 @@ fn page_told(alloc: Global, page: &Page) -> Result<String, Fail> {
     let bytes = page.as_bytes();
     let zeros = bytes.iter().rev().take_while(|byte| **byte == 0).count();
     let written = bytes.iter().filter(|byte| **byte != 0).count();
-    Ok(format!(in alloc; "{} {} {written}", bytes[0], bytes.len() - zeros)?)
+    Ok(format!(in alloc; " {} {} {written}", bytes[0], bytes.len() - zeros)?)
 }
 
-fn pages_told(alloc: Global, pages: &[Page]) -> Result<String, Fail> {
-    let mut text = String::new(alloc);
+fn push_pages(alloc: Global, text: &mut String, pages: &[Page]) -> Result<(), Fail> {
     for page in pages {
-        text.push_str(" ")?;
         text.push_str(page_told(alloc, page)?.as_str())?;
     }
+    Ok(())
+}
+
+fn put_told(alloc: Global, channel: u8, block: u16, pages: &[Page]) -> Result<String, Fail> {
+    let mut text = block_told(alloc, "put", channel, block)?;
+    push_pages(alloc, &mut text, pages)?;
     Ok(text)
 }
 
@@ -120,17 +137,36 @@ fn writing_told(alloc: Global, request: &Request) -> Result<String, Fail> {
             channel,
             block,
             page,
-        } => Ok(format!(in alloc; "put {channel} {block} {}", page_told(alloc, page)?)?),
+        } => put_told(alloc, *channel, *block, std::slice::from_ref(page)),
         Request::PutRecord {
             channel,
             block,
             pages,
-        } => Ok(format!(in alloc;
-            "put {channel} {block}{}",
-            pages_told(alloc, pages.as_slice())?
-        )?),
-        _ => Ok(String::from_str(alloc, "another")?),
+        } => put_told(alloc, *channel, *block, pages.as_slice()),
+        _ => words(alloc, "another"),
     }
+}
+
+fn open_told(
+    alloc: Global,
+    kind: &str,
+    channel: u8,
+    update: bool,
+    code: u8,
+) -> Result<String, Fail> {
+    Ok(format!(in alloc; "{kind} {channel} {update} {code}")?)
+}
+
+fn channel_told(alloc: Global, word: &str, channel: u8) -> Result<String, Fail> {
+    Ok(format!(in alloc; "{word} {channel}")?)
+}
+
+fn block_told(alloc: Global, word: &str, channel: u8, block: u16) -> Result<String, Fail> {
+    Ok(format!(in alloc; "{word} {channel} {block}")?)
+}
+
+fn record_told(alloc: Global, channel: u8, block: u16, count: u8) -> Result<String, Fail> {
+    Ok(format!(in alloc; "get {channel} {block} {count}")?)
 }
 
 /// A request as text.
@@ -143,17 +179,22 @@ pub(crate) fn request_told(alloc: Global, request: &Request) -> Result<String, F
             code,
             ..
         } => {
-            let (kind, code) = (kind_told(*kind), code.unwrap_or(99));
-            Ok(format!(in alloc; "{kind} {channel} {update} {code}")?)
+            open_told(
+                alloc,
+                kind_told(*kind),
+                *channel,
+                *update,
+                code.unwrap_or(99),
+            )
         }
-        Request::CloseFile { channel } => Ok(format!(in alloc; "close {channel}")?),
-        Request::Unlock { channel } => Ok(format!(in alloc; "unlock {channel}")?),
-        Request::Get { channel, block } => Ok(format!(in alloc; "get {channel} {block}")?),
+        Request::CloseFile { channel } => channel_told(alloc, "close", *channel),
+        Request::Unlock { channel } => channel_told(alloc, "unlock", *channel),
+        Request::Get { channel, block } => block_told(alloc, "get", *channel, *block),
         Request::GetRecord {
             channel,
             block,
             count,
-        } => Ok(format!(in alloc; "get {channel} {block} {count}")?),
+        } => record_told(alloc, *channel, *block, *count),
         _ => writing_told(alloc, request),
     }
 }

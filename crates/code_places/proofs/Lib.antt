@@ -1,0 +1,2 @@
+mod PlacementLemmas
+pub mod SumLemmas
