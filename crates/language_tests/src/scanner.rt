@@ -366,14 +366,22 @@ fn is_refused(line: &[u8], place: u16, cause: Cause) -> bool {
     }
 }
 
-/// The place of the first line that has other tokens.
-fn first_not_taken() -> Option<usize> {
-    for (place, (line, wanted)) in TAKEN.iter().enumerate() {
+/// The first line that has other tokens.
+fn first_not_taken() -> Option<&'static [u8]> {
+    for (line, wanted) in TAKEN {
         if !is_taken(line, wanted) {
-            return Some(place);
+            return Some(line);
         }
     }
     None
+}
+
+/// Fails with a line that has other tokens.
+fn expect_none_other(alloc: Global, line: Option<&[u8]>) -> Result<(), Fail> {
+    match line {
+        None => Ok(()),
+        Some(line) => Err(Fail::new(format!(in alloc; "{line:?} has other tokens")?)),
+    }
 }
 
 fn first_not_refused(rows: &[(&[u8], u16, Cause)]) -> Option<usize> {
@@ -387,7 +395,7 @@ fn first_not_refused(rows: &[(&[u8], u16, Cause)]) -> Option<usize> {
 
 #[test]
 fn lines_have_their_tokens_or_are_refused(rt: HostRuntime) -> Result<(), Fail> {
-    expect_none_of(rt.alloc(), "the lines", first_not_taken())?;
+    expect_none_other(rt.alloc(), first_not_taken())?;
     expect_none_of(rt.alloc(), "the refused lines", first_not_refused(&REFUSED))
 }
 

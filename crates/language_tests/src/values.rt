@@ -437,6 +437,9 @@ fn gives_back(alloc: Global, numbers: &[u16]) -> Result<bool, Fail> {
 
 /// Fails unless a line of keys has the bytes that it is made of.
 fn expect_keys(alloc: Global, bytes: &[u8]) -> Result<(), Fail> {
+    if bytes.len() > 255 {
+        return Err("the bytes are no key line".into());
+    }
     let line = KeyLine::of(alloc, bytes)?;
     expect_bytes(alloc, line.as_bytes(), bytes)
 }
