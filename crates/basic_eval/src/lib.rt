@@ -11,7 +11,7 @@
 //! which never goes over the stack.
 //! `Running::act_jointly` does items that stand behind one another as one act, and reads texts where they
 //! stand; `Running::run_in_place` changes a text where it stands. The crate is over `polish_code`, which has
-//! the items and their acts.
+//! the items and their acts, and over `input_items` for what INPUT and READ take.
 #![tactic(auto)]
 
 mod asking;

@@ -17,7 +17,6 @@ ghost use Rattle.basic_eval.specs.Acting.{Acts, given_or, seen, told};
 ghost use Rattle.basic_eval.specs.Keeping.{stored_under};
 
 use crate::exits::{Exit, Move};
-use crate::reading::without_blanks;
 use crate::stack::Stack;
 use crate::state::Running;
 use crate::values::wrapped;
@@ -27,6 +26,7 @@ use basic_strings::item_number;
 use basic_tree::{Name, Separator};
 use basic_values::errors::OUT_OF_DATA;
 use basic_values::{Fault, Int, NoMemory, Text, Trouble};
+use input_items::without_blanks;
 use job_storage::number_at;
 use polish_code::{MatrixAct, MatrixForm};
 use program_model::Value;

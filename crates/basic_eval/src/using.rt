@@ -4,7 +4,7 @@ ghost use Rattle.std.specs.Prelude.{◌≡◌, map, IfOk, OnOk, List, []};
 ghost use Rattle.print_using.specs.Values.{printed_value};
 ghost use Rattle.program_model.specs.declared.values.Value.{Value};
 ghost use Rattle.program_model.specs.PrintingOnChannels.{used_bytes, used_value};
-ghost use Rattle.basic_eval.specs.Acting.{Answers};
+ghost use Rattle.input_items.specs.Items.{Answers};
 
 use basic_values::{Fault, NoMemory, Text2, Trouble};
 use print_using::{Using, format_line, format_values};

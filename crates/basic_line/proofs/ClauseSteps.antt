@@ -1,9 +1,11 @@
 -- IF, its clauses and ELSE, as the machine reads them.
-use Rattle.std.proofs.Common.{◌≡◌, ℕ, suc, Bool, true, false, cond, ◌+◌, ◌-◌, ◌<◌, ◌≤◌, List, [], ◌∷◌, ◌++◌, length, take, drop, Option, Some, None, Ok, Err, MatchOption, refl, ap, sym, ◌∙◌, subst, arith}
+use Rattle.std.proofs.Common.{◌≡◌, ℕ, suc, Bool, true, false, cond, ◌+◌, ◌-◌, ◌<◌, ◌≤◌, List, [], ◌∷◌, ◌++◌, length, take, drop, Option, Some, None, Result, Ok, Err, MatchOption, refl, ap, sym, ◌∙◌, subst, arith}
 use Rattle.std.proofs.lemmas.List.{drop-drop, take-append-drop}
 use Rattle.basic_expr.specs.declared.failures.Failure.{Failure}
 use Rattle.basic_expr.specs.declared.failures.Failure.TheVariants as failure
 use Rattle.basic_expr.specs.ParsedSymbols.{First, WordStands}
+use Rattle.basic_tree.specs.declared.statements.Statement.{Statement}
+use Rattle.basic_tree.specs.StatementViews.{statement_of}
 use Rattle.basic_tree.specs.declared.tokens.Keyword.{Keyword}
 use Rattle.basic_tree.specs.declared.tokens.Keyword.TheVariants as keyword
 use Rattle.basic_tree.specs.declared.kinds.Want.TheVariants as want
@@ -26,7 +28,10 @@ use Rattle.grammar_machine.proofs.LineSteps as steps
 use Rattle.statement_parts.proofs.Steps.{key_stands_not}
 use Rattle.statement_parts.specs.ParsedForms.{Leads, Makes, Halts, SkipsKey, Behind}
 use Rattle.basic_stmt.specs.Plain.{MakesPlain, HaltsPlain, is_choice}
-use Rattle.basic_line.specs.Structure.{class_in, IsLineNumber, LeadsOut, Modifies, NoLineNumber, OpensKey, SentenceAt, StatesClause, StatesLine, StopsAt, StopsClause, StopsModifying, class_as, goto_form, is_line_number, line_in, then_form}
+use Rattle.statement_parts.specs.declared.read.Read.{Read}
+use Rattle.statement_modifiers.specs.ModifierForms.{Modifies, ModifiesAll, StopsModifying}
+use Rattle.basic_line.specs.declared.choices.Stated.{Stated as ReadStatement}
+use Rattle.basic_line.specs.Structure.{class_in, IsLineNumber, LeadsOut, NoLineNumber, OpensKey, SentenceAt, StatesClause, StatesIf, StatesLine, StatesSimple, StatesThen, StopsAt, StopsClause, class_as, goto_form, is_line_number, line_in, then_form}
 use Rattle.basic_line.specs.declared.sentences.Class.{Class}
 use Rattle.basic_line.specs.declared.sentences.Class.TheVariants as class
 
@@ -114,11 +119,11 @@ plain_form n ws from end c s at h plain = plain at.word at.rest at.sentence at.f
 plain_halts : (n : ℕ) (ws : List Word) (from : ℕ) (c : Class) (e : Failure) (at : SentenceAt ws from c) → is_choice (class_as c) ≡ false → HaltsPlain n ws from e → Halts n ws from at.sentence.form e
 plain_halts n ws from c e at h plain = plain at.word at.rest at.sentence at.first at.known (no_choice ws from c at h)
 
-pub simple_line : (n : ℕ) (ws : List Word) (from mid end : ℕ) (s t : StatementTree) → SentenceAt ws from class.Simple → MakesPlain n ws from mid s → Modifies n ws mid end s t → StatesLine n ws from end t
+simple_line : (n : ℕ) (ws : List Word) (from mid end : ℕ) (s t : StatementTree) → SentenceAt ws from class.Simple → MakesPlain n ws from mid s → Modifies n ws mid end s t → StatesLine n ws from end t
 simple_line n ws from mid end s t at plain more =
     λ k vs. line_begins n ws from class.Simple at k vs ∙ plain_form n ws from mid class.Simple s at refl plain (Modifiers ∷ Do AddStatement ∷ k) vs ∙ more (Do AddStatement ∷ k) vs
 
-pub simple_clause : (n : ℕ) (ws : List Word) (from mid end : ℕ) (s t : StatementTree) → SentenceAt ws from class.Simple → MakesPlain n ws from mid s → Modifies n ws mid end s t → StatesClause n ws from end t
+simple_clause : (n : ℕ) (ws : List Word) (from mid end : ℕ) (s t : StatementTree) → SentenceAt ws from class.Simple → MakesPlain n ws from mid s → Modifies n ws mid end s t → StatesClause n ws from end t
 simple_clause n ws from mid end s t at plain more =
     λ g k vs. clause_begins n ws from class.Simple at g k vs refl ∙ plain_form n ws from mid class.Simple s at refl plain (Modifiers ∷ Close ∷ AwaitClause g ∷ k) vs ∙ more (Close ∷ AwaitClause g ∷ k) vs
 
@@ -130,11 +135,11 @@ pub simple_clause_stops : (n : ℕ) (ws : List Word) (from : ℕ) (e : Failure) 
 simple_clause_stops n ws from e at plain =
     λ g halt same k vs. clause_begins n ws from class.Simple at g k vs refl ∙ plain_halts n ws from class.Simple e at refl plain halt same (Modifiers ∷ Close ∷ AwaitClause g ∷ k) vs
 
-pub modified_line_stops : (n : ℕ) (ws : List Word) (from mid : ℕ) (s : StatementTree) (e : Failure) → SentenceAt ws from class.Simple → MakesPlain n ws from mid s → StopsModifying n ws mid s e → StopsAt n ws from OneStatement e
+modified_line_stops : (n : ℕ) (ws : List Word) (from mid : ℕ) (s : StatementTree) (e : Failure) → SentenceAt ws from class.Simple → MakesPlain n ws from mid s → StopsModifying n ws mid s e → StopsAt n ws from OneStatement e
 modified_line_stops n ws from mid s e at plain more =
     λ halt same k vs. line_begins n ws from class.Simple at k vs ∙ plain_form n ws from mid class.Simple s at refl plain (Modifiers ∷ Do AddStatement ∷ k) vs ∙ more halt same (Do AddStatement ∷ k) vs
 
-pub modified_clause_stops : (n : ℕ) (ws : List Word) (from mid : ℕ) (s : StatementTree) (e : Failure) → SentenceAt ws from class.Simple → MakesPlain n ws from mid s → StopsModifying n ws mid s e → StopsClause n ws from e
+modified_clause_stops : (n : ℕ) (ws : List Word) (from mid : ℕ) (s : StatementTree) (e : Failure) → SentenceAt ws from class.Simple → MakesPlain n ws from mid s → StopsModifying n ws mid s e → StopsClause n ws from e
 modified_clause_stops n ws from mid s e at plain more =
     λ g halt same k vs. clause_begins n ws from class.Simple at g k vs refl ∙ plain_form n ws from mid class.Simple s at refl plain (Modifiers ∷ Close ∷ AwaitClause g ∷ k) vs ∙ more halt same (Close ∷ AwaitClause g ∷ k) vs
 
@@ -154,7 +159,7 @@ split_at ws from mid h =
     let same : from + (mid - from) ≡ mid = omega arith in
     ap (λ (x : List Word). take (mid - from) (drop from ws) ++ x) (sym (drop-drop (mid - from) from ws ∙ ap (λ (i : ℕ). drop i ws) same)) ∙ take-append-drop (mid - from) (drop from ws)
 
-pub simple_closed : (n : ℕ) (ws : List Word) (from mid : ℕ) (s : StatementTree) → SentenceAt ws from class.Simple → Behind ws from mid → MakesPlain n ws from mid s → wants_else s ≡ false
+simple_closed : (n : ℕ) (ws : List Word) (from mid : ℕ) (s : StatementTree) → SentenceAt ws from class.Simple → Behind ws from mid → MakesPlain n ws from mid s → wants_else s ≡ false
 simple_closed n ws from mid s at behind plain =
     let p : List Word = take (mid - from) (drop from ws) in
     let f = finished p (drop mid ws) n (Go at.sentence.form ∷ []) [] (Stated s ∷ [])
@@ -169,7 +174,15 @@ simple_closed n ws from mid s at behind plain =
       value : (v : Value) → v ∷ [] ≡ Stated s ∷ [] → v ≡ Stated s
       value v e = cc
 
-pub ruleset simple = (simple_line, simple_clause, simple_line_stops, simple_clause_stops, modified_line_stops, modified_clause_stops, simple_closed)
+-- a simple statement with the modifiers behind it
+pub simple_modified : (n : ℕ) (ws : List Word) (from mid : ℕ) (s : StatementTree) (r : Result (Read Statement) Failure) → SentenceAt ws from class.Simple → Behind ws from mid → MakesPlain n ws from mid s → ModifiesAll n ws mid s r → StatesSimple n ws from r
+simple_modified n ws from mid s (Ok x) at behind plain more = (
+  (omega (arith, behind.0, more.0.0), more.0.1),
+  simple_line n ws from mid x.end s (statement_of x.value) at plain more.1,
+  simple_clause n ws from mid x.end s (statement_of x.value) at plain more.1,
+  more.2 (simple_closed n ws from mid s at behind plain),
+)
+simple_modified n ws from mid s (Err e) at behind plain more = (more.0, modified_line_stops n ws from mid s e at plain more.1, modified_clause_stops n ws from mid s e at plain more.1)
 
 -- ---- IF
 
@@ -186,11 +199,11 @@ to_condition : (n : ℕ) (ws : List Word) (from a b : ℕ) (c : Tree) → Taken 
 unfolding behind_if
 to_condition n ws from a b c h i k vs = h n (ExprOf want.Number (λ x. behind_if x)) k vs ∙ i (λ x. behind_if x) k vs
 
-pub if_then_gives : (n : ℕ) (ws : List Word) (from a b end : ℕ) (c : Tree) (v : Value) → 0 < n → Taken ws from a keyword.If → Conditional n ws a b c → OpensKey ws b keyword.Then → LeadsOut n ws (b + 1) end (then_form c) v → Makes n ws from end if_form v
+if_then_gives : (n : ℕ) (ws : List Word) (from a b end : ℕ) (c : Tree) (v : Value) → 0 < n → Taken ws from a keyword.If → Conditional n ws a b c → OpensKey ws b keyword.Then → LeadsOut n ws (b + 1) end (then_form c) v → Makes n ws from end if_form v
 unfolding behind_if
 if_then_gives n ws from a b end c v some h i o t = λ k vs. to_condition n ws from a b c h i k vs ∙ o.1 n (then_form c) (goto_form c) some k vs ∙ t k vs
 
-pub if_goto_gives : (n : ℕ) (ws : List Word) (from a b end : ℕ) (c : Tree) (v : Value) → Taken ws from a keyword.If → Conditional n ws a b c → SkipsKey ws b keyword.Then → Makes n ws b end (goto_form c) v → Makes n ws from end if_form v
+if_goto_gives : (n : ℕ) (ws : List Word) (from a b end : ℕ) (c : Tree) (v : Value) → Taken ws from a keyword.If → Conditional n ws a b c → SkipsKey ws b keyword.Then → Makes n ws b end (goto_form c) v → Makes n ws from end if_form v
 unfolding behind_if
 if_goto_gives n ws from a b end c v h i o t = λ k vs. to_condition n ws from a b c h i k vs ∙ o n true (then_form c) (goto_form c) k vs ∙ t k vs
 
@@ -206,13 +219,22 @@ pub if_too_deep : (n : ℕ) (ws : List Word) (from a b : ℕ) (c : Tree) → n �
 unfolding behind_if
 if_too_deep n ws from a b c zero h i o = λ halt same k vs. to_condition n ws from a b c h i k vs ∙ ap (λ (x : ℕ). run x (drop b ws) (Go (behind_if c) ∷ k) vs) zero ∙ o.2 (then_form c) (goto_form c) halt same k vs
 
-pub if_then_stops : (n : ℕ) (ws : List Word) (from a b : ℕ) (c : Tree) (e : Failure) → 0 < n → Taken ws from a keyword.If → Conditional n ws a b c → OpensKey ws b keyword.Then → Halts (n - 1) ws (b + 1) (then_form c) e → Halts n ws from if_form e
+if_then_stops : (n : ℕ) (ws : List Word) (from a b : ℕ) (c : Tree) (e : Failure) → 0 < n → Taken ws from a keyword.If → Conditional n ws a b c → OpensKey ws b keyword.Then → Halts (n - 1) ws (b + 1) (then_form c) e → Halts n ws from if_form e
 unfolding behind_if
 if_then_stops n ws from a b c e some h i o t = λ halt same k vs. to_condition n ws from a b c h i k vs ∙ o.1 n (then_form c) (goto_form c) some k vs ∙ t halt same k vs
 
-pub if_goto_stops : (n : ℕ) (ws : List Word) (from a b : ℕ) (c : Tree) (e : Failure) → Taken ws from a keyword.If → Conditional n ws a b c → SkipsKey ws b keyword.Then → Halts n ws b (goto_form c) e → Halts n ws from if_form e
+if_goto_stops : (n : ℕ) (ws : List Word) (from a b : ℕ) (c : Tree) (e : Failure) → Taken ws from a keyword.If → Conditional n ws a b c → SkipsKey ws b keyword.Then → Halts n ws b (goto_form c) e → Halts n ws from if_form e
 unfolding behind_if
 if_goto_stops n ws from a b c e h i o t = λ halt same k vs. to_condition n ws from a b c h i k vs ∙ o n true (then_form c) (goto_form c) k vs ∙ t halt same k vs
+
+-- what stands behind the condition is what stands behind the IF
+pub if_then_states : (n : ℕ) (ws : List Word) (from a b : ℕ) (c : Tree) (r : Result ReadStatement Failure) → 0 < n → from ≤ b → Taken ws from a keyword.If → Conditional n ws a b c → OpensKey ws b keyword.Then → StatesThen n ws (b + 1) c r → StatesIf n ws from if_form r
+if_then_states n ws from a b c (Ok x) some le h i o t = ((omega (arith, t.0.0), t.0.1), if_then_gives n ws from a b x.end c (Stated (statement_of x.statement)) some h i o t.1, t.2)
+if_then_states n ws from a b c (Err e) some le h i o t = (t.0, if_then_stops n ws from a b c e some h i o t.1)
+
+pub if_goto_states : (n : ℕ) (ws : List Word) (from a b : ℕ) (c : Tree) (r : Result ReadStatement Failure) → from ≤ b → Taken ws from a keyword.If → Conditional n ws a b c → SkipsKey ws b keyword.Then → StatesIf n ws b (goto_form c) r → StatesIf n ws from if_form r
+if_goto_states n ws from a b c (Ok x) le h i o t = ((omega (arith, t.0.0), t.0.1), if_goto_gives n ws from a b x.end c (Stated (statement_of x.statement)) h i o t.1, t.2)
+if_goto_states n ws from a b c (Err e) le h i o t = (t.0, if_goto_stops n ws from a b c e h i o t.1)
 
 -- ---- behind THEN and GOTO
 
@@ -368,4 +390,4 @@ head_line n ws from end s at h k vs = line_begins n ws from class.Head at k vs �
 pub head_line_stops : (n : ℕ) (ws : List Word) (from : ℕ) (e : Failure) → SentenceAt ws from class.Head → HaltsPlain n ws from e → StopsAt n ws from OneStatement e
 head_line_stops n ws from e at h = λ halt same k vs. line_begins n ws from class.Head at k vs ∙ plain_halts n ws from class.Head e at refl h halt same (Do AddStatement ∷ k) vs
 
-pub ruleset choices = (if_then_gives, if_goto_gives, if_missing, if_condition_stops, if_too_deep, if_then_stops, if_goto_stops, then_gives, then_clause_stops, then_else_stops, goto_gives, goto_missing, goto_line_missing, goto_else_stops, open_then, open_goto, else_taken, else_skipped, else_gives, else_too_deep, else_stops, choice_clause, choice_clause_stops, stated_clause, head_clause_stops, open_clause, closed_clause)
+pub ruleset choices = (if_missing, if_condition_stops, if_too_deep, then_gives, then_clause_stops, then_else_stops, goto_gives, goto_missing, goto_line_missing, goto_else_stops, open_then, open_goto, else_taken, else_skipped, else_gives, else_too_deep, else_stops, choice_clause, choice_clause_stops, stated_clause, head_clause_stops, open_clause, closed_clause)

@@ -1,5 +1,5 @@
 -- The statements of a line, one behind another, and what the grammar says of them.
-use Rattle.std.proofs.Common.{◌≡◌, ℕ, ◌+◌, ◌<◌, ◌≤◌, List, [], ◌∷◌, ◌++◌, length, drop, map, Option, Some, None, option_map, Ok, Err, refl, ap, sym, ◌∙◌, subst, arith}
+use Rattle.std.proofs.Common.{rules, ◌≡◌, ℕ, ◌+◌, ◌<◌, ◌≤◌, List, [], ◌∷◌, ◌++◌, length, drop, map, Option, Some, None, option_map, Result, Ok, Err, refl, ap, sym, ◌∙◌, subst, arith}
 use Rattle.std.proofs.lemmas.List.{drop_all, map-append}
 use Rattle.basic_expr.specs.declared.failures.Failure.{Failure}
 use Rattle.basic_expr.specs.declared.failures.Failure.TheVariants as failure
@@ -26,9 +26,10 @@ use Rattle.grammar_machine.proofs.MachineSteps.{run_do}
 use Rattle.grammar_machine.proofs.LineSteps as steps
 use Rattle.grammar_machine.proofs.LinePlaces.{line_read, line_wrong, line_stops, line_deep}
 use Rattle.grammar_machine.proofs.LineReads.{made_line, reads_lines}
-use Rattle.statement_parts.specs.ParsedForms.{Makes, Halts, IsPlaced}
-use Rattle.basic_stmt.specs.Plain.{MakesPlain, HaltsPlain}
-use Rattle.basic_line.specs.Structure.{IsPlace, LineEnds, LineSoFar, LineStops, Nothing, SentenceAt, StatesLine, StopsAt, in_list}
+use Rattle.statement_parts.specs.ParsedForms.{Behind, Makes, Halts, IsPlaced}
+use Rattle.statement_parts.specs.declared.read.Read.{Read}
+use Rattle.basic_stmt.specs.Plain.{MakesPlain, HaltsPlain, StatesPlain}
+use Rattle.basic_line.specs.Structure.{IsPlace, LineEnds, LineSoFar, LineStops, Nothing, SentenceAt, StatesLine, StatesOne, StatesPlace, StatesSimple, StopsAt, in_list}
 use Rattle.basic_line.specs.declared.sentences.Class.{Class}
 use Rattle.basic_line.specs.declared.sentences.Class.TheVariants as class
 use Rattle.basic_line.proofs.ClauseSteps.{choice_line, choice_line_stops, head_line, head_line_stops}
@@ -41,19 +42,30 @@ choice_stated n ws from end c s e at h = choice_line n ws from end s (subst (λ 
 pub choice_refused : (n : ℕ) (ws : List Word) (from : ℕ) (c : Class) (f : Failure) → c ≡ class.Choice → SentenceAt ws from c → Halts n ws from if_form f → StopsAt n ws from OneStatement f
 choice_refused n ws from c f e at h = choice_line_stops n ws from f (subst (λ x. SentenceAt ws from x) e at) h
 
-pub head_stated : (n : ℕ) (ws : List Word) (from end : ℕ) (c : Class) (s : StatementTree) → c ≡ class.Head → SentenceAt ws from c → MakesPlain n ws from end s → StatesLine n ws from end s
+head_stated : (n : ℕ) (ws : List Word) (from end : ℕ) (c : Class) (s : StatementTree) → c ≡ class.Head → SentenceAt ws from c → MakesPlain n ws from end s → StatesLine n ws from end s
 head_stated n ws from end c s e at h = head_line n ws from end s (subst (λ x. SentenceAt ws from x) e at) h
 
-pub head_refused : (n : ℕ) (ws : List Word) (from : ℕ) (c : Class) (f : Failure) → c ≡ class.Head → SentenceAt ws from c → HaltsPlain n ws from f → StopsAt n ws from OneStatement f
+head_refused : (n : ℕ) (ws : List Word) (from : ℕ) (c : Class) (f : Failure) → c ≡ class.Head → SentenceAt ws from c → HaltsPlain n ws from f → StopsAt n ws from OneStatement f
 head_refused n ws from c f e at h = head_line_stops n ws from f (subst (λ x. SentenceAt ws from x) e at) h
 
-pub ruleset statements = (choice_stated, choice_refused, head_stated, head_refused)
+pub plain_stated : (ws : List Word) (from : ℕ) (c : Class) (r : Result (Read Statement) Failure) → c ≡ class.Head → SentenceAt ws from c → StatesPlain most_levels ws from r → StatesOne ws from r
+plain_stated ws from c (Ok x) e at h = (h.0, head_stated most_levels ws from x.end c (statement_of x.value) e at h.1)
+plain_stated ws from c (Err f) e at h = (h.0, head_refused most_levels ws from c f e at h.1)
 
-pub no_place : (ws : List Word) (from : ℕ) → Nothing ws from → IsPlace most_levels ws from from None
-no_place ws from h = λ k ss vs. h.0 most_levels k ss vs
+pub simple_stated : (ws : List Word) (from : ℕ) (r : Result (Read Statement) Failure) → StatesSimple most_levels ws from r → StatesOne ws from r
+simple_stated ws from (Ok x) h = (h.0, h.1)
+simple_stated ws from (Err f) h = (h.0, h.1)
 
-pub one_place : (n : ℕ) (ws : List Word) (from end : ℕ) (s : Statement) → StatesLine n ws from end (statement_of s) → IsPlace n ws from end (Some s)
-one_place n ws from end s h = λ k ss vs. h k (Parsed ss ∷ vs) ∙ run_do n AddStatement (drop end ws) k (Stated (statement_of s) ∷ Parsed ss ∷ vs)
+pub ruleset statements = (choice_stated, choice_refused)
+
+pub no_place : (ws : List Word) (from : ℕ) (items : List Statement) → from ≤ length ws → Nothing ws from → StatesPlace ws from items items (Ok from)
+no_place ws from items inside h = ((omega arith, inside), (None, λ k ss vs. h.0 most_levels k ss vs, search rules))
+
+pub one_place : (ws : List Word) (from end : ℕ) (s : Statement) (before after : List Statement) → Behind ws from end → StatesLine most_levels ws from end (statement_of s) → after ≡ before ++ s ∷ [] → StatesPlace ws from before after (Ok end)
+one_place ws from end s before after behind h e = (
+  (omega (arith, behind.0), behind.1),
+  (Some s, λ k ss vs. h k (Parsed ss ∷ vs) ∙ run_do most_levels AddStatement (drop end ws) k (Stated (statement_of s) ∷ Parsed ss ∷ vs), e),
+)
 
 pub ruleset places = (no_place, one_place)
 
@@ -68,8 +80,8 @@ statements_append [] b = refl
 statements_append (None ∷ a) b = statements_append a b
 statements_append (Some s ∷ a) b = ap (λ x. s ∷ x) (statements_append a b)
 
-pub line_begun : (ws : List Word) (end : ℕ) (o : Option Statement) (before items : List Statement) → IsPlace most_levels ws 0 end o → end ≤ length ws → before ≡ [] → items ≡ before ++ in_list o → LineSoFar ws end items
-line_begun ws end o before items h inside none e = record {
+begun : (ws : List Word) (end : ℕ) (o : Option Statement) (before items : List Statement) → IsPlace most_levels ws 0 end o → end ≤ length ws → before ≡ [] → items ≡ before ++ in_list o → LineSoFar ws end items
+begun ws end o before items h inside none e = record {
   first = option_map statement_of o;
   others = [];
   runs = h (MoreStatements ∷ []) [] [];
@@ -77,8 +89,11 @@ line_begun ws end o before items h inside none e = record {
   within = inside;
 }
 
-pub line_more : (ws : List Word) (place end : ℕ) (o : Option Statement) (items more : List Statement) → LineSoFar ws place items → WordStands ws (Punctuation sign.Colon) place → IsPlace most_levels ws (place + 1) end o → end ≤ length ws → more ≡ items ++ in_list o → LineSoFar ws end more
-line_more ws place end o items more h at next inside e = record {
+pub line_begun : (ws : List Word) (end : ℕ) (before items : List Statement) → before ≡ [] → StatesPlace ws 0 before items (Ok end) → LineSoFar ws end items
+line_begun ws end before items none h = begun ws end h.1.0 before items h.1.1 h.0.1 none h.1.2
+
+more_of : (ws : List Word) (place end : ℕ) (o : Option Statement) (items more : List Statement) → LineSoFar ws place items → WordStands ws (Punctuation sign.Colon) place → IsPlace most_levels ws (place + 1) end o → end ≤ length ws → more ≡ items ++ in_list o → LineSoFar ws end more
+more_of ws place end o items more h at next inside e = record {
   first = h.first;
   others = h.others ++ option_map statement_of o ∷ [];
   runs = h.runs
@@ -88,6 +103,9 @@ line_more ws place end o items more h at next inside e = record {
   stated = ap (λ x. map statement_of x) e ∙ map-append statement_of items (in_list o) ∙ ap (λ x. x ++ map statement_of (in_list o)) h.stated ∙ ap (λ x. statements_of (h.first ∷ h.others) ++ x) (stated_more o) ∙ sym (statements_append (h.first ∷ h.others) (option_map statement_of o ∷ []));
   within = inside;
 }
+
+pub line_more : (ws : List Word) (place end : ℕ) (items more : List Statement) → LineSoFar ws place items → WordStands ws (Punctuation sign.Colon) place → StatesPlace ws (place + 1) items more (Ok end) → LineSoFar ws end more
+line_more ws place end items more h at next = more_of ws place end next.1.0 items more h at next.1.1 next.0.1 next.1.2
 
 no_separator : (x : List Word) → First (is_sign sign.Colon) x → steps.NoSeparator x
 no_separator [] h = tt

@@ -1,4 +1,4 @@
--- What the functions of clauses, modifiers and lines give: symbols of the machine, whatever is expected behind them.
+-- What the functions of clauses and lines give: symbols of the machine, whatever is expected behind them.
 use Rattle.std.specs.Prelude.{◌≡◌, ℕ, ◌+◌, ◌-◌, ◌<◌, ◌≤◌, Bool, true, false, cond, List, [], ◌∷◌, ◌++◌, length, drop, Option, Some, None, option_map, map, Result, Ok, Err}
 use Rattle.std.specs.Global.{Vec}
 use Rattle.basic_expr.specs.declared.failures.Failure.{Failure}
@@ -8,16 +8,14 @@ use Rattle.basic_tree.specs.declared.statements.Statement.{Statement}
 use Rattle.basic_tree.specs.declared.statements.Clause.{Clause}
 use Rattle.basic_tree.specs.declared.tokens.Keyword.{Keyword}
 use Rattle.basic_tree.specs.declared.tokens.Keyword.TheVariants as keyword
-use Rattle.basic_tree.specs.declared.kinds.Want.TheVariants as want
-use Rattle.basic_tree.specs.SpellingWords.{Word, Key, Number, most_levels}
+use Rattle.basic_tree.specs.SpellingWords.{Word, Number, most_levels}
 use Rattle.basic_tree.specs.SpellingStatements.{wants_else, else_wants_else, clause_wants_else, statements_of}
-use Rattle.basic_tree.specs.Trees.{Tree, ClauseTree, LineClause, ElseTree, NoElse, Else, StatementTree, IfThen, IfGoto, If, Unless, While, Until, ForModifier}
-use Rattle.basic_tree.specs.TreeViews as views
+use Rattle.basic_tree.specs.Trees.{Tree, ClauseTree, LineClause, ElseTree, NoElse, Else, StatementTree, IfThen, IfGoto}
 use Rattle.basic_tree.specs.StatementViews.{statement_of, clause_of}
-use Rattle.grammar_machine.specs.MachineStack.{Value, Values, Stated, Parsed, Modifying, Symbol, Go, Form, Made, IfKey, TakeKey, ExprOf, LiteralIn, ClauseIn, AwaitClause, Modifiers, Close, Do, AddStatement, OneStatement, MoreStatements, LineNumber, within}
-use Rattle.grammar_machine.specs.MachineForms.{says, range_form, else_form}
+use Rattle.grammar_machine.specs.MachineStack.{Value, Values, Stated, Parsed, Symbol, Go, Form, IfKey, TakeKey, LiteralIn, ClauseIn, AwaitClause, Close, Do, AddStatement, OneStatement, MoreStatements, LineNumber, within}
+use Rattle.grammar_machine.specs.MachineForms.{says, else_form}
 use Rattle.grammar_machine.specs.MachineSentences as sentences
-use Rattle.grammar_machine.specs.MachineSentences.{Sentence, modifier_of, sentence_of}
+use Rattle.grammar_machine.specs.MachineSentences.{Sentence, sentence_of}
 use Rattle.grammar_machine.specs.MachineJudge.{line_symbols, line_values}
 use Rattle.grammar_machine.specs.MachineRun.{Halt, run}
 use Rattle.statement_parts.specs.ParsedForms.{halt_at, Behind, From, IsPlaced, Leads, Makes, Halts}
@@ -25,11 +23,8 @@ use Rattle.statement_parts.specs.declared.read.Read.{Read}
 use Rattle.basic_line.specs.declared.choices.Stated.{Stated as ReadStatement}
 use Rattle.basic_line.specs.declared.choices.ClauseRead.{ClauseRead}
 use Rattle.basic_line.specs.declared.choices.Otherwise.{Otherwise}
-use Rattle.basic_tree.specs.declared.parts.Modifier.{Modifier}
 use Rattle.basic_line.specs.declared.sentences.Class.{Class}
 use Rattle.basic_line.specs.declared.sentences.Class.TheVariants as class
-use Rattle.basic_line.specs.declared.modifiers.Modifying.{Modifying as Kind}
-use Rattle.basic_line.specs.declared.modifiers.Modifying.TheVariants as kind
 
 -- ---- which statement begins at a place
 
@@ -149,58 +144,6 @@ abbrev pub StatesClauseIn : ℕ → List Word → ℕ → Result ClauseRead Fail
 StatesClauseIn n ws from (Ok x) = Behind ws from x.end × ((g : ClauseTree → Form) → Leads (n - 1) n ws from x.end (ClauseIn g) (g (clause_of x.clause))) × (x.takes_else ≡ clause_wants_else (clause_of x.clause))
 StatesClauseIn n ws from (Err e) = IsPlaced ws e × StopsClause (n - 1) ws from e
 
--- ---- modifiers
-
-abbrev pub key_as : Kind → Keyword
-key_as kind.If = keyword.If
-key_as kind.Unless = keyword.Unless
-key_as kind.While = keyword.While
-key_as kind.Until = keyword.Until
-key_as kind.For = keyword.For
-
-abbrev pub kind_of : Keyword → Option Kind
-kind_of keyword.If = Some kind.If
-kind_of keyword.Unless = Some kind.Unless
-kind_of keyword.While = Some kind.While
-kind_of keyword.Until = Some kind.Until
-kind_of keyword.For = Some kind.For
-kind_of other = None
-
--- which modifier a word begins
-abbrev pub kind_in : Word → Option Kind
-kind_in (Key k) = kind_of k
-kind_in other = None
-
--- the first word, if any, begins no modifier
-abbrev pub NoModifier : List Word → Type 0
-NoModifier [] = Unit {0}
-NoModifier (t ∷ ts) = modifier_of t ≡ None
-
--- behind the word of a modifier
-abbrev pub modifier_form : Kind → Form
-modifier_form kind.If = ExprOf want.Number (λ t. Made (Modifying (If t)))
-modifier_form kind.Unless = ExprOf want.Number (λ t. Made (Modifying (Unless t)))
-modifier_form kind.While = ExprOf want.Number (λ t. Made (Modifying (While t)))
-modifier_form kind.Until = ExprOf want.Number (λ t. Made (Modifying (Until t)))
-modifier_form kind.For = range_form (λ v start limit step. Made (Modifying (ForModifier v start limit step)))
-
--- the words up to the end are modifiers of the statement
-abbrev pub Modifies : ℕ → List Word → ℕ → ℕ → StatementTree → StatementTree → Type 0
-Modifies n ws from end s t = (k : List Symbol) (vs : Values) → run n (drop from ws) (Modifiers ∷ k) (Stated s ∷ vs) ≡ run n (drop end ws) k (Stated t ∷ vs)
-
-abbrev pub StopsModifying : ℕ → List Word → ℕ → StatementTree → Failure → Type 0
-StopsModifying n ws from s e = (halt : Halt) → halt_at ws e ≡ Some halt → (k : List Symbol) (vs : Values) → run n (drop from ws) (Modifiers ∷ k) (Stated s ∷ vs) ≡ Err halt
-
--- what stands behind the word of a modifier
-abbrev pub MakesModifier : ℕ → List Word → ℕ → Kind → Result (Read Modifier) Failure → Type 0
-MakesModifier n ws from m (Ok x) = Behind ws from x.end × Makes n ws from x.end (modifier_form m) (Modifying (views.modifier_of x.value))
-MakesModifier n ws from m (Err e) = IsPlaced ws e × Halts n ws from (modifier_form m) e
-
--- a statement with all the modifiers behind it, to which no ELSE belongs
-abbrev pub ModifiesAll : ℕ → List Word → ℕ → StatementTree → Result (Read Statement) Failure → Type 0
-ModifiesAll n ws from s (Ok x) = From ws from x.end × Modifies n ws from x.end s (statement_of x.value) × (wants_else s ≡ false → wants_else (statement_of x.value) ≡ false)
-ModifiesAll n ws from s (Err e) = IsPlaced ws e × StopsModifying n ws from s e
-
 -- ---- lines
 
 -- the words up to the end are a place of the line, with a statement or without
@@ -238,10 +181,10 @@ abbrev pub StatesOne : List Word → ℕ → Result (Read Statement) Failure →
 StatesOne ws from (Ok x) = Behind ws from x.end × StatesLine most_levels ws from x.end (statement_of x.value)
 StatesOne ws from (Err e) = IsPlaced ws e × StopsAt most_levels ws from OneStatement e
 
--- a place of the line, with a statement or without
-abbrev pub StatesPlace : List Word → ℕ → Result (Read (Option Statement)) Failure → Type 0
-StatesPlace ws from (Ok x) = From ws from x.end × IsPlace most_levels ws from x.end x.value
-StatesPlace ws from (Err e) = IsPlaced ws e × StopsAt most_levels ws from OneStatement e
+-- a place of the line, whose statement, if it has one, stands behind those that were there before
+abbrev pub StatesPlace : List Word → ℕ → List Statement → List Statement → Result ℕ Failure → Type 0
+StatesPlace ws from before after (Ok end) = From ws from end × ((s : Option Statement) × IsPlace most_levels ws from end s × (after ≡ before ++ in_list s))
+StatesPlace ws from before after (Err e) = IsPlaced ws e × StopsAt most_levels ws from OneStatement e
 
 -- all places of the line
 abbrev pub StatesAll : List Word → Result (Read (Vec Statement)) Failure → Type 0

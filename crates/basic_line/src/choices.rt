@@ -11,11 +11,11 @@ ghost use Rattle.statement_parts.specs.ParsedForms.{SkipsKey};
 ghost use Rattle.basic_line.specs.Structure.{IsLineNumber, NoLineNumber, OpensKey, SentenceAt, StatesClauseIn, StatesElse, StatesIf, StatesSimple, StatesThen, else_tree, goto_form, line_in};
 ghost use Rattle.basic_line.specs.declared.sentences.Class.TheVariants.{Simple};
 
-use crate::modifiers::modifiers;
 use crate::sentences::{Class, class_at};
 use basic_expr::{Failure, Word, Words, next_is_key};
 use basic_stmt::plain_at;
 use basic_tree::{Clause, Expr, Keyword, Statement, Want};
+use statement_modifiers::modifiers;
 use statement_parts::{Read, expression, take_key};
 use std::alloc::Global;
 
@@ -88,7 +88,11 @@ fn statement_clause(alloc: Global, statement: Statement) -> Result<Clause, Failu
     ensures clause { IfOk result (λ c. clause_of c ≡ StatementClause (statement_of statement)) }
     ensures lost { IfErr result (λ e. e ≡ NoMemory) }
 {
-    Ok(Clause::Statement(Box::new(alloc, statement)?))
+    // Not by `?`, whose calls are a third of what this function's proof takes.
+    match Box::new(alloc, statement) {
+        Ok(statement) => Ok(Clause::Statement(statement)),
+        Err(_) => Err(Failure::NoMemory),
+    }
 }
 
 fn if_then(condition: Expr, clause: Clause, otherwise: Option<Clause>) -> Statement
@@ -115,7 +119,6 @@ fn if_goto(condition: Expr, line: u16, otherwise: Option<Clause>) -> Statement
 // What stands without a clause of its own
 
 /// A statement with its modifiers, which may be a clause, and the place behind it.
-#[tactic(auto, using(crate::proofs::ClauseSteps::simple))]
 pub(crate) fn simple_at(
     alloc: Global,
     words: &Words<'_>,
@@ -130,14 +133,7 @@ pub(crate) fn simple_at(
         value: statement,
         end,
     } = plain_at(alloc, words, from, levels)?;
-    let Read {
-        value: statement,
-        end,
-    } = modifiers(alloc, words, end, statement, levels)?;
-    Ok(Read {
-        value: statement,
-        end,
-    })
+    modifiers(alloc, words, end, statement, levels)
 }
 
 // IF
@@ -163,11 +159,9 @@ pub(crate) fn if_at(
         if levels == 0 {
             return Err(Failure::TooDeep { place: end });
         }
-        let found = then_at(alloc, words, end + 1, condition, levels)?;
-        Ok(found)
+        then_at(alloc, words, end + 1, condition, levels)
     } else {
-        let found = goto_at(alloc, words, end, condition, levels)?;
-        Ok(found)
+        goto_at(alloc, words, end, condition, levels)
     }
 }
 

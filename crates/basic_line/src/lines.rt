@@ -1,9 +1,8 @@
 //! Lines: their statements, one behind another.
 
-ghost use Rattle.std.specs.Prelude.{◌≡◌, ◌≤◌, ◌++◌, length, IfErr, OnOk};
-ghost use Rattle.basic_expr.specs.declared.failures.Failure.TheVariants.{NoMemory};
+ghost use Rattle.std.specs.Prelude.{◌≤◌, length};
 ghost use Rattle.basic_line.specs.Parsing.{MustRead, MustRefuse, Parses, Reads};
-ghost use Rattle.basic_line.specs.Structure.{SentenceAt, StatesAll, StatesOne, StatesPlace, in_list};
+ghost use Rattle.basic_line.specs.Structure.{SentenceAt, StatesAll, StatesOne, StatesPlace};
 
 use crate::choices::{if_at, simple_at};
 use crate::sentences::{Class, class_at};
@@ -35,67 +34,34 @@ fn statement_at(
                 end: found.end,
             })
         }
-        Class::Head => {
-            let Read {
-                value: statement,
-                end,
-            } = plain_at(alloc, words, from, MOST_LEVELS)?;
-            Ok(Read {
-                value: statement,
-                end,
-            })
-        }
-        Class::Simple => {
-            let Read {
-                value: statement,
-                end,
-            } = simple_at(alloc, words, from, MOST_LEVELS)?;
-            Ok(Read {
-                value: statement,
-                end,
-            })
-        }
+        Class::Head => plain_at(alloc, words, from, MOST_LEVELS),
+        Class::Simple => simple_at(alloc, words, from, MOST_LEVELS),
     }
 }
 
-/// What stands at a place of the line between separators, a statement or nothing, and the place
-/// behind it.
+/// Adds what stands at a place of the line between separators, a statement or nothing, and gives the
+/// place behind it.
 #[tactic(auto, using(crate::proofs::ParsedLines::places))]
-fn one_statement(
+fn add_statement(
     alloc: Global,
     words: &Words<'_>,
     from: usize,
-) -> Result<Read<Option<Statement>>, Failure>
+    statements: &mut Vec<Statement>,
+) -> Result<usize, Failure>
     requires { from ≤ length words.now }
-    ensures { StatesPlace words.now from result }
+    ensures { StatesPlace words.now from statements.old.items statements.new.items result }
 {
     match class_at(words, from) {
-        None => Ok(Read {
-            value: None,
-            end: from,
-        }),
+        None => Ok(from),
         Some(class) => {
             let Read {
                 value: statement,
                 end,
             } = statement_at(alloc, words, from, class)?;
-            Ok(Read {
-                value: Some(statement),
-                end,
-            })
+            statements.push(statement)?;
+            Ok(end)
         }
     }
-}
-
-/// Adds a statement, where there is one.
-fn add(statements: &mut Vec<Statement>, statement: Option<Statement>) -> Result<(), Failure>
-    ensures added { OnOk result (statements.new.items ≡ statements.old.items ++ in_list statement) }
-    ensures lost { IfErr result (λ e. e ≡ NoMemory) }
-{
-    if let Some(statement) = statement {
-        statements.push(statement)?;
-    }
-    Ok(())
 }
 
 /// The statements between the separators, and the place behind them.
@@ -104,15 +70,9 @@ fn all_statements(alloc: Global, words: &Words<'_>) -> Result<Read<Vec<Statement
     ensures { StatesAll words.now result }
 {
     let mut statements = Vec::new(alloc);
-    let Read {
-        value: first,
-        end: mut place,
-    } = one_statement(alloc, words, 0)?;
-    add(&mut statements, first)?;
+    let mut place = add_statement(alloc, words, 0, &mut statements)?;
     'others: while next_is_sign(words, place, Sign::Colon) {
-        let Read { value: next, end } = one_statement(alloc, words, place + 1)?;
-        add(&mut statements, next)?;
-        place = end;
+        place = add_statement(alloc, words, place + 1, &mut statements)?;
     }
     Ok(Read {
         value: statements,

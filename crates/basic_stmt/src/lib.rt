@@ -4,8 +4,8 @@
 //! It stands on `statement_rows`, which reads those that are rows, and on `statement_parts`, of
 //! whose parts the others are made here: PRINT, DEF, CHAIN, assignments and results of functions.
 //! `plain_at` carries the promise: what it reads is the statement that the words spell, and where
-//! it stops no line goes on. The line above it, in `basic_line`, reads IF, modifiers and the
-//! statements of a line.
+//! it stops no line goes on. Modifiers are read in `statement_modifiers`, IF and the statements of a
+//! line in `basic_line`.
 #![tactic(auto)]
 
 mod chaining;

@@ -155,6 +155,29 @@ fn expect_held<R: Clock>(pacer: &Together<'_, R>, end: &RunEnd, jobs: u32) -> Re
     Ok(())
 }
 
+/// A monitor for so many jobs, over a volume with one account.
+fn opened(alloc: Global, jobs: u32) -> Result<Monitor, Fail>
+    requires { jobs ≤ 63 }
+{
+    let volume = volume(alloc)?;
+    if !volume.is_good() {
+        return Err(Fail::new("the volume is not good"));
+    }
+    Ok(Monitor::open(alloc, &volume, jobs)?)
+}
+
+/// All jobs of a monitor are run.
+fn ran<R: Threads + Wait + Clock + Sync>(
+    rt: &R,
+    alloc: Global,
+    monitor: Monitor,
+    body: &InAndOut,
+    pacer: &Together<'_, R>,
+) -> Result<RunEnd, Fail> {
+    let jobs = monitor.job_count();
+    Ok(run_jobs(rt, alloc, monitor, body, jobs, pacer)?)
+}
+
 /// Runs so many jobs, of which none makes its second call before each has made its first.
 fn run_together<R: Threads + Wait + Clock + Sync>(
     rt: &R,
@@ -163,17 +186,13 @@ fn run_together<R: Threads + Wait + Clock + Sync>(
 ) -> Result<(), Fail>
     requires { jobs ≤ 63 }
 {
-    let volume = volume(alloc)?;
-    if !volume.is_good() {
-        return Err(Fail::new("the volume is not good"));
-    }
-    let monitor = Monitor::open(alloc, &volume, jobs)?;
     let body = InAndOut {
         account: DEMO,
         password: password()?,
     };
     let pacer = Together::new(rt, alloc, jobs)?;
-    let end = run_jobs(rt, alloc, monitor, &body, jobs, &pacer)?;
+    let monitor = opened(alloc, jobs)?;
+    let end = ran(rt, alloc, monitor, &body, &pacer)?;
     expect_held(&pacer, &end, jobs)
 }
 

@@ -11,7 +11,6 @@ ghost use Rattle.program_soundness.specs.Listings.{text_of};
 ghost use Rattle.program_soundness.specs.Parts.{call_seen, calls_seen};
 ghost use Rattle.program_model.specs.InMemory.{program_of};
 
-use crate::bodies::same_body;
 use crate::calls::{Called, calls_made};
 use crate::dims::{add_arrays, any_again};
 use crate::kinds::fits;
@@ -21,6 +20,7 @@ use crate::tables::Tables;
 use crate::texts::{further, lines_in};
 use basic_tree::{Name, Program, Statement};
 use basic_values::NoMemory;
+use loop_pairs::same_body;
 use program_model::{LowerCause, LowerRefusal};
 use std::alloc::Global;
 

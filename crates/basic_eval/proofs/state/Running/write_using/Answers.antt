@@ -7,7 +7,8 @@ use Rattle.program_model.specs.declared.values.Value.{Value}
 use Rattle.program_model.specs.Job.{Job, number, or_fault, text}
 use Rattle.program_model.specs.PrintingOnChannels.{used_bytes, writes_on}
 use Rattle.polish_code.specs.Walk.{Spot, Walked, Move, passed, taken, top}
-use Rattle.basic_eval.specs.Acting.{Answers, seen}
+use Rattle.input_items.specs.Items.{Answers}
+use Rattle.basic_eval.specs.Acting.{seen}
 use Rattle.basic_eval.proofs.state.Running.write_using.Goals as goal
 
 -- what was formed is written, and the stack is left

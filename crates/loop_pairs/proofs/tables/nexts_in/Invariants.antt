@@ -1,0 +1,7 @@
+use Rattle.std.proofs.Common.{◌≡◌, ℕ, map, drop, get_or, None}
+use Rattle.std.specs.Prelude.{◌==◌, find, option_map}
+use Rattle.loop_pairs.specs.Pairs.{pair_seen}
+use Rattle.loop_pairs.proofs.tables.nexts_in.Given as goal
+
+abbrev pub invariant-loop-place : goal.invariant-loop-place
+invariant-loop-place l = (m : ℕ) → get_or l.nexts.items m None ≡ option_map (λ pair. pair.closing) (find (λ pair. pair.opening == m) (map pair_seen (drop l.place l.pairs)))
