@@ -1,6 +1,11 @@
 //! Expressions as trees. Each variant is a form of the grammar, its fields in the text's order.
 
+ghost use Rattle.std.specs.Prelude.{◌≡◌, false, MatchOption};
+ghost use Rattle.basic_tree.specs.SpellingParts.{is_target};
+ghost use Rattle.basic_tree.specs.TreeViews.{tree_of, target_of};
+
 use crate::names::Name;
+use crate::parts::Target;
 use basic_values::Text;
 
 /// The operators between two expressions, but for the relations.
@@ -61,7 +66,6 @@ pub enum Function {
 }
 
 /// An expression.
-#[derive(Drop)]
 pub enum Expr {
     /// A number from 0 to 32767.
     Literal(u16),
@@ -98,4 +102,65 @@ pub enum Expr {
         relation: Relation,
         right: Box<Expr>,
     },
+}
+
+impl Expr {
+    /// The expression as a target, where it is a variable or an element of an array.
+    pub fn into_target(self) -> Option<Target>
+        ensures same_tree { MatchOption result (is_target (tree_of self) ≡ false)
+            (λ t. target_of t ≡ tree_of self) }
+    {
+        match self {
+            Self::Variable(name) => Some(Target::Variable(name)),
+            Self::Element {
+                name,
+                first,
+                second,
+            } => Some(Target::Element {
+                name,
+                first: Box::into_inner(first),
+                second: second.map(Box::into_inner),
+            }),
+            _ => None,
+        }
+    }
+}
+
+// By hand, so that it is proved here and not again in each crate in which one is dropped.
+impl Drop for Expr {
+    #[cycle(expression_dropped)]
+    fn drop(self) {
+        match self {
+            Self::Literal(_)
+            | Self::Quoted(_)
+            | Self::Variable(_)
+            | Self::Element {
+                name: _,
+                first: _,
+                second: _,
+            }
+            | Self::Function {
+                function: _,
+                arguments: _,
+            }
+            | Self::Call {
+                name: _,
+                arguments: _,
+            }
+            | Self::Parenthesized(_)
+            | Self::Negative(_)
+            | Self::Positive(_)
+            | Self::Not(_)
+            | Self::Operation {
+                left: _,
+                operator: _,
+                right: _,
+            }
+            | Self::Relation {
+                left: _,
+                relation: _,
+                right: _,
+            } => (),
+        }
+    }
 }

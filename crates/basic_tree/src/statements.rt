@@ -11,15 +11,23 @@ use basic_values::{Series, Text};
 
 /// What an IF runs: the line of this number, or a statement.
 #[cycle(statements)]
-#[derive(Drop)]
 pub enum Clause {
     Line(u16),
     Statement(Box<Statement>),
 }
 
+// By hand, as that of an expression is.
+impl Drop for Clause {
+    #[cycle(statements_dropped)]
+    fn drop(self) {
+        match self {
+            Self::Line(_) | Self::Statement(_) => (),
+        }
+    }
+}
+
 /// A statement.
 #[cycle(statements)]
-#[derive(Drop)]
 pub enum Statement {
     /// IF .. THEN, and perhaps ELSE.
     IfThen {
@@ -171,4 +179,138 @@ pub enum Statement {
         target: Name,
         value: MatrixValue,
     },
+}
+
+impl Drop for Statement {
+    #[cycle(statements_dropped)]
+    fn drop(self) {
+        match self {
+            Self::IfThen {
+                condition: _,
+                clause: _,
+                otherwise: _,
+            }
+            | Self::IfGoto {
+                condition: _,
+                line: _,
+                otherwise: _,
+            }
+            | Self::Modified {
+                statement: _,
+                modifier: _,
+            }
+            | Self::For {
+                variable: _,
+                from: _,
+                to: _,
+                step: _,
+            }
+            | Self::Next(_)
+            | Self::FnEnd
+            | Self::Data(_)
+            | Self::Dim(_)
+            | Self::DimFile {
+                channel: _,
+                shapes: _,
+            }
+            | Self::Def {
+                function: _,
+                parameters: _,
+                value: _,
+            }
+            | Self::Let {
+                word: _,
+                targets: _,
+                value: _,
+            }
+            | Self::Result {
+                function: _,
+                value: _,
+            }
+            | Self::Print {
+                channel: _,
+                items: _,
+                last: _,
+            }
+            | Self::PrintUsing {
+                channel: _,
+                format: _,
+                values: _,
+                last: _,
+            }
+            | Self::Input {
+                channel: _,
+                prompt: _,
+                targets: _,
+            }
+            | Self::InputLine {
+                channel: _,
+                variable: _,
+            }
+            | Self::Read(_)
+            | Self::Restore
+            | Self::Goto { apart: _, line: _ }
+            | Self::Gosub { apart: _, line: _ }
+            | Self::Return
+            | Self::OnGoto {
+                selector: _,
+                lines: _,
+            }
+            | Self::OnGosub {
+                selector: _,
+                lines: _,
+            }
+            | Self::OnErrorGoto(_)
+            | Self::Resume(_)
+            | Self::Stop
+            | Self::End
+            | Self::Chain {
+                program: _,
+                line: _,
+            }
+            | Self::Sleep(_)
+            | Self::Open {
+                file: _,
+                purpose: _,
+                hash: _,
+                channel: _,
+                record_size: _,
+                cluster_size: _,
+                mode: _,
+            }
+            | Self::Close(_)
+            | Self::Get {
+                channel: _,
+                record: _,
+            }
+            | Self::Put {
+                channel: _,
+                record: _,
+            }
+            | Self::Unlock(_)
+            | Self::Field {
+                channel: _,
+                parts: _,
+            }
+            | Self::Lset {
+                variable: _,
+                value: _,
+            }
+            | Self::Rset {
+                variable: _,
+                value: _,
+            }
+            | Self::Kill(_)
+            | Self::Rename { old: _, new: _ }
+            | Self::MatRead(_)
+            | Self::MatPrint {
+                matrix: _,
+                separator: _,
+            }
+            | Self::MatLet {
+                target: _,
+                value: _,
+            } => (),
+        }
+    }
 }
