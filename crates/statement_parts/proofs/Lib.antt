@@ -1,5 +1,4 @@
-pub mod AssignmentSteps
-pub mod ListSteps
+pub mod ItemSteps
 pub mod Parts
 pub mod RangeSteps
 pub mod Steps

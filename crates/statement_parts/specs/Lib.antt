@@ -1,4 +1,3 @@
 pub mod Forms
-pub mod Items
 pub mod ParsedForms
 pub mod Sentences

@@ -31,7 +31,7 @@ fn next_item(alloc: Global, words: &Words<'_>, from: usize) -> Result<Option<Tex
 }
 
 /// One or more items, and the place behind them.
-#[tactic(auto, using(crate::proofs::ListSteps::itemizing))]
+#[tactic(auto, using(crate::proofs::ItemSteps::itemizing))]
 pub fn all_items(
     alloc: Global,
     words: &Words<'_>,

@@ -10,7 +10,8 @@ use Rattle.basic_tree.specs.SpellingWords.{Word}
 use Rattle.grammar_machine.specs.MachineStack.{Form, TakeKey, TakeSign, IfKey, IfSign, ExprOf, NameIn, LiteralIn, LiteralIf, QuotedIf, LineNumber, Bound, Targets, Channels, FieldParts, Lines, Arrays, Shapes, FileShapes}
 use Rattle.grammar_machine.specs.MachineForms.{number_option, range_form, matrix_form, list_form, options_form, targets_in, channels_in, parts_in, lines_in, names_in, shapes_in, files_in}
 use Rattle.statement_parts.specs.declared.read.Read.{Read}
-use Rattle.statement_parts.specs.Forms.{assigned_form, items_form}
+use Rattle.statement_lists.specs.ListForms.{assigned_form}
+use Rattle.statement_parts.specs.Forms.{items_form}
 use Rattle.statement_parts.specs.ParsedForms.{From, Halts, IsPlaced, Leads, PartsFrom}
 use Rattle.statement_rows.specs.declared.piece.Piece.{Piece}
 use Rattle.statement_rows.specs.declared.piece.Piece.TheVariants as piece

@@ -7,11 +7,12 @@ ghost use Rattle.statement_rows.specs.Pieces.{PieceRead};
 use crate::part::Part;
 use basic_expr::{Failure, Words};
 use basic_tree::{CloseChannel, FieldPart, FileShape, Name, Shape, Target, Want};
-use statement_parts::{Read, elements};
+use statement_lists::elements;
+use statement_parts::Read;
 use std::alloc::Global;
 
 /// One or more targets, and the place behind them.
-#[tactic(auto, using(statement_parts::proofs::ListSteps::listed))]
+#[tactic(auto, using(statement_lists::proofs::ListSteps::listed))]
 pub fn targets(
     alloc: Global,
     words: &Words<'_>,
@@ -29,7 +30,7 @@ pub fn targets(
 }
 
 /// One or more channels, and the place behind them.
-#[tactic(auto, using(statement_parts::proofs::ListSteps::listed))]
+#[tactic(auto, using(statement_lists::proofs::ListSteps::listed))]
 pub fn channels(
     alloc: Global,
     words: &Words<'_>,
@@ -53,7 +54,7 @@ pub fn channels(
 }
 
 /// One or more parts of a record, and the place behind them.
-#[tactic(auto, using(statement_parts::proofs::ListSteps::listed))]
+#[tactic(auto, using(statement_lists::proofs::ListSteps::listed))]
 pub fn fields(
     alloc: Global,
     words: &Words<'_>,
@@ -77,7 +78,7 @@ pub fn fields(
 }
 
 /// One or more numbers of lines, and the place behind them.
-#[tactic(auto, using(statement_parts::proofs::ListSteps::listed))]
+#[tactic(auto, using(statement_lists::proofs::ListSteps::listed))]
 pub fn lines(
     alloc: Global,
     words: &Words<'_>,
@@ -95,7 +96,7 @@ pub fn lines(
 }
 
 /// One or more names of numeric arrays, and the place behind them.
-#[tactic(auto, using(statement_parts::proofs::ListSteps::listed))]
+#[tactic(auto, using(statement_lists::proofs::ListSteps::listed))]
 pub fn arrays(
     alloc: Global,
     words: &Words<'_>,
@@ -113,7 +114,7 @@ pub fn arrays(
 }
 
 /// One or more arrays with their bounds, and the place behind them.
-#[tactic(auto, using(statement_parts::proofs::ListSteps::listed))]
+#[tactic(auto, using(statement_lists::proofs::ListSteps::listed))]
 pub fn shapes(
     alloc: Global,
     words: &Words<'_>,
@@ -131,7 +132,7 @@ pub fn shapes(
 }
 
 /// One or more arrays of a file, and the place behind them.
-#[tactic(auto, using(statement_parts::proofs::ListSteps::listed))]
+#[tactic(auto, using(statement_lists::proofs::ListSteps::listed))]
 pub fn file_shapes(
     alloc: Global,
     words: &Words<'_>,

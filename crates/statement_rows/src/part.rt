@@ -5,8 +5,9 @@ use basic_tree::{
     Series, Shape, Target,
 };
 use basic_values::Text;
+use statement_lists::Assigned;
 use statement_operands::OpenOptions;
-use statement_parts::{Assigned, LoopRange};
+use statement_parts::LoopRange;
 
 /// Where INPUT reads, and what it writes first.
 #[derive(Drop)]

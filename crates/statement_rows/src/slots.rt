@@ -11,8 +11,9 @@ use basic_tree::{
     Series, Shape, Target,
 };
 use basic_values::{NoMemory, Text};
+use statement_lists::Assigned;
 use statement_operands::OpenOptions;
-use statement_parts::{Assigned, LoopRange};
+use statement_parts::LoopRange;
 use std::alloc::Global;
 use std::mem;
 

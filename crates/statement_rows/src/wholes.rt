@@ -6,7 +6,8 @@ ghost use Rattle.statement_rows.specs.Pieces.{PieceRead};
 
 use crate::part::Part;
 use basic_expr::{Failure, Words};
-use statement_parts::{Read, all_items, assignment, range};
+use statement_lists::assignment;
+use statement_parts::{Read, all_items, range};
 use std::alloc::Global;
 
 /// The variable of a loop and the values that it takes, and the place behind them.

@@ -1,6 +1,6 @@
 use Rattle.std.proofs.Common.{rules, ◌∙◌, Some, arith}
 use Rattle.grammar_machine.specs.MachineForms.{names_in}
-use Rattle.statement_parts.proofs.ListSteps.{names_same}
+use Rattle.statement_lists.proofs.ListSteps.{names_same}
 use Rattle.statement_parts.proofs.Steps.{on_err}
 use Rattle.statement_rows.specs.declared.piece.Piece.TheVariants as piece
 use Rattle.statement_rows.specs.Pieces.{PieceRead}

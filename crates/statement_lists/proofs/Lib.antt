@@ -1,0 +1,4 @@
+pub mod AssignmentSteps
+pub mod ChainSteps
+pub mod ListSteps
+pub mod UsingSteps

@@ -1,0 +1,4 @@
+pub mod Following
+pub mod Items
+pub mod ListForms
+pub mod Usings
