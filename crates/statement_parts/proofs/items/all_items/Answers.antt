@@ -1,5 +1,5 @@
 use Rattle.std.proofs.Common.{rules}
-use Rattle.statement_parts.proofs.ListSteps.{items_grow}
+use Rattle.statement_parts.proofs.ItemSteps.{items_grow}
 use Rattle.statement_parts.proofs.items.all_items.Goals as goal
 
 pub more-preserved : goal.more-preserved

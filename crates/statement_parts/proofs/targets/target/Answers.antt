@@ -15,4 +15,4 @@ returns-in_err-found-in-Some c =
 pub unreachable-requires : goal.unreachable-requires
 unreachable-requires c =
     let found = c.in_ok-found-in-Some in
-    no_other_target c.args.levels c.args.words.now c.in-Some.name (c.args.from + 1) found.found.end (tree_of found.found.tree) (search rules) found.ensures.reads c.in-None-into_target.same_tree
+    no_other_target c.args.levels c.args.words.now c.in-Some.name (c.args.from + 1) found.found.end (tree_of found.found.tree) (search rules) found.ensures.reads c.in-None-into_target.ensures.same_tree
