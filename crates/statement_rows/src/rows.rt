@@ -71,8 +71,9 @@ pub fn row_of(key: Keyword) -> Option<&'static [Piece]>
 }
 
 /// The statement of such a word and of what was read behind it.
-fn build(alloc: Global, key: Keyword, mut slots: Slots) -> Statement
-    ensures { statement_of result ≡ built key (slots_of slots) }
+// The slots are lent: where they are held, each of these forms goes through all of them once more.
+fn build(alloc: Global, key: Keyword, slots: &mut Slots) -> Statement
+    ensures { statement_of result ≡ built key (slots_of slots.old) }
 {
     match key {
         Keyword::For => Statement::For {
@@ -190,11 +191,12 @@ fn stated(
     ensures { States levels words.now from (statement_form key pieces.now) result }
 {
     let at = take_key(words, from, key)?;
-    let Read { value: slots, end } = row(alloc, words, at, pieces, levels)?;
-    Ok(Read {
-        value: build(alloc, key, slots),
+    let Read {
+        value: mut slots,
         end,
-    })
+    } = row(alloc, words, at, pieces, levels)?;
+    let value = build(alloc, key, &mut slots);
+    Ok(Read { value, end })
 }
 
 /// The statement of a word that is a row, and the place behind it.
