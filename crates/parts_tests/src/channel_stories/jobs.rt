@@ -1,61 +1,38 @@
 //! A job's side of files over a script, and its story step by step.
 
-use crate::channel_stories::scripts::{Told, push_all, request_told, words};
-use basic_values::{Int, Stop, Text};
-use channels::{ChannelState, Channels};
-use monitor_calls::{Account, FileName, OpenKind, Reply, Request, ScriptPort, Short};
+use crate::channel_stories::elements::access;
+use crate::channel_stories::report::{Report, size};
+use crate::channel_stories::scripts::{parts_of, replies_of};
+use crate::channel_stories::words::Words;
+use basic_values::{Int, Stop};
+use channels::Channels;
+use monitor_calls::{Account, FileName, OpenKind, Reply, ScriptPort, Short};
 use record_fields::{Buffers, RecordSize};
 use std::alloc::Global;
 use std::test::Fail;
 
-/// What is done in a step.
-#[derive(Clone, Copy)]
-pub(crate) enum Call {
-    /// OPEN of a channel for these records: what `to_open` says of it, and the opening.
-    Open(i16, OpenKind, bool, Option<u8>, RecordSize),
-    Close(i16),
-    Shut(u8),
-    CloseAll,
-    /// A channel, and a block.
-    Get(i16, i16),
-    Put(i16, i16),
-    Unlock(i16),
-    /// A channel, and so many of a byte that are written.
-    Write(i16, u8, u16),
-    Text(i16, &'static [u8]),
-    Read(i16),
-    /// A channel, a block, and whether it is for writing.
-    Window(u8, u16, bool),
-    /// A channel, a place of its buffer, and the byte that is set there.
-    Set(u8, u16, u8),
-    /// A channel, and a place of its buffer, whose byte is told.
-    Byte(u8, u16),
-    /// A channel: next, recount, unread bytes, RECOUNT, column, blocks, bytes of the buffer.
-    Tell(u8),
-}
-
-/// A step: what is done, the replies to it, and what comes of it: the requests, and the end.
-pub(crate) type Step = (Call, &'static [Told], &'static str);
+/// A step in words: what is done, the replies to it, and what comes of it, the requests and the end.
+pub(crate) type Step = &'static str;
 
 /// Update, for records of one block, of a file that may be there.
-pub(crate) const OPEN_1: Step = (
-    Call::Open(1, OpenKind::Either, true, None, RecordSize::One),
-    &[Told::Opened],
-    "either 1 true 99; ok",
-);
+pub(crate) const OPEN_1: Step = "open 1 either true - 1 | opened | either 1 true 99; ok";
 
 #[derive(Drop)]
 pub(crate) struct Job {
+    pub(crate) alloc: Global,
     pub(crate) channels: Channels,
     pub(crate) buffers: Buffers,
     pub(crate) port: ScriptPort,
+    name: FileName,
 }
 
-pub(crate) fn job_with(alloc: Global, replies: Vec<Reply>) -> Result<Job, Fail> {
+fn job_with(alloc: Global, name: FileName, replies: Vec<Reply>) -> Result<Job, Fail> {
     Ok(Job {
+        alloc,
         channels: Channels::new(),
         buffers: Buffers::new(alloc)?,
         port: ScriptPort::new(alloc, replies),
+        name,
     })
 }
 
@@ -70,322 +47,268 @@ fn a_name() -> Result<FileName, Fail> {
     })
 }
 
-pub(crate) fn stop_told(alloc: Global, stop: Stop) -> Result<String, Fail> {
-    match stop {
-        Stop::Fault(fault) => Ok(format!(in alloc; "fault {}", fault.number())?),
-        Stop::Expired => words(alloc, "expired"),
-        Stop::Halt(_) => words(alloc, "halt"),
-        Stop::NoMemory => words(alloc, "no memory"),
-    }
-}
-
-pub(crate) fn done_told(alloc: Global, outcome: Result<(), Stop>) -> Result<String, Fail> {
-    match outcome {
-        Ok(()) => words(alloc, "ok"),
-        Err(stop) => stop_told(alloc, stop),
-    }
-}
-
-fn closed_told(alloc: Global, outcome: Result<Option<u8>, Stop>) -> Result<String, Fail> {
-    match outcome {
-        Ok(Some(channel)) => Ok(format!(in alloc; "closed {channel}")?),
-        Ok(None) => words(alloc, "none"),
-        Err(stop) => stop_told(alloc, stop),
-    }
-}
-
-fn line_told(alloc: Global, outcome: Result<Text, Stop>) -> Result<String, Fail> {
-    match outcome {
-        Ok(line) => ends_told(alloc, line.as_bytes()),
-        Err(stop) => stop_told(alloc, stop),
-    }
-}
-
-/// The bytes of a line, where they are few; else how many, the first and the last.
-fn ends_told(alloc: Global, bytes: &[u8]) -> Result<String, Fail> {
-    match bytes {
-        [first, .., last] if bytes.len() > 20 => {
-            Ok(format!(in alloc; "line {} {} {}", bytes.len(), *first, *last)?)
-        }
-        _ => bytes_told(alloc, bytes),
-    }
-}
-
-pub(crate) fn bytes_told(alloc: Global, bytes: &[u8]) -> Result<String, Fail> {
-    let mut text = String::from_str(alloc, "line '")?;
-    for byte in bytes {
-        text.push(char::from(*byte))?;
-    }
-    text.push_str("'")?;
-    Ok(text)
-}
-
-fn state_told(alloc: Global, job: &Job, channel: u8) -> Result<String, Fail> {
-    if !(1..=12).contains(&channel) {
-        Err("no channel")?;
-    }
-    let state = job.channels.state(channel);
-    let blocks = job.channels.blocks(channel);
-    let bytes = job.buffers.buffer(channel).len();
-    let numbers = (job.channels.recount().value(), column_of(job, channel));
-    numbers_told(alloc, state, numbers, blocks, bytes)
-}
-
-fn column_of(job: &Job, channel: u8) -> i16 {
-    match job.channels.column(Int::new(i16::from(channel))) {
-        Ok(column) => column.value(),
-        Err(_) => -1,
-    }
-}
-
-/// A channel's numbers; those of the job are RECOUNT and the column.
-fn numbers_told(
-    alloc: Global,
-    state: ChannelState,
-    of_job: (i16, i16),
-    blocks: u8,
-    bytes: usize,
-) -> Result<String, Fail> {
-    let ChannelState {
-        next,
-        recount,
-        unread,
-        ..
-    } = state;
-    let (whole, column) = of_job;
-    Ok(format!(in alloc; "{next} {recount} {unread} {whole} {column} {blocks} {bytes}")?)
-}
-
-fn byte_told(alloc: Global, job: &Job, channel: u8, place: u16) -> Result<String, Fail> {
-    if !(1..=12).contains(&channel) {
-        Err("no channel")?;
-    }
-    match job.buffers.buffer(channel).get(place as usize) {
-        Some(byte) => Ok(format!(in alloc; "{}", *byte)?),
-        None => words(alloc, "none"),
-    }
-}
-
-fn set_byte(job: &mut Job, channel: u8, place: u16, byte: u8) -> Result<(), Stop> {
-    if (1..=12).contains(&channel) {
-        job.buffers.write_from(channel, place, &[byte]);
-    }
-    Ok(())
-}
-
-fn open_told(
-    alloc: Global,
-    job: &mut Job,
-    channel: i16,
+/// How a file is opened: its kind, whether for update, the code, and the size of its records.
+#[derive(Clone, Copy)]
+struct Opening {
     kind: OpenKind,
     update: bool,
     code: Option<u8>,
     size: RecordSize,
-) -> Result<String, Fail> {
-    let channel = match job.channels.to_open(Int::new(channel)) {
-        Ok(channel) => channel,
-        Err(fault) => return stop_told(alloc, Stop::Fault(fault)),
-    };
+}
+
+fn opening_of(words: &mut Words) -> Opening {
+    Opening {
+        kind: kind_of(words.word()),
+        update: words.flag(),
+        code: code_of(words),
+        size: size_of(words.number()),
+    }
+}
+
+fn kind_of(word: &str) -> OpenKind {
+    match word {
+        "input" => OpenKind::Input,
+        "output" => OpenKind::Output,
+        "either" => OpenKind::Either,
+        _ => OpenKind::Fresh,
+    }
+}
+
+fn code_of(words: &mut Words) -> Option<u8> {
+    match words.optional() {
+        Some(code) => u8::try_from(code).ok(),
+        None => None,
+    }
+}
+
+fn size_of(blocks: i16) -> RecordSize {
+    match blocks {
+        1 => RecordSize::One,
+        2 => RecordSize::Two,
+        _ => RecordSize::Three,
+    }
+}
+
+/// OPEN of a channel: what `to_open` says of it, and the opening.
+fn open(job: &mut Job, words: &mut Words, end: &mut Report) {
+    let number = Int::new(words.number());
+    let opening = opening_of(words);
+    match job.channels.to_open(number) {
+        Ok(channel) => end.done(opened(job, channel, opening)),
+        Err(fault) => end.stop(&Stop::Fault(fault)),
+    }
+}
+
+fn opened(job: &mut Job, channel: u8, opening: Opening) -> Result<(), Stop> {
+    if !(1..=12).contains(&channel) {
+        return Err(Stop::Expired);
+    }
     let (buffers, port) = (&mut job.buffers, &mut job.port);
-    let opened = job.channels.open_file(
-        alloc,
+    job.channels.open_file(
+        job.alloc,
         buffers,
         port,
         channel,
-        a_name()?,
-        kind,
-        update,
-        code,
-        size,
-    );
-    done_told(alloc, opened)
+        job.name,
+        opening.kind,
+        opening.update,
+        opening.code,
+        opening.size,
+    )
 }
 
-fn write_told(alloc: Global, job: &mut Job, channel: i16, bytes: &[u8]) -> Result<String, Fail> {
-    let (buffers, port) = (&mut job.buffers, &mut job.port);
-    let written = job
-        .channels
-        .write_text(alloc, buffers, port, Int::new(channel), bytes);
-    done_told(alloc, written)
-}
-
-fn run_told(
-    alloc: Global,
-    job: &mut Job,
-    channel: i16,
-    byte: u8,
-    count: u16,
-) -> Result<String, Fail> {
-    let mut bytes = Vec::new(alloc);
-    bytes.resize(count as usize, byte)?;
-    write_told(alloc, job, channel, bytes.as_slice())
-}
-
-fn window_told(
-    alloc: Global,
-    job: &mut Job,
-    channel: u8,
-    block: u16,
-    writing: bool,
-) -> Result<String, Fail> {
+/// What is known of a channel: next, recount, unread bytes, RECOUNT, column, blocks, bytes of the
+/// buffer.
+fn tell(job: &Job, channel: u8, end: &mut Report) {
     if !(1..=12).contains(&channel) {
-        Err("no channel")?;
+        return end.push("no channel");
     }
-    let (buffers, port) = (&mut job.buffers, &mut job.port);
-    let framed = job
-        .channels
-        .window(alloc, buffers, port, channel, block, writing);
-    done_told(alloc, framed)
+    let state = job.channels.state(channel);
+    end.tell(
+        "has",
+        &[
+            i32::from(state.next),
+            i32::from(state.recount),
+            i32::from(state.unread),
+            i32::from(job.channels.recount().value()),
+            column_of(job, channel),
+            i32::from(job.channels.blocks(channel)),
+            size(job.buffers.buffer(channel).len()),
+        ],
+    )
 }
 
-fn shut_told(alloc: Global, job: &mut Job, channel: u8) -> Result<String, Fail> {
+fn column_of(job: &Job, channel: u8) -> i32 {
+    match job.channels.column(Int::new(i16::from(channel))) {
+        Ok(column) => i32::from(column.value()),
+        Err(_) => -1,
+    }
+}
+
+/// The byte at a place of a channel's buffer.
+fn tell_byte(job: &Job, channel: u8, place: u16, end: &mut Report) {
     if !(1..=12).contains(&channel) {
-        Err("no channel")?;
+        return end.push("no channel");
+    }
+    match job.buffers.buffer(channel).get(place as usize) {
+        Some(byte) => end.tell("byte", &[i32::from(*byte)]),
+        None => end.push("none"),
+    }
+}
+
+fn set_byte(job: &mut Job, channel: u8, place: u16, byte: u8) {
+    if (1..=12).contains(&channel) {
+        job.buffers.write_from(channel, place, &[byte]);
+    }
+}
+
+fn write(job: &mut Job, channel: i16, bytes: &[u8], end: &mut Report) {
+    let (buffers, port) = (&mut job.buffers, &mut job.port);
+    end.done(
+        job.channels
+            .write_text(job.alloc, buffers, port, Int::new(channel), bytes),
+    )
+}
+
+/// So many of a byte are written.
+fn write_run(job: &mut Job, words: &mut Words, end: &mut Report) {
+    let (channel, byte, count) = (words.number(), words.byte(), words.count());
+    match vec![in job.alloc; byte; count as usize] {
+        Ok(bytes) => write(job, channel, &bytes, end),
+        Err(_) => end.push("no memory"),
+    }
+}
+
+fn frame(job: &mut Job, words: &mut Words, end: &mut Report) {
+    let (channel, block, writing) = (words.byte(), words.count(), words.flag());
+    if !(1..=12).contains(&channel) {
+        return end.push("no channel");
     }
     let (buffers, port) = (&mut job.buffers, &mut job.port);
-    let shut = job.channels.shut_file(alloc, buffers, port, channel);
-    closed_told(alloc, shut)
+    end.done(
+        job.channels
+            .window(job.alloc, buffers, port, channel, block, writing),
+    )
 }
 
-/// Closes, reads a line, or does what is done on blocks, and tells how it ended.
-fn record_told(alloc: Global, job: &mut Job, call: Call) -> Result<String, Fail> {
-    let (channels, buffers, port) = (&mut job.channels, &mut job.buffers, &mut job.port);
-    match call {
-        Call::Close(channel) => {
-            closed_told(
-                alloc,
-                channels.close_file(alloc, buffers, port, Int::new(channel)),
-            )
-        }
-        Call::CloseAll => done_told(alloc, channels.close_all(alloc, buffers, port)),
-        Call::Read(channel) => {
-            line_told(
-                alloc,
-                channels.read_line(alloc, buffers, port, Int::new(channel)),
-            )
-        }
-        _ => block_told(alloc, job, call),
+fn shut(job: &mut Job, channel: u8, end: &mut Report) {
+    if !(1..=12).contains(&channel) {
+        return end.push("no channel");
+    }
+    let (buffers, port) = (&mut job.buffers, &mut job.port);
+    end.closed(job.channels.shut_file(job.alloc, buffers, port, channel))
+}
+
+fn read(job: &mut Job, channel: Int, end: &mut Report) {
+    let (buffers, port) = (&mut job.buffers, &mut job.port);
+    match job.channels.read_line(job.alloc, buffers, port, channel) {
+        Ok(line) => end.line(line.as_bytes()),
+        Err(stop) => end.stop(&stop),
     }
 }
 
-/// Does what is done on blocks, and tells how it ended.
-fn block_told(alloc: Global, job: &mut Job, call: Call) -> Result<String, Fail> {
-    let (channels, buffers, port) = (&mut job.channels, &mut job.buffers, &mut job.port);
-    match call {
-        Call::Get(channel, block) => done_told(
-            alloc,
-            channels.get(alloc, buffers, port, Int::new(channel), Int::new(block)),
-        ),
-        Call::Put(channel, block) => done_told(
-            alloc,
-            channels.put(alloc, buffers, port, Int::new(channel), Int::new(block)),
-        ),
-        Call::Unlock(channel) => {
-            done_told(
-                alloc,
-                channels.unlock(alloc, buffers, port, Int::new(channel)),
-            )
-        }
-        _ => Err("another call")?,
-    }
+fn close(job: &mut Job, channel: Int, end: &mut Report) {
+    let (buffers, port) = (&mut job.buffers, &mut job.port);
+    end.closed(job.channels.close_file(job.alloc, buffers, port, channel))
+}
+
+fn close_all(job: &mut Job, end: &mut Report) {
+    let (buffers, port) = (&mut job.buffers, &mut job.port);
+    end.done(job.channels.close_all(job.alloc, buffers, port))
+}
+
+fn unlock(job: &mut Job, channel: Int, end: &mut Report) {
+    let (buffers, port) = (&mut job.buffers, &mut job.port);
+    end.done(job.channels.unlock(job.alloc, buffers, port, channel))
+}
+
+fn get(job: &mut Job, channel: Int, block: Int, end: &mut Report) {
+    let (buffers, port) = (&mut job.buffers, &mut job.port);
+    end.done(job.channels.get(job.alloc, buffers, port, channel, block))
+}
+
+fn put(job: &mut Job, channel: Int, block: Int, end: &mut Report) {
+    let (buffers, port) = (&mut job.buffers, &mut job.port);
+    end.done(job.channels.put(job.alloc, buffers, port, channel, block))
 }
 
 /// Does what is done in a step, and tells how it ended.
-pub(crate) fn call_told(alloc: Global, job: &mut Job, call: Call) -> Result<String, Fail> {
-    match call {
-        Call::Open(channel, kind, update, code, size) => {
-            open_told(alloc, job, channel, kind, update, code, size)
+fn call(job: &mut Job, words: &mut Words, end: &mut Report) {
+    match words.word() {
+        "open" => open(job, words, end),
+        "close_all" => close_all(job, end),
+        "shut" => shut(job, words.byte(), end),
+        "write" => write_run(job, words, end),
+        "text" => write(job, words.number(), words.word().as_bytes(), end),
+        "window" => frame(job, words, end),
+        "tell" => tell(job, words.byte(), end),
+        "byte" => tell_byte(job, words.byte(), words.count(), end),
+        "set" => {
+            set_byte(job, words.byte(), words.count(), words.byte());
+            end.push("ok")
         }
-        Call::Shut(channel) => shut_told(alloc, job, channel),
-        Call::Write(channel, byte, count) => run_told(alloc, job, channel, byte, count),
-        Call::Text(channel, bytes) => write_told(alloc, job, channel, bytes),
-        Call::Window(channel, block, writing) => window_told(alloc, job, channel, block, writing),
-        Call::Set(channel, place, byte) => done_told(alloc, set_byte(job, channel, place, byte)),
-        Call::Byte(channel, place) => byte_told(alloc, job, channel, place),
-        Call::Tell(channel) => state_told(alloc, job, channel),
-        _ => record_told(alloc, job, call),
+        word => record(job, word, words, end),
     }
 }
 
-fn push_request(
-    alloc: Global,
-    text: &mut String,
-    request: &Request,
-    behind: &str,
-) -> Result<(), Fail> {
-    text.push_str(request_told(alloc, request)?.as_str())?;
-    Ok(text.push_str(behind)?)
-}
-
-/// The first of many requests, the last, and how many.
-fn push_many(alloc: Global, text: &mut String, asked: &[(Request, Reply)]) -> Result<(), Fail> {
-    if let [(first, _), .., (last, _)] = asked {
-        push_request(alloc, text, first, " to ")?;
-        push_request(alloc, text, last, ", ")?;
-        text.push_str(format!(in alloc; "{}; ", asked.len())?.as_str())?;
+/// Does what is done on records, or on an element.
+fn record(job: &mut Job, word: &str, words: &mut Words, end: &mut Report) {
+    match word {
+        "get" => get(job, int(words), int(words), end),
+        "put" => put(job, int(words), int(words), end),
+        "unlock" => unlock(job, int(words), end),
+        "read" => read(job, int(words), end),
+        "close" => close(job, int(words), end),
+        _ => access(job, word, words, end),
     }
-    Ok(())
 }
 
-fn push_asked(alloc: Global, text: &mut String, asked: &[(Request, Reply)]) -> Result<(), Fail> {
-    if asked.len() > 8 {
-        return push_many(alloc, text, asked);
+fn int(words: &mut Words) -> Int {
+    Int::new(words.number())
+}
+
+/// How a step ended.
+fn end_of(job: &mut Job, done: &'static str) -> Report {
+    let mut end = Report::new(job.alloc);
+    let mut words = Words::of(done);
+    call(job, &mut words, &mut end);
+    if !words.is_good() {
+        end.push(" and no number");
     }
-    for (request, _) in asked {
-        push_request(alloc, text, request, "; ")?;
-    }
-    Ok(())
+    end
 }
 
-/// What was asked behind the first so many requests, and the end.
-pub(crate) fn asked_and_ended(
-    alloc: Global,
-    log: &[(Request, Reply)],
-    before: usize,
-    end: &str,
-) -> Result<String, Fail> {
-    let mut text = String::new(alloc);
-    push_asked(alloc, &mut text, log.get(before..).unwrap_or(&[]))?;
-    text.push_str(end)?;
-    Ok(text)
-}
-
-/// What comes of a step.
-fn step_told(alloc: Global, job: &mut Job, call: Call) -> Result<String, Fail> {
+/// What comes of a step: what is asked, and the end.
+fn told_of(job: &mut Job, done: &'static str) -> String {
     let before = job.port.log().len();
-    let end = call_told(alloc, job, call)?;
-    asked_and_ended(alloc, job.port.log(), before, end.as_str())
+    let end = end_of(job, done);
+    let mut told = Report::new(job.alloc);
+    told.asked(job.port.log().get(before..).unwrap_or(&[]));
+    told.push(end.as_str());
+    told.into_text()
 }
 
-/// The replies of a whole story.
-fn replies_of(alloc: Global, steps: &[Step]) -> Result<Vec<Reply>, Fail> {
-    let mut replies = Vec::new(alloc);
-    for (_, told, _) in steps {
-        push_all(alloc, &mut replies, told)?;
-    }
-    Ok(replies)
-}
-
-/// Fails with what came of the first step of which another thing is wanted.
-fn expect_story(alloc: Global, steps: &[Step]) -> Result<(), Fail> {
-    let mut job = job_with(alloc, replies_of(alloc, steps)?)?;
-    expect_steps(alloc, &mut job, steps)
-}
-
-fn expect_steps(alloc: Global, job: &mut Job, steps: &[Step]) -> Result<(), Fail> {
-    for (call, _, wanted) in steps {
-        expect_told(step_told(alloc, job, *call)?, wanted)?;
-    }
-    Ok(())
-}
-
-/// Fails with what is told where it is not what is wanted.
-pub(crate) fn expect_told(told: String, wanted: &str) -> Result<(), Fail> {
+/// Fails with what came of a step where another thing is wanted.
+fn expect_step(job: &mut Job, step: Step) -> Result<(), Fail> {
+    let (done, _, wanted) = parts_of(step);
+    let told = told_of(job, done);
     if told.as_str() == wanted {
         Ok(())
     } else {
         Err(Fail::new(told))
     }
+}
+
+fn expect_steps(job: &mut Job, steps: &[Step]) -> Result<(), Fail> {
+    for step in steps {
+        expect_step(job, step)?;
+    }
+    Ok(())
+}
+
+fn expect_story(alloc: Global, steps: &[Step]) -> Result<(), Fail> {
+    let mut job = job_with(alloc, a_name()?, replies_of(alloc, steps)?)?;
+    expect_steps(&mut job, steps)
 }
 
 /// Fails unless each story is as it is told.
