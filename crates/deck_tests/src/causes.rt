@@ -1,10 +1,10 @@
 //! Decks that are refused: each cause, and the line at which it stands.
 
-use crate::expects::expect_none;
+use crate::expects::expect_row;
 use basic_values::Trouble;
 use deck_model::DeckCause;
 use deck_reader::read_deck;
-use std::alloc::Global;
+use std::alloc::{AllocError, Global};
 use std::test::Fail;
 
 /// Lines of a deck, the line at which it is refused, and the cause.
@@ -22,25 +22,36 @@ fn refusal(alloc: Global, bytes: &[u8]) -> Option<(u32, DeckCause)> {
     }
 }
 
-/// The refusal of a front and these lines behind it.
-fn refusal_behind(
+/// Whether a front and these lines behind it are refused so.
+fn is_refused_behind(
     alloc: Global,
     front: &[u8],
     lines: &[u8],
-) -> Result<Option<(u32, DeckCause)>, Fail> {
-    let mut deck = front.to_vec(alloc)?;
-    deck.extend_from_slice(lines)?;
-    Ok(refusal(alloc, deck.as_slice()))
+    line: u32,
+    cause: DeckCause,
+) -> bool {
+    match [front, lines].concat(alloc) {
+        Ok(deck) => is_refused(alloc, deck.as_slice(), line, cause),
+        Err(_) => false,
+    }
 }
 
-/// The place of the first row that is refused otherwise, each with this front.
-fn first_wrong(alloc: Global, front: &[u8], rows: &[Row]) -> Result<Option<usize>, Fail> {
-    for (place, (lines, line, cause)) in rows.iter().enumerate() {
-        if refusal_behind(alloc, front, lines)? != Some((*line, *cause)) {
-            return Ok(Some(place));
-        }
+/// Whether bytes are refused at that line and for that cause.
+fn is_refused(alloc: Global, bytes: &[u8], line: u32, cause: DeckCause) -> bool {
+    match refusal(alloc, bytes) {
+        Some((at, why)) => at == line && why == cause,
+        None => false,
     }
-    Ok(None)
+}
+
+/// Fails with the first row that is refused otherwise, each with this front.
+fn expect_causes(alloc: Global, front: &[u8], rows: &[Row]) -> Result<(), Fail> {
+    for place in 0..rows.len() {
+        let (lines, line, cause) = rows[place];
+        let is_so = is_refused_behind(alloc, front, lines, line, cause);
+        expect_row("the rows", place, is_so)?;
+    }
+    Ok(())
 }
 
 static DECKS: [Row; 27] = [
@@ -117,9 +128,13 @@ static DECKS: [Row; 27] = [
     (b"RSTS-DECK 1\nDISK 8\nEND\nX\n", 4, DeckCause::Shape),
 ];
 
+fn decks() -> &'static [Row] {
+    &DECKS
+}
+
 #[test]
 fn each_cause_stands_at_its_line(rt: HostRuntime) -> Result<(), Fail> {
-    expect_none(rt.alloc(), first_wrong(rt.alloc(), b"", &DECKS)?)
+    expect_causes(rt.alloc(), b"", decks())
 }
 
 static QUOTAS: [Row; 10] = [
@@ -151,12 +166,13 @@ static QUOTAS: [Row; 10] = [
     ),
 ];
 
+fn quotas() -> &'static [Row] {
+    &QUOTAS
+}
+
 #[test]
 fn each_cause_of_a_quota_stands_at_its_line(rt: HostRuntime) -> Result<(), Fail> {
-    expect_none(
-        rt.alloc(),
-        first_wrong(rt.alloc(), b"RSTS-DECK 2\nDISK 8\n", &QUOTAS)?,
-    )
+    expect_causes(rt.alloc(), b"RSTS-DECK 2\nDISK 8\n", quotas())
 }
 
 /// A disk of two blocks and an account.
@@ -197,92 +213,76 @@ static FILES: [Row; 20] = [
     (b"TERMINAL T1\nFILE [100,5]B<60> 1\n", 5, DeckCause::Shape),
 ];
 
-#[test]
-fn each_cause_of_a_file_stands_at_its_line(rt: HostRuntime) -> Result<(), Fail> {
-    expect_none(rt.alloc(), first_wrong(rt.alloc(), FRONT, &FILES)?)
+fn files() -> &'static [Row] {
+    &FILES
 }
 
-/// Fails with where it is refused, unless it is at that line and for that cause.
-fn expect_refusal(
-    alloc: Global,
-    found: Option<(u32, DeckCause)>,
-    line: u32,
-    cause: DeckCause,
-) -> Result<(), Fail> {
-    match found {
+#[test]
+fn each_cause_of_a_file_stands_at_its_line(rt: HostRuntime) -> Result<(), Fail> {
+    expect_causes(rt.alloc(), FRONT, files())
+}
+
+/// Fails with where bytes are refused, unless it is at that line and for that cause.
+fn expect_refusal(alloc: Global, bytes: &[u8], line: u32, cause: DeckCause) -> Result<(), Fail> {
+    match refusal(alloc, bytes) {
         Some((at, why)) if at == line && why == cause => Ok(()),
-        Some((at, _)) => Err(Fail::new(format!(in alloc; "it is refused at line {at}")?)),
-        None => Err("it is not refused")?,
+        Some((at, _)) => Err(Fail::new(format_args!("it is refused at line {at}"))),
+        None => Err(Fail::new("it is not refused")),
     }
 }
 
-/// The refusal of a front, so many letters A behind it, and the end of a deck.
-fn refusal_of_long(
-    alloc: Global,
-    front: &[u8],
-    letters: usize,
-) -> Result<Option<(u32, DeckCause)>, Fail> {
+/// A front, so many letters A behind it, and the end of a deck.
+fn deck_of_letters(alloc: Global, front: &[u8], letters: usize) -> Result<Vec<u8>, AllocError> {
     let letters = vec![in alloc; b'A'; letters]?;
-    let mut deck = front.to_vec(alloc)?;
-    deck.extend_from_slice(&letters)?;
-    deck.extend_from_slice(b"\nEND\n")?;
-    Ok(refusal(alloc, deck.as_slice()))
+    [front, letters.as_slice(), b"\nEND\n"].concat(alloc)
 }
 
 #[test]
 fn a_text_of_511_bytes_is_beyond_one_block(rt: HostRuntime) -> Result<(), Fail> {
     let front = b"RSTS-DECK 1\nDISK 2\nACCOUNT 100,5 DEMO 9\nFILE [100,5]A<60> 1\n>";
-    let found = refusal_of_long(rt.alloc(), front, 511)?;
-    expect_refusal(rt.alloc(), found, 5, DeckCause::Space)
+    let deck = deck_of_letters(rt.alloc(), front, 511)?;
+    expect_refusal(rt.alloc(), deck.as_slice(), 5, DeckCause::Space)
 }
 
 #[test]
 fn a_key_line_has_at_most_255_bytes(rt: HostRuntime) -> Result<(), Fail> {
     let front = b"RSTS-DECK 1\nDISK 8\nTERMINAL T1\n>";
-    let found = refusal_of_long(rt.alloc(), front, 256)?;
-    expect_refusal(rt.alloc(), found, 4, DeckCause::Range)
+    let deck = deck_of_letters(rt.alloc(), front, 256)?;
+    expect_refusal(rt.alloc(), deck.as_slice(), 4, DeckCause::Range)
 }
 
-/// How many bytes from the front on are not refused as cut in their last line.
-fn wrong_cut(alloc: Global, deck: &[u8]) -> Option<usize> {
+/// Fails unless each front of a deck is refused as cut in its last line.
+fn expect_cut(alloc: Global, deck: &[u8]) -> Result<(), Fail> {
     let mut line = 1u32;
-    for (at, byte) in deck.iter().enumerate() {
-        if refusal(alloc, &deck[..at]) != Some((line, DeckCause::Cut)) {
-            return Some(at);
-        }
-        if *byte == b'\n' {
+    for at in 0..deck.len() {
+        let is_so = is_refused(alloc, &deck[..at], line, DeckCause::Cut);
+        expect_row("the fronts", at, is_so)?;
+        if deck[at] == b'\n' {
             line = line.saturating_add(1);
         }
     }
-    None
+    Ok(())
 }
 
 #[test]
 fn a_deck_cut_behind_each_of_its_bytes_ends_early(rt: HostRuntime) -> Result<(), Fail> {
     let deck = b"RSTS-DECK 1\nDISK 2\nACCOUNT 100,5 DEMO 9\nFILE [100,5]A.B<60> 1\n>10 END\n\
 TERMINAL T1\n>A\nEND\n";
-    expect_none(rt.alloc(), wrong_cut(rt.alloc(), deck))
+    expect_cut(rt.alloc(), deck)
 }
 
-fn push_terminal(deck: &mut Vec<u8>, alloc: Global, number: u32) -> Result<(), Fail> {
-    let line = format!(in alloc; "TERMINAL T{number}\n")?;
-    deck.extend_from_slice(line.as_bytes())?;
-    Ok(())
-}
-
-/// A deck of so many terminals.
-fn deck_of_terminals(alloc: Global, count: u32) -> Result<Vec<u8>, Fail> {
-    let mut deck = b"RSTS-DECK 1\nDISK 8\n".to_vec(alloc)?;
+/// The text of a deck of so many terminals.
+fn push_deck(deck: &mut String, count: u32) -> Result<(), AllocError> {
+    deck.push_str("RSTS-DECK 1\nDISK 8\n")?;
     for number in 0..count {
-        push_terminal(&mut deck, alloc, number)?;
+        write!(deck, "TERMINAL T{number}\n")?;
     }
-    deck.extend_from_slice(b"END\n")?;
-    Ok(deck)
+    deck.push_str("END\n")
 }
 
 #[test]
 fn the_sixty_fourth_terminal_has_no_room(rt: HostRuntime) -> Result<(), Fail> {
-    let deck = deck_of_terminals(rt.alloc(), 64)?;
-    let found = refusal(rt.alloc(), deck.as_slice());
-    expect_refusal(rt.alloc(), found, 66, DeckCause::Space)
+    let mut deck = String::new(rt.alloc());
+    push_deck(&mut deck, 64)?;
+    expect_refusal(rt.alloc(), deck.as_bytes(), 66, DeckCause::Space)
 }

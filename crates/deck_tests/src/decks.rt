@@ -1,97 +1,134 @@
 //! Decks that are read, told again as texts.
 
-use crate::expects::expect_bytes;
+use crate::expects::expect;
 use deck_reader::{Deck, Terminal, read_deck};
-use monitor_calls::{AccountEntry, FileEntry, Page};
+use monitor_calls::{Account, AccountEntry, FileEntry, Page};
 use std::alloc::Global;
 use std::test::Fail;
 
-/// What the bytes spell: a line for the disk, for each account, file, terminal and key line.
-fn told(alloc: Global, bytes: &[u8]) -> Result<Vec<u8>, Fail> {
-    if bytes.len() > 4096 {
-        return Err("a deck that is too long for these tests")?;
-    }
-    match read_deck(alloc, bytes) {
-        Ok(deck) => deck_told(alloc, &deck),
-        Err(_) => Err("it is no deck")?,
-    }
+/// What is left of the bytes that a deck is to be told by. Whoever puts something there need not
+/// ask each time whether it was the next.
+struct Told {
+    rest: &'static [u8],
+    is_other: bool,
 }
 
-/// Fails with what the bytes spell, unless they spell this.
-fn expect_told(alloc: Global, bytes: &[u8], want: &[u8]) -> Result<(), Fail> {
-    let found = told(alloc, bytes)?;
-    expect_bytes(alloc, found.as_slice(), want)
-}
-
-fn deck_told(alloc: Global, deck: &Deck) -> Result<Vec<u8>, Fail> {
-    let head = format!(in alloc; "{} blocks\n", deck.volume.blocks)?;
-    let mut out = head.as_bytes().to_vec(alloc)?;
-    push_parts(&mut out, alloc, deck)?;
-    Ok(out)
-}
-
-fn push_parts(out: &mut Vec<u8>, alloc: Global, deck: &Deck) -> Result<(), Fail> {
-    for entry in deck.volume.accounts.as_slice() {
-        push_account(out, alloc, entry)?;
-    }
-    for file in deck.volume.files.as_slice() {
-        push_file(out, alloc, file)?;
-    }
-    push_terminals(out, deck.terminals.as_slice())
-}
-
-fn push_account(out: &mut Vec<u8>, alloc: Global, entry: &AccountEntry) -> Result<(), Fail> {
-    let (project, programmer) = (entry.account.project, entry.account.programmer);
-    let (limit, quota) = (entry.limit, entry.quota);
-    let numbers = format!(in alloc; "{project},{programmer} {limit} {quota} ")?;
-    out.extend_from_slice(numbers.as_bytes())?;
-    push_line(out, entry.password.as_bytes())
-}
-
-fn push_line(out: &mut Vec<u8>, bytes: &[u8]) -> Result<(), Fail> {
-    out.extend_from_slice(bytes)?;
-    out.push(b'\n')?;
-    Ok(())
-}
-
-fn push_file(out: &mut Vec<u8>, alloc: Global, file: &FileEntry) -> Result<(), Fail> {
-    let (project, programmer) = (file.name.owner.project, file.name.owner.programmer);
-    let numbers = format!(in alloc; "{project},{programmer} {} ", file.code)?;
-    out.extend_from_slice(numbers.as_bytes())?;
-    push_contents(out, file)
-}
-
-/// The name of a file and its pages.
-fn push_contents(out: &mut Vec<u8>, file: &FileEntry) -> Result<(), Fail> {
-    out.extend_from_slice(file.name.stem.as_bytes())?;
-    out.push(b'.')?;
-    push_line(out, file.name.extension.as_bytes())?;
-    for page in file.pages.as_slice() {
-        push_page(out, page)?;
-    }
-    Ok(())
-}
-
-/// The bytes of a page up to the zeros at its end, and a star.
-fn push_page(out: &mut Vec<u8>, page: &Page) -> Result<(), Fail> {
-    let zeros = page.as_bytes().iter().rev().take_while(|byte| **byte == 0);
-    let kept = 512usize.saturating_sub(zeros.count());
-    for byte in page.as_bytes().iter().take(kept) {
-        out.push(*byte)?;
-    }
-    out.push(b'*')?;
-    Ok(())
-}
-
-fn push_terminals(out: &mut Vec<u8>, terminals: &[Terminal]) -> Result<(), Fail> {
-    for terminal in terminals {
-        push_line(out, terminal.name.as_bytes())?;
-        for key in terminal.keys.as_slice() {
-            out.push(b'>')?;
-            push_line(out, key.as_bytes())?;
+impl Told {
+    fn bytes(&mut self, bytes: &[u8]) {
+        if self.rest.starts_with(bytes) {
+            self.rest = &self.rest[bytes.len()..];
+        } else {
+            self.is_other = true;
         }
     }
-    Ok(())
+
+    /// The last digit of a number.
+    fn digit(&mut self, number: u16) {
+        self.bytes(&[b'0' + (number % 10) as u8])
+    }
+
+    /// A number, and what stands behind it.
+    fn number(&mut self, number: u16, end: &[u8]) {
+        if number > 9999 {
+            self.digit(number / 10000);
+        }
+        if number > 999 {
+            self.digit(number / 1000);
+        }
+        if number > 99 {
+            self.digit(number / 100);
+        }
+        if number > 9 {
+            self.digit(number / 10);
+        }
+        self.digit(number);
+        self.bytes(end)
+    }
+
+    /// What stands in front of a line, and the line.
+    fn line(&mut self, front: &[u8], bytes: &[u8]) {
+        self.bytes(front);
+        self.bytes(bytes);
+        self.bytes(b"\n")
+    }
+}
+
+/// Whether a deck is told by these bytes: a line for the disk, for each account, file, terminal
+/// and key line.
+fn is_told(deck: &Deck, want: &'static [u8]) -> bool {
+    let mut out = Told {
+        rest: want,
+        is_other: false,
+    };
+    out.number(deck.volume.blocks, b" blocks\n");
+    put_accounts(&mut out, deck.volume.accounts.as_slice());
+    put_files(&mut out, deck.volume.files.as_slice());
+    put_terminals(&mut out, deck.terminals.as_slice());
+    let Told { rest, is_other } = out;
+    rest.is_empty() && !is_other
+}
+
+/// Fails unless the bytes spell a deck that is told so.
+fn expect_told(alloc: Global, bytes: &[u8], want: &'static [u8]) -> Result<(), Fail> {
+    if bytes.len() > 4096 {
+        return Err(Fail::new("a deck that is too long for these tests"));
+    }
+    match read_deck(alloc, bytes) {
+        Ok(deck) => expect(is_told(&deck, want), "another deck"),
+        Err(_) => Err(Fail::new("it is no deck")),
+    }
+}
+
+fn put_owner(out: &mut Told, owner: Account) {
+    out.number(owner.project as u16, b",");
+    out.number(owner.programmer as u16, b" ")
+}
+
+fn put_accounts(out: &mut Told, accounts: &[AccountEntry]) {
+    for entry in accounts {
+        put_owner(out, entry.account);
+        out.number(entry.limit, b" ");
+        out.number(entry.quota, b" ");
+        out.line(b"", entry.password.as_bytes());
+    }
+}
+
+fn put_files(out: &mut Told, files: &[FileEntry]) {
+    for file in files {
+        put_owner(out, file.name.owner);
+        out.number(file.code as u16, b" ");
+        out.bytes(file.name.stem.as_bytes());
+        out.line(b".", file.name.extension.as_bytes());
+        put_pages(out, file.pages.as_slice());
+    }
+}
+
+/// The bytes in front of the zeros at the end.
+fn without_zeros(bytes: &[u8]) -> &[u8] {
+    let mut kept = 0;
+    for place in 0..bytes.len() {
+        if bytes[place] != 0 {
+            kept = place + 1;
+        }
+    }
+    &bytes[..kept.min(bytes.len())]
+}
+
+/// The bytes of each page up to the zeros at its end, and a star.
+fn put_pages(out: &mut Told, pages: &[Page]) {
+    for page in pages {
+        out.bytes(without_zeros(page.as_bytes()));
+        out.bytes(b"*");
+    }
+}
+
+fn put_terminals(out: &mut Told, terminals: &[Terminal]) {
+    for terminal in terminals {
+        out.line(b"", terminal.name.as_bytes());
+        for key in terminal.keys.as_slice() {
+            out.line(b">", key.as_bytes());
+        }
+    }
 }
 
 const DECK: &[u8] = b"RSTS-DECK 1\r\nDISK 100\nACCOUNT 1,2 PW3 50\nACCOUNT 254,0 A 16384\n\

@@ -1,11 +1,12 @@
 //! The deck of the drill, and what is counted in a history.
 
-use crate::expects::{expect, expect_bytes, expect_none};
-use deck_reader::{Deck, read_deck};
+use crate::expects::{expect, expect_bytes, expect_row};
+use basic_values::KeyLine;
+use deck_reader::{Deck, Terminal, read_deck};
 use drill_deck::{Tally, drill_deck, drill_line, tally_of};
 use monitor_calls::{AccountEntry, Entry, FileEntry, Page, Reply, Request};
 use program_words::MOST_DRILL_JOBS;
-use std::alloc::Global;
+use std::alloc::{AllocError, Global};
 use std::test::Fail;
 
 const FRONT: &str = "RSTS-DECK 1\nDISK 8\nACCOUNT 100,5 DEMO 16384\nFILE [100,5]COUNT.DAT<60> 1\n";
@@ -16,112 +17,142 @@ const KEYS: &str = ">HELLO 100,5;DEMO\n>10 ON ERROR GOTO 100\n\
 >90 CLOSE 1% : GOTO 130\n>100 IF ERR<>19% THEN ON ERROR GOTO 0\n\
 >110 K%=0% : K%=K%+1% WHILE K%<1000%\n>120 SLEEP 1% : RESUME\n>130 END\n>RUNNH\n>BYE\n";
 
-/// The accounts, the files and the terminals of a deck, in bytes.
-fn told(alloc: Global, deck: &Deck) -> Result<Vec<u8>, Fail> {
-    let head = format!(in alloc; "{}", deck.volume.blocks)?;
-    let mut out = head.as_bytes().to_vec(alloc)?;
-    push_parts(&mut out, alloc, deck)?;
-    Ok(out)
+/// Whether two decks have the same disk, accounts, files and terminals.
+fn is_same(a: &Deck, b: &Deck) -> bool {
+    a.volume.blocks == b.volume.blocks
+        && are_same_accounts(a.volume.accounts.as_slice(), b.volume.accounts.as_slice())
+        && are_same_files(a.volume.files.as_slice(), b.volume.files.as_slice())
+        && are_same_terminals(a.terminals.as_slice(), b.terminals.as_slice())
 }
 
-fn push_parts(out: &mut Vec<u8>, alloc: Global, deck: &Deck) -> Result<(), Fail> {
-    for entry in deck.volume.accounts.as_slice() {
-        push_account(out, alloc, entry)?;
+fn is_same_account(a: &AccountEntry, b: &AccountEntry) -> bool {
+    a.account == b.account
+        && a.limit == b.limit
+        && a.quota == b.quota
+        && a.password.as_bytes() == b.password.as_bytes()
+}
+
+fn are_same_accounts(a: &[AccountEntry], b: &[AccountEntry]) -> bool {
+    if a.len() != b.len() {
+        return false;
     }
-    for file in deck.volume.files.as_slice() {
-        push_file(out, alloc, file)?;
-    }
-    push_terminals(out, deck)
-}
-
-fn push_account(out: &mut Vec<u8>, alloc: Global, entry: &AccountEntry) -> Result<(), Fail> {
-    let (project, programmer) = (entry.account.project, entry.account.programmer);
-    let (limit, quota) = (entry.limit, entry.quota);
-    let numbers = format!(in alloc; " {project},{programmer} {limit} {quota} ")?;
-    out.extend_from_slice(numbers.as_bytes())?;
-    out.extend_from_slice(entry.password.as_bytes())?;
-    Ok(())
-}
-
-fn push_file(out: &mut Vec<u8>, alloc: Global, file: &FileEntry) -> Result<(), Fail> {
-    let numbers = format!(in alloc; " {} ", file.code)?;
-    out.extend_from_slice(numbers.as_bytes())?;
-    push_contents(out, file)
-}
-
-fn push_contents(out: &mut Vec<u8>, file: &FileEntry) -> Result<(), Fail> {
-    out.extend_from_slice(file.name.stem.as_bytes())?;
-    out.extend_from_slice(file.name.extension.as_bytes())?;
-    for page in file.pages.as_slice() {
-        out.extend_from_slice(page.as_bytes())?;
-    }
-    Ok(())
-}
-
-fn push_terminals(out: &mut Vec<u8>, deck: &Deck) -> Result<(), Fail> {
-    for terminal in deck.terminals.as_slice() {
-        out.extend_from_slice(terminal.name.as_bytes())?;
-        for key in terminal.keys.as_slice() {
-            out.push(b'>')?;
-            out.extend_from_slice(key.as_bytes())?;
+    for place in 0..a.len() {
+        if !is_same_account(&a[place], &b[place]) {
+            return false;
         }
     }
-    Ok(())
+    true
 }
 
-fn push_terminal(text: &mut String, alloc: Global, number: u32) -> Result<(), Fail> {
-    let line = format!(in alloc; "TERMINAL T{number}\n")?;
-    text.push_str(line.as_str())?;
-    text.push_str(KEYS)?;
-    Ok(())
+fn are_same_pages(a: &[Page], b: &[Page]) -> bool {
+    if a.len() != b.len() {
+        return false;
+    }
+    for place in 0..a.len() {
+        if a[place].as_bytes() != b[place].as_bytes() {
+            return false;
+        }
+    }
+    true
+}
+
+fn is_same_file(a: &FileEntry, b: &FileEntry) -> bool {
+    a.code == b.code
+        && a.name.is_same(&b.name)
+        && are_same_pages(a.pages.as_slice(), b.pages.as_slice())
+}
+
+fn are_same_files(a: &[FileEntry], b: &[FileEntry]) -> bool {
+    if a.len() != b.len() {
+        return false;
+    }
+    for place in 0..a.len() {
+        if !is_same_file(&a[place], &b[place]) {
+            return false;
+        }
+    }
+    true
+}
+
+fn are_same_keys(a: &[KeyLine], b: &[KeyLine]) -> bool {
+    if a.len() != b.len() {
+        return false;
+    }
+    for place in 0..a.len() {
+        if a[place].as_bytes() != b[place].as_bytes() {
+            return false;
+        }
+    }
+    true
+}
+
+fn is_same_terminal(a: &Terminal, b: &Terminal) -> bool {
+    a.name.as_bytes() == b.name.as_bytes() && are_same_keys(a.keys.as_slice(), b.keys.as_slice())
+}
+
+fn are_same_terminals(a: &[Terminal], b: &[Terminal]) -> bool {
+    if a.len() != b.len() {
+        return false;
+    }
+    for place in 0..a.len() {
+        if !is_same_terminal(&a[place], &b[place]) {
+            return false;
+        }
+    }
+    true
 }
 
 /// The text of the deck of so many terminals.
-fn text_of(alloc: Global, jobs: u32) -> Result<String, Fail> {
-    let mut text = String::from_str(alloc, FRONT)?;
+fn push_text(text: &mut String, jobs: u32) -> Result<(), AllocError> {
+    text.push_str(FRONT)?;
     for number in 1..=jobs {
-        push_terminal(&mut text, alloc, number)?;
+        write!(text, "TERMINAL T{number}\n{KEYS}")?;
     }
-    text.push_str("END\n")?;
+    text.push_str("END\n")
+}
+
+fn text_of(alloc: Global, jobs: u32) -> Result<String, AllocError> {
+    let mut text = String::new(alloc);
+    push_text(&mut text, jobs)?;
     Ok(text)
 }
 
-/// What the text of the deck of so many terminals spells.
-fn read_told(alloc: Global, jobs: u32) -> Result<Vec<u8>, Fail> {
-    let text = text_of(alloc, jobs)?;
+/// Whether a text spells a deck that is this one.
+fn is_spelled(alloc: Global, text: &[u8], deck: &Deck) -> bool {
     if text.len() > 65_536 {
-        return Err("a deck that is too long for these tests")?;
+        return false;
     }
-    match read_deck(alloc, text.as_bytes()) {
-        Ok(deck) => told(alloc, &deck),
-        Err(_) => Err("it is no deck")?,
+    match read_deck(alloc, text) {
+        Ok(read) => is_same(&read, deck),
+        Err(_) => false,
     }
 }
 
-fn made_told(alloc: Global, jobs: u32) -> Result<Vec<u8>, Fail> {
-    let deck = drill_deck(alloc, jobs.min(MOST_DRILL_JOBS))?;
-    told(alloc, &deck)
+/// Whether the deck of so many jobs is spelled by a text.
+fn is_made(alloc: Global, text: &[u8], jobs: u32) -> bool {
+    match drill_deck(alloc, jobs.min(MOST_DRILL_JOBS)) {
+        Ok(deck) => is_spelled(alloc, text, &deck),
+        Err(_) => false,
+    }
 }
 
 /// Whether the deck of so many jobs is the one that its text spells.
-fn is_that_of_its_text(alloc: Global, jobs: u32) -> Result<bool, Fail> {
-    let made = made_told(alloc, jobs)?;
-    let read = read_told(alloc, jobs)?;
-    Ok(made.as_slice() == read.as_slice())
-}
-
-fn first_wrong_deck(alloc: Global, decks: &[u32]) -> Result<Option<usize>, Fail> {
-    for (place, jobs) in decks.iter().enumerate() {
-        if !is_that_of_its_text(alloc, *jobs)? {
-            return Ok(Some(place));
-        }
-    }
-    Ok(None)
+fn is_that_of_its_text(alloc: Global, jobs: u32) -> Result<bool, AllocError> {
+    let text = text_of(alloc, jobs)?;
+    Ok(is_made(alloc, text.as_bytes(), jobs))
 }
 
 #[test]
 fn the_deck_is_that_of_its_text(rt: HostRuntime) -> Result<(), Fail> {
-    expect_none(rt.alloc(), first_wrong_deck(rt.alloc(), &[1, 4, 16])?)
+    let decks = [1, 4, 16];
+    for place in 0..decks.len() {
+        expect_row(
+            "the decks",
+            place,
+            is_that_of_its_text(rt.alloc(), decks[place])?,
+        )?;
+    }
+    Ok(())
 }
 
 /// A page that begins with these two bytes.
@@ -134,36 +165,25 @@ fn page_of(alloc: Global, high: u8, low: u8) -> Result<Page, Fail> {
     Ok(page)
 }
 
-/// A Put of such a page, and its reply.
-fn push_put(
-    history: &mut Vec<Entry>,
-    alloc: Global,
-    bytes: (u8, u8),
-    reply: Reply,
-) -> Result<(), Fail> {
+/// A Put of such a page, which is done or comes too late.
+fn put_of(alloc: Global, bytes: (u8, u8), is_done: bool) -> Result<Entry, Fail> {
+    let page = page_of(alloc, bytes.0, bytes.1)?;
     let request = Request::Put {
         channel: 1,
         block: 1,
-        page: page_of(alloc, bytes.0, bytes.1)?,
+        page,
     };
-    history.push(Entry {
-        job: 0,
-        request,
-        reply,
-    })?;
-    Ok(())
+    let reply = if is_done { Reply::Done } else { Reply::Expired };
+    Ok(Entry::new(0, request, reply))
 }
 
 /// Puts, of which one is refused, and what stands between.
 fn push_puts(history: &mut Vec<Entry>, alloc: Global) -> Result<(), Fail> {
-    push_put(history, alloc, (0, 1), Reply::Done)?;
-    history.push(Entry {
-        job: 1,
-        request: Request::Tick,
-        reply: Reply::Done,
-    })?;
-    push_put(history, alloc, (1, 2), Reply::Done)?;
-    push_put(history, alloc, (9, 9), Reply::Expired)
+    history.push(put_of(alloc, (0, 1), true)?)?;
+    history.push(Entry::new(1, Request::Tick, Reply::Done))?;
+    history.push(put_of(alloc, (1, 2), true)?)?;
+    history.push(put_of(alloc, (9, 9), false)?)?;
+    Ok(())
 }
 
 fn tally_of_puts(alloc: Global) -> Result<Tally, Fail> {
@@ -175,7 +195,7 @@ fn tally_of_puts(alloc: Global) -> Result<Tally, Fail> {
 /// Fails with the line of a drill of one job that comes to this, unless it is that one.
 fn expect_line(alloc: Global, told: Tally, want: &[u8]) -> Result<(), Fail> {
     let line = drill_line(alloc, 1, told)?;
-    expect_bytes(alloc, line.as_slice(), want)
+    expect_bytes(line.as_slice(), want)
 }
 
 #[test]

@@ -1,6 +1,6 @@
 //! Sources and sinks: what each call takes and gives, and where it fails.
 
-use crate::expects::{expect, expect_bytes, expect_none};
+use crate::expects::{expect, expect_bytes, expect_row};
 use rsts_io::{
     DribbleSink, DribbleSource, Gave, INPUT_LIMIT, MemorySink, MemorySource, PlainSink,
     PlainSource, ReadEnd, SINK_ROOM, Sink, Source, StdSink, StdSource, Took, read_all,
@@ -10,12 +10,15 @@ use std::io;
 use std::io::{Read, Write};
 use std::test::Fail;
 
-/// Takes from the source so often, through a buffer of two bytes, and tells the answers.
-fn answers<S: Source>(source: &mut S, answers: &mut [Took]) {
-    for answer in answers.iter_mut() {
+/// Whether a source answers so, through a buffer of two bytes.
+fn is_answered<S: Source>(source: &mut S, want: &[Took]) -> bool {
+    for answer in want {
         let mut buffer = [0u8; 2];
-        *answer = source.take(&mut buffer);
+        if source.take(&mut buffer) != *answer {
+            return false;
+        }
     }
+    true
 }
 
 /// Gives the sink the text's next bytes so often, as far as it has taken them, and tells the
@@ -34,7 +37,9 @@ fn gifts<K: Sink>(sink: &mut K, text: &[u8], gifts: &mut [Gave]) {
 }
 
 /// Which calls of a source of three bytes fail, and its answers.
-static SOURCES: [(&[u64], [Took; 4]); 5] = [
+type FailingSource = (&'static [u64], [Took; 4]);
+
+static SOURCES: [FailingSource; 5] = [
     (&[], [Took::Bytes(2), Took::Bytes(1), Took::End, Took::End]),
     (
         &[1],
@@ -55,39 +60,40 @@ static SOURCES: [(&[u64], [Took; 4]); 5] = [
 ];
 
 /// Whether a source of which these calls fail answers so.
-fn is_taken(alloc: Global, failing: &[u64], want: &[Took]) -> Result<bool, Fail> {
-    let mut source = MemorySource::new(alloc, b"abc", failing)?;
-    let mut got = [Took::End; 4];
-    answers(&mut source, &mut got);
-    Ok(got.as_slice() == want)
+fn is_taken(alloc: Global, failing: &[u64], want: &[Took]) -> bool {
+    match MemorySource::new(alloc, b"abc", failing) {
+        Ok(mut source) => is_answered(&mut source, want),
+        Err(_) => false,
+    }
 }
 
-fn first_wrong_source(alloc: Global) -> Result<Option<usize>, Fail> {
-    for (place, (failing, want)) in SOURCES.iter().enumerate() {
-        if !is_taken(alloc, failing, want)? {
-            return Ok(Some(place));
-        }
+fn expect_taken(alloc: Global, rows: &[FailingSource]) -> Result<(), Fail> {
+    for place in 0..rows.len() {
+        let row = &rows[place];
+        expect_row("the sources", place, is_taken(alloc, row.0, &row.1))?;
     }
-    Ok(None)
+    Ok(())
 }
 
 /// The same of a source of which no call fails.
-fn is_plainly_taken(alloc: Global, want: &[Took]) -> Result<bool, Fail> {
-    let mut source = PlainSource::new(alloc, b"abc")?;
-    let mut got = [Took::Failed; 4];
-    answers(&mut source, &mut got);
-    Ok(got.as_slice() == want)
+fn is_plainly_taken(alloc: Global, want: &[Took]) -> bool {
+    match PlainSource::new(alloc, b"abc") {
+        Ok(mut source) => is_answered(&mut source, want),
+        Err(_) => false,
+    }
 }
 
 #[test]
 fn each_call_of_a_source_fails_in_turn(rt: HostRuntime) -> Result<(), Fail> {
-    expect_none(rt.alloc(), first_wrong_source(rt.alloc())?)?;
+    expect_taken(rt.alloc(), &SOURCES)?;
     let want = [Took::Bytes(2), Took::Bytes(1), Took::End, Took::End];
-    expect(is_plainly_taken(rt.alloc(), &want)?, "a plain source")
+    expect(is_plainly_taken(rt.alloc(), &want), "a plain source")
 }
 
 /// Which calls of a sink fail, its answers, and what it has then.
-static SINKS: [(&[u64], [Gave; 2], &[u8]); 3] = [
+type FailingSink = (&'static [u64], [Gave; 2], &'static [u8]);
+
+static SINKS: [FailingSink; 3] = [
     (&[], [Gave::Bytes(3), Gave::Failed], b"abc"),
     (&[1], [Gave::Failed, Gave::Bytes(3)], b"abc"),
     (&[1, 2], [Gave::Failed, Gave::Failed], b""),
@@ -101,18 +107,17 @@ fn is_given(alloc: Global, failing: &[u64], want: &[Gave], bytes: &[u8]) -> Resu
     Ok(got.as_slice() == want && sink.bytes() == bytes)
 }
 
-fn first_wrong_sink(alloc: Global) -> Result<Option<usize>, Fail> {
-    for (place, (failing, want, bytes)) in SINKS.iter().enumerate() {
-        if !is_given(alloc, failing, want, bytes)? {
-            return Ok(Some(place));
-        }
+fn expect_given(alloc: Global, rows: &[FailingSink]) -> Result<(), Fail> {
+    for place in 0..rows.len() {
+        let row = &rows[place];
+        expect_row("the sinks", place, is_given(alloc, row.0, &row.1, row.2)?)?;
     }
-    Ok(None)
+    Ok(())
 }
 
 #[test]
 fn each_call_of_a_sink_fails_in_turn(rt: HostRuntime) -> Result<(), Fail> {
-    expect_none(rt.alloc(), first_wrong_sink(rt.alloc())?)
+    expect_given(rt.alloc(), &SINKS)
 }
 
 /// Whether a sink answers so to a piece that it is given three times, and is full then.
@@ -168,11 +173,11 @@ static DRIBBLES: [Dribble; 3] = [
 ];
 
 /// Whether a source that gives at most so many bytes a call, at least one, answers so.
-fn is_taken_slowly(alloc: Global, most: usize, want: &[Took]) -> Result<bool, Fail> {
-    let mut source = DribbleSource::new(alloc, b"abc", most.max(1))?;
-    let mut got = [Took::Failed; 4];
-    answers(&mut source, &mut got);
-    Ok(got.as_slice() == want)
+fn is_taken_slowly(alloc: Global, most: usize, want: &[Took]) -> bool {
+    match DribbleSource::new(alloc, b"abc", most.max(1)) {
+        Ok(mut source) => is_answered(&mut source, want),
+        Err(_) => false,
+    }
 }
 
 /// Whether a sink that takes at most so many answers so, and has these bytes then.
@@ -183,20 +188,19 @@ fn is_given_slowly(alloc: Global, most: usize, want: &[Gave], bytes: &[u8]) -> R
     Ok(got.as_slice() == want && sink.bytes() == bytes)
 }
 
-fn first_wrong_dribble(alloc: Global) -> Result<Option<usize>, Fail> {
-    for (place, (most, taken, given, bytes)) in DRIBBLES.iter().enumerate() {
-        let is_right = is_taken_slowly(alloc, *most, taken)?
-            && is_given_slowly(alloc, *most, given, bytes)?;
-        if !is_right {
-            return Ok(Some(place));
-        }
+fn expect_dribbles(alloc: Global, rows: &[Dribble]) -> Result<(), Fail> {
+    for place in 0..rows.len() {
+        let row = &rows[place];
+        expect_row("the sources", place, is_taken_slowly(alloc, row.0, &row.1))?;
+        let is_given = is_given_slowly(alloc, row.0, &row.2, row.3)?;
+        expect_row("the sinks", place, is_given)?;
     }
-    Ok(None)
+    Ok(())
 }
 
 #[test]
 fn few_bytes_move_a_call(rt: HostRuntime) -> Result<(), Fail> {
-    expect_none(rt.alloc(), first_wrong_dribble(rt.alloc())?)
+    expect_dribbles(rt.alloc(), &DRIBBLES)
 }
 
 /// A reader that gives one byte a call, and fails once, before its second byte.
@@ -285,37 +289,41 @@ fn a_sink_goes_on_behind_a_failed_write(rt: HostRuntime) -> Result<(), Fail> {
     let got = gifts_kept(&mut kept, b"abcde");
     let want = [Gave::Bytes(2), Gave::Failed, Gave::Bytes(2), Gave::Failed];
     expect(got == want, "a sink behind a failed write")?;
-    expect_bytes(rt.alloc(), kept.as_slice(), b"abcd")
+    expect_bytes(kept.as_slice(), b"abcd")
 }
 
 /// How many bytes a source has, and why they are not read.
-static LENGTHS: [(usize, Option<ReadEnd>); 4] = [
+type Length = (usize, Option<ReadEnd>);
+
+static LENGTHS: [Length; 4] = [
     (0, None),
     (5000, None),
     (INPUT_LIMIT, None),
     (INPUT_LIMIT + 1, Some(ReadEnd::TooLong)),
 ];
 
-/// Whether a source of so many bytes is read whole, or is not read for this reason.
-fn is_read(alloc: Global, count: usize, why: Option<ReadEnd>) -> Result<bool, Fail> {
-    let bytes = vec![in alloc; b'A'; count]?;
-    let mut source = PlainSource::new(alloc, &bytes[..])?;
+/// Whether a source of so many letters is read whole, or is not read for this reason.
+fn is_read(alloc: Global, letters: &[u8], row: &Length) -> Result<bool, Fail> {
+    if row.0 > letters.len() {
+        return Ok(false);
+    }
+    let mut source = PlainSource::new(alloc, &letters[..row.0])?;
     Ok(match read_all(alloc, &mut source, INPUT_LIMIT) {
-        Ok(read) => why == None && read.len() == count,
-        Err(end) => why == Some(end),
+        Ok(read) => row.1 == None && read.len() == row.0,
+        Err(end) => row.1 == Some(end),
     })
 }
 
-fn first_wrong_length(alloc: Global) -> Result<Option<usize>, Fail> {
-    for (place, (count, why)) in LENGTHS.iter().enumerate() {
-        if !is_read(alloc, *count, *why)? {
-            return Ok(Some(place));
-        }
+fn expect_read(alloc: Global, letters: &[u8], rows: &[Length]) -> Result<(), Fail> {
+    for place in 0..rows.len() {
+        let is_so = is_read(alloc, letters, &rows[place])?;
+        expect_row("the lengths", place, is_so)?;
     }
-    Ok(None)
+    Ok(())
 }
 
 #[test]
 fn a_source_is_read_to_its_end(rt: HostRuntime) -> Result<(), Fail> {
-    expect_none(rt.alloc(), first_wrong_length(rt.alloc())?)
+    let letters = vec![in rt.alloc(); b'A'; INPUT_LIMIT + 1]?;
+    expect_read(rt.alloc(), letters.as_slice(), &LENGTHS)
 }

@@ -1,10 +1,10 @@
 //! The texts of histories.
 
 use crate::expects::expect_bytes;
-use basic_values::{Fault, Series, Text};
+use basic_values::{Fault, NoMemory, Series, Text};
 use monitor_calls::{Account, Entry, Page, Reply, Request, Short};
 use report_texts::push_history;
-use std::alloc::Global;
+use std::alloc::{AllocError, Global};
 use std::test::Fail;
 
 fn push_entry(
@@ -23,7 +23,9 @@ fn push_login(history: &mut Vec<Entry>, text: &[u8]) -> Result<(), Fail> {
         project: 100,
         programmer: 5,
     };
-    let password = Short::of(text).ok_or("no short text")?;
+    let Some(password) = Short::of(text) else {
+        return Err(Fail::new("no short text"));
+    };
     let request = Request::Login { account, password };
     push_entry(history, 62, request, Reply::Failed(Fault::new(5)))
 }
@@ -37,17 +39,16 @@ fn push_logins(history: &mut Vec<Entry>) -> Result<(), Fail> {
 }
 
 /// The text of an empty history, and that of these calls behind it.
-fn push_texts(out: &mut Vec<u8>, history: &[Entry]) -> Result<(), Fail> {
+fn push_texts(out: &mut Vec<u8>, history: &[Entry]) -> Result<(), NoMemory> {
     push_history(out, &[])?;
-    push_history(out, history)?;
-    Ok(())
+    push_history(out, history)
 }
 
 /// Fails with these texts, unless they are this.
 fn expect_texts(alloc: Global, history: &[Entry], want: &[u8]) -> Result<(), Fail> {
     let mut found = Vec::new(alloc);
     push_texts(&mut found, history)?;
-    expect_bytes(alloc, found.as_slice(), want)
+    expect_bytes(found.as_slice(), want)
 }
 
 #[test]
@@ -86,16 +87,18 @@ fn push_reading(history: &mut Vec<Entry>, alloc: Global, letters: &[u8]) -> Resu
     push_entry(history, 0, request, Reply::Record(pages))
 }
 
-fn push_writing(
-    history: &mut Vec<Entry>,
-    alloc: Global,
-    letters: &[u8],
-    reply: Reply,
-) -> Result<(), Fail> {
+/// A writing of such blocks, which is done where there are any.
+fn push_writing(history: &mut Vec<Entry>, alloc: Global, letters: &[u8]) -> Result<(), Fail> {
+    let pages = pages(alloc, letters)?;
     let request = Request::PutRecord {
         channel: 12,
         block: 65535,
-        pages: pages(alloc, letters)?,
+        pages,
+    };
+    let reply = if letters.is_empty() {
+        Reply::Failed(Fault::new(31))
+    } else {
+        Reply::Done
     };
     push_entry(history, 62, request, reply)
 }
@@ -103,11 +106,11 @@ fn push_writing(
 /// A record of two blocks that is read, one that is written, and one of no block.
 fn push_records(history: &mut Vec<Entry>, alloc: Global) -> Result<(), Fail> {
     push_reading(history, alloc, b"Ab")?;
-    push_writing(history, alloc, b"z", Reply::Done)?;
-    push_writing(history, alloc, b"", Reply::Failed(Fault::new(31)))
+    push_writing(history, alloc, b"z")?;
+    push_writing(history, alloc, b"")
 }
 
-fn push_times(out: &mut Vec<u8>, signs: &[u8], times: u32) -> Result<(), Fail> {
+fn push_times(out: &mut Vec<u8>, signs: &[u8], times: u32) -> Result<(), AllocError> {
     for _ in 0..times {
         out.extend_from_slice(signs)?;
     }
@@ -124,32 +127,32 @@ static RECORDS: [(&[u8], u32); 6] = [
     (b" = DONE\n62 PUTREC 12 65535 - = FAILED 31\n", 1),
 ];
 
-/// The text of the parts.
-fn text_of(alloc: Global, parts: &[(&[u8], u32)]) -> Result<Vec<u8>, Fail> {
-    let mut out = Vec::new(alloc);
+fn push_parts(out: &mut Vec<u8>, parts: &[(&[u8], u32)]) -> Result<(), AllocError> {
     for (signs, times) in parts {
-        push_times(&mut out, signs, *times)?;
+        push_times(out, signs, *times)?;
     }
-    Ok(out)
+    Ok(())
+}
+
+/// Fails unless the texts are the parts.
+fn expect_parts(alloc: Global, history: &[Entry], parts: &[(&[u8], u32)]) -> Result<(), Fail> {
+    let mut want = Vec::new(alloc);
+    push_parts(&mut want, parts)?;
+    expect_texts(alloc, history, want.as_slice())
 }
 
 #[test]
 fn a_record_is_one_run_of_signs(rt: HostRuntime) -> Result<(), Fail> {
-    let want = text_of(rt.alloc(), &RECORDS)?;
     let mut history = Vec::new(rt.alloc());
     push_records(&mut history, rt.alloc())?;
-    expect_texts(rt.alloc(), history.as_slice(), want.as_slice())
-}
-
-fn printing(alloc: Global, text: &[u8]) -> Result<Request, Fail> {
-    match Text::of(alloc, text) {
-        Ok(text) => Ok(Request::Print { text }),
-        Err(_) => Err("no text")?,
-    }
+    expect_parts(rt.alloc(), history.as_slice(), &RECORDS)
 }
 
 fn push_printing(history: &mut Vec<Entry>, alloc: Global, text: &[u8]) -> Result<(), Fail> {
-    push_entry(history, 0, printing(alloc, text)?, Reply::Done)
+    match Text::of(alloc, text) {
+        Ok(text) => push_entry(history, 0, Request::Print { text }, Reply::Done),
+        Err(_) => Err(Fail::new("no text")),
+    }
 }
 
 /// Each call of the printer, by one job.

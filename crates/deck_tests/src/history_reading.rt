@@ -1,36 +1,27 @@
 //! The reading of histories.
 
-use crate::expects::expect_none;
+use crate::expects::expect_row;
 use basic_values::Trouble;
 use history_reader::read_history;
 use monitor_calls::Entry;
 use report_texts::push_history;
-use std::alloc::Global;
+use std::alloc::{AllocError, Global};
 use std::test::Fail;
 
 /// Some lines of a text and how many of its whole lines begin that of a history.
 type Row = (&'static [u8], usize);
 
-/// A text of one line and this one behind it.
-fn text_of(alloc: Global, line: &[u8]) -> Result<Vec<u8>, Fail> {
-    let mut text = b"HISTORY 1\n".to_vec(alloc)?;
-    text.extend_from_slice(line)?;
-    text.push(b'\n')?;
-    Ok(text)
-}
-
 /// Whether the text is that of this history.
-fn is_text_of(alloc: Global, history: &[Entry], text: &[u8]) -> Result<bool, Fail> {
+fn is_text_of(alloc: Global, history: &[Entry], text: &[u8]) -> bool {
     let mut again = Vec::new(alloc);
-    push_history(&mut again, history)?;
-    Ok(again.as_slice() == text)
+    push_history(&mut again, history).is_ok() && again.as_slice() == text
 }
 
 /// Whether a history is read of the text, and its text is this one.
-fn is_read_back(alloc: Global, text: &[u8]) -> Result<bool, Fail> {
+fn is_read_back(alloc: Global, text: &[u8]) -> bool {
     match read_history(alloc, text) {
         Ok(history) => is_text_of(alloc, history.as_slice(), text),
-        Err(_) => Ok(false),
+        Err(_) => false,
     }
 }
 
@@ -42,50 +33,38 @@ fn refusal(alloc: Global, text: &[u8]) -> Option<usize> {
     }
 }
 
-/// Whether a text of this line is read as it was written.
-fn is_line_read(alloc: Global, line: &[u8]) -> Result<bool, Fail> {
-    let text = text_of(alloc, line)?;
-    is_read_back(alloc, text.as_slice())
-}
-
-/// The place of the first line that is not read as it was written.
-fn first_unread(alloc: Global, lines: &[&'static [u8]]) -> Result<Option<usize>, Fail> {
-    for (place, line) in lines.iter().enumerate() {
-        if !is_line_read(alloc, line)? {
-            return Ok(Some(place));
-        }
+/// Whether a text of this line is read as it was written, or is refused behind its first line.
+fn is_answered(alloc: Global, line: &[u8], is_read: bool) -> bool {
+    match [b"HISTORY 1\n".as_slice(), line, b"\n"].concat(alloc) {
+        Ok(text) if is_read => is_read_back(alloc, text.as_slice()),
+        Ok(text) => refusal(alloc, text.as_slice()) == Some(1),
+        Err(_) => false,
     }
-    Ok(None)
 }
 
-/// Whether a text of this line is refused behind its first line.
-fn is_line_refused(alloc: Global, line: &[u8]) -> Result<bool, Fail> {
-    let text = text_of(alloc, line)?;
-    Ok(refusal(alloc, text.as_slice()) == Some(1))
-}
-
-/// The place of the first line that is not refused.
-fn first_taken(alloc: Global, lines: &[&'static [u8]]) -> Result<Option<usize>, Fail> {
-    for (place, line) in lines.iter().enumerate() {
-        if !is_line_refused(alloc, line)? {
-            return Ok(Some(place));
-        }
+/// Fails with the first line that is answered otherwise.
+fn expect_answers(alloc: Global, lines: &[&[u8]], is_read: bool) -> Result<(), Fail> {
+    for place in 0..lines.len() {
+        expect_row(
+            "the lines",
+            place,
+            is_answered(alloc, lines[place], is_read),
+        )?;
     }
-    Ok(None)
+    Ok(())
 }
 
-/// The place of the first text that is refused elsewhere, or not.
-fn first_wrong(alloc: Global, rows: &[Row]) -> Option<usize> {
-    for (place, (text, good)) in rows.iter().enumerate() {
-        if refusal(alloc, text) != Some(*good) {
-            return Some(place);
-        }
+/// Fails with the first text that is refused elsewhere, or not.
+fn expect_refusals(alloc: Global, rows: &[Row]) -> Result<(), Fail> {
+    for place in 0..rows.len() {
+        let (text, good) = rows[place];
+        expect_row("the texts", place, refusal(alloc, text) == Some(good))?;
     }
-    None
+    Ok(())
 }
 
 /// Each request and each reply but those of blocks, at the ends of their types.
-static WRITTEN: [&'static [u8]; 33] = [
+static WRITTEN: [&[u8]; 33] = [
     b"0 LOGIN 1,2 - = FAILED 5",
     b"62 LOGIN 255,0 44454d6f = DONE",
     b"4294967295 LOGOUT = DONE",
@@ -121,13 +100,17 @@ static WRITTEN: [&'static [u8]; 33] = [
     b"1 STATUS = STATE 0 1,2 65535",
 ];
 
+fn written() -> &'static [&'static [u8]] {
+    &WRITTEN
+}
+
 #[test]
 fn each_entry_is_read_back(rt: HostRuntime) -> Result<(), Fail> {
-    expect_none(rt.alloc(), first_unread(rt.alloc(), WRITTEN.as_slice())?)
+    expect_answers(rt.alloc(), written(), true)
 }
 
 /// Lines that are wrong in one way each.
-static BROKEN: [&'static [u8]; 126] = [
+static BROKEN: [&[u8]; 126] = [
     b"",
     b"0",
     b"0 ",
@@ -256,9 +239,13 @@ static BROKEN: [&'static [u8]; 126] = [
     b"0 TICK = FAILED 5 5",
 ];
 
+fn broken() -> &'static [&'static [u8]] {
+    &BROKEN
+}
+
 #[test]
 fn each_broken_line_is_refused(rt: HostRuntime) -> Result<(), Fail> {
-    expect_none(rt.alloc(), first_taken(rt.alloc(), BROKEN.as_slice())?)
+    expect_answers(rt.alloc(), broken(), false)
 }
 
 /// Texts that are no history's.
@@ -302,25 +289,13 @@ static TEXTS: [Row; 28] = [
     ),
 ];
 
+fn texts() -> &'static [Row] {
+    &TEXTS
+}
+
 #[test]
 fn a_text_is_refused_behind_its_good_lines(rt: HostRuntime) -> Result<(), Fail> {
-    expect_none(rt.alloc(), first_wrong(rt.alloc(), TEXTS.as_slice()))
-}
-
-/// So many bytes as signs, and this end.
-fn push_signs(line: &mut Vec<u8>, bytes: u32, end: &[u8]) -> Result<(), Fail> {
-    for _ in 0..bytes {
-        line.extend_from_slice(b"0f")?;
-    }
-    line.extend_from_slice(end)?;
-    Ok(())
-}
-
-/// A line with this front, so many bytes as signs, and this end.
-fn line_of(alloc: Global, front: &[u8], bytes: u32, end: &[u8]) -> Result<Vec<u8>, Fail> {
-    let mut line = front.to_vec(alloc)?;
-    push_signs(&mut line, bytes, end)?;
-    Ok(line)
+    expect_refusals(rt.alloc(), texts())
 }
 
 /// What stands before a block or blocks, how many bytes they have, what stands behind them, and
@@ -344,23 +319,44 @@ static PAGES: [PageRow; 14] = [
     (b"0 GETREC 1 1 3 = RECORD ", 512, b"-", false),
 ];
 
-/// Whether the line of a row is read as it was written.
-fn is_page_read(alloc: Global, row: &PageRow) -> Result<bool, Fail> {
-    let line = line_of(alloc, row.0, row.1, row.2)?;
-    is_line_read(alloc, line.as_slice())
+fn pages() -> &'static [PageRow] {
+    &PAGES
 }
 
-/// The place of the first row that is told otherwise.
-fn first_page_wrong(alloc: Global, rows: &[PageRow]) -> Result<Option<usize>, Fail> {
-    for (place, row) in rows.iter().enumerate() {
-        if is_page_read(alloc, row)? != row.3 {
-            return Ok(Some(place));
-        }
+/// Whether a text of a line with this front, these signs and this end is read as it was written.
+fn is_page_read(alloc: Global, front: &[u8], signs: &[u8], end: &[u8]) -> bool {
+    match [b"HISTORY 1\n".as_slice(), front, signs, end, b"\n"].concat(alloc) {
+        Ok(text) => is_read_back(alloc, text.as_slice()),
+        Err(_) => false,
     }
-    Ok(None)
+}
+
+/// Whether a row is answered so, with as many of these signs as it has.
+fn is_page_answered(alloc: Global, signs: &[u8], row: &PageRow) -> bool {
+    let count = row.1 as usize * 2;
+    if count > signs.len() {
+        return false;
+    }
+    is_page_read(alloc, row.0, &signs[..count], row.2) == row.3
+}
+
+/// Fails with the first row that is answered otherwise, of blocks of these signs.
+fn expect_pages(alloc: Global, signs: &[u8], rows: &[PageRow]) -> Result<(), Fail> {
+    for place in 0..rows.len() {
+        let is_so = is_page_answered(alloc, signs, &rows[place]);
+        expect_row("the blocks", place, is_so)?;
+    }
+    Ok(())
+}
+
+/// The signs of so many bytes.
+fn signs_of(alloc: Global, bytes: usize) -> Result<Vec<u8>, AllocError> {
+    let pairs = vec![in alloc; *b"0f"; bytes]?;
+    pairs.as_slice().concat(alloc)
 }
 
 #[test]
 fn blocks_are_whole(rt: HostRuntime) -> Result<(), Fail> {
-    expect_none(rt.alloc(), first_page_wrong(rt.alloc(), PAGES.as_slice())?)
+    let signs = signs_of(rt.alloc(), 1536)?;
+    expect_pages(rt.alloc(), signs.as_slice(), pages())
 }

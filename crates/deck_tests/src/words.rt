@@ -1,6 +1,6 @@
 //! What the words behind the program's name ask for.
 
-use crate::expects::expect_none;
+use crate::expects::expect_row;
 use program_words::{Asked, Wanted, asked_by};
 use std::alloc::Global;
 use std::test::Fail;
@@ -95,25 +95,33 @@ static ROWS: [Row; 60] = [
     (&["replay", "--", "--history"], Asked::Nothing),
 ];
 
-/// What the words ask for.
-fn told(alloc: Global, row: &[&str]) -> Result<Asked, Fail> {
-    let mut words = Vec::new(alloc);
+fn rows() -> &'static [Row] {
+    &ROWS
+}
+
+/// The words, as the program has them.
+fn push_words(words: &mut Vec<String>, alloc: Global, row: &[&str]) -> Result<(), Fail> {
     for word in row {
         words.push(String::from_str(alloc, word)?)?;
     }
-    Ok(asked_by(alloc, &words)?)
+    Ok(())
 }
 
-fn first_wrong(alloc: Global) -> Result<Option<usize>, Fail> {
-    for (place, (words, want)) in ROWS.iter().enumerate() {
-        if told(alloc, words)? != *want {
-            return Ok(Some(place));
-        }
+/// Whether the words ask for this.
+fn is_asked(alloc: Global, row: &Row) -> Result<bool, Fail> {
+    let mut words = Vec::new(alloc);
+    push_words(&mut words, alloc, row.0)?;
+    Ok(asked_by(alloc, &words)? == row.1)
+}
+
+fn expect_asked(alloc: Global, rows: &[Row]) -> Result<(), Fail> {
+    for place in 0..rows.len() {
+        expect_row("the words", place, is_asked(alloc, &rows[place])?)?;
     }
-    Ok(None)
+    Ok(())
 }
 
 #[test]
 fn words_ask_for_what_one_flat_command_takes(rt: HostRuntime) -> Result<(), Fail> {
-    expect_none(rt.alloc(), first_wrong(rt.alloc())?)
+    expect_asked(rt.alloc(), rows())
 }
