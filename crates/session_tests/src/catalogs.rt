@@ -16,21 +16,30 @@ const OWNER: Account = Account {
 /// The replies of a port, what the catalog shows, what it asks, and how it ends.
 type Row = (&'static [Said], &'static [u8], &'static str, u8);
 
-/// A catalog over a port: the screen, and how the call ended.
-fn shown(alloc: Global, port: &mut ScriptPort) -> Result<(Screen, u8), Fail> {
-    let mut screen = Screen::new(alloc);
+/// Shows a catalog over a port behind CAT, and gives how the call ended.
+fn shown(alloc: Global, port: &mut ScriptPort, screen: &mut Screen) -> Result<u8, Fail> {
     screen.write(b"CAT\r\n")?;
-    let outcome = show_catalog(alloc, port, OWNER, &mut screen);
-    Ok((screen, ending(&outcome)))
+    Ok(ending(&show_catalog(alloc, port, OWNER, screen)))
+}
+
+/// Fails unless a catalog over a port shows, asks and ends so.
+fn expect_over(
+    alloc: Global,
+    port: &mut ScriptPort,
+    screen: &mut Screen,
+    row: &Row,
+) -> Result<(), Fail> {
+    let ending = shown(alloc, port, screen)?;
+    if screen.bytes() != row.1 {
+        return Err(Fail::from("another catalog is shown"));
+    }
+    expect_asked(alloc, port, row.2, ending, row.3)
 }
 
 fn expect(alloc: Global, row: &Row) -> Result<(), Fail> {
     let mut port = port_of(alloc, row.0)?;
-    let (screen, ending) = shown(alloc, &mut port)?;
-    if screen.bytes() != row.1 {
-        return Err("another catalog is shown")?;
-    }
-    expect_asked(alloc, &port, row.2, ending, row.3)
+    let mut screen = Screen::new(alloc);
+    expect_over(alloc, &mut port, &mut screen, row)
 }
 
 static LINES: Row = (
@@ -86,12 +95,20 @@ fn full_port(alloc: Global) -> Result<ScriptPort, Fail> {
     port_of(alloc, script.as_slice())
 }
 
+/// Fails unless a catalog is asked for 512 files, and shows a line for each.
+fn expect_full(alloc: Global, port: &mut ScriptPort, screen: &mut Screen) -> Result<(), Fail> {
+    let ending = shown(alloc, port, screen)?;
+    if ending == 0 && port.log().len() == 512 && screen.bytes().len() == 5 + 512 * 24 {
+        Ok(())
+    } else {
+        Err(Fail::from("another end, or not 512 files and their lines"))
+    }
+}
+
 /// Behind CAT and its CR LF stand 512 lines of 24 bytes.
 #[test]
 fn no_index_above_511_is_asked(rt: HostRuntime) -> Result<(), Fail> {
     let mut port = full_port(rt.alloc())?;
-    let (screen, ending) = shown(rt.alloc(), &mut port)?;
-    let counts = (ending, port.log().len(), screen.bytes().len());
-    assert_eq!(rt; counts, (0, 512, 5 + 512 * 24));
-    Ok(())
+    let mut screen = Screen::new(rt.alloc());
+    expect_full(rt.alloc(), &mut port, &mut screen)
 }

@@ -1,7 +1,7 @@
 //! Pages that are read and written, and files that are taken away.
 
 use crate::scripts::{Said, ending, expect_asked, named, page_of, port_of};
-use monitor_calls::{OpenKind, Page};
+use monitor_calls::{FileName, OpenKind, Page, ScriptPort};
 use program_files::{kill_file, read_pages, write_pages};
 use std::alloc::Global;
 use std::test::Fail;
@@ -38,13 +38,17 @@ fn expect_written(alloc: Global, kind: OpenKind, row: &Row) -> Result<(), Fail> 
     expect_asked(alloc, &port, row.1, ending(&written), row.2)
 }
 
-/// The first byte of each page of a file.
-fn first_bytes(alloc: Global, pages: &[Page]) -> Result<Vec<u8>, Fail> {
-    let mut bytes = Vec::new(alloc);
-    for page in pages {
-        bytes.push(page.as_bytes()[0])?;
+/// Whether there are two pages, which begin with A and with B.
+fn are_a_and_b(pages: &[Page]) -> bool {
+    pages.len() == 2 && pages[0].as_bytes()[0] == b'A' && pages[1].as_bytes()[0] == b'B'
+}
+
+/// Fails unless these are the pages of a file.
+fn expect_a_and_b(alloc: Global, port: &mut ScriptPort, name: FileName) -> Result<(), Fail> {
+    match read_pages(alloc, port, name, None) {
+        Ok(pages) if are_a_and_b(pages.as_slice()) => Ok(()),
+        _ => Err(Fail::from("the pages do not come in order")),
     }
-    Ok(bytes)
 }
 
 static TWO_BLOCKS: [Said; 4] = [
@@ -56,16 +60,10 @@ static TWO_BLOCKS: [Said; 4] = [
 
 #[test]
 fn pages_come_in_order(rt: HostRuntime) -> Result<(), Fail> {
-    let alloc = rt.alloc();
-    let mut port = port_of(alloc, &TWO_BLOCKS)?;
-    let pages = read_pages(alloc, &mut port, named(b"DEMO", b"BAS")?, None);
-    let firsts = match pages {
-        Ok(pages) => first_bytes(alloc, pages.as_slice())?,
-        Err(_) => Vec::new(alloc),
-    };
-    assert_eq!(rt; firsts.as_slice(), [65, 66].as_slice());
+    let mut port = port_of(rt.alloc(), &TWO_BLOCKS)?;
+    expect_a_and_b(rt.alloc(), &mut port, named(b"DEMO", b"BAS")?)?;
     let requests = "input 0 false 99\nget 0 1\nget 0 2\nclose 0\n";
-    expect_asked(alloc, &port, requests, 0, 0)
+    expect_asked(rt.alloc(), &port, requests, 0, 0)
 }
 
 static NO_BLOCKS: Row = (
