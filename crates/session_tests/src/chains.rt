@@ -1,13 +1,7 @@
 //! CHAIN: how the next program is read and begins, what it finds, and what a refused one leaves.
 
-use crate::talks::{Answer, HELLO, Row, expect_of_files, expect_talk};
+use crate::talks::{Answer, HELLO, Talk, expect_talk, expect_talks};
 use std::test::Fail;
-
-/// Lines behind the login with what they show, the answers behind that to the login, and what is
-/// asked between the login and the logout.
-type Talk = (&'static [Row], &'static [Answer], &'static str);
-
-const READ_B: &str = "Input [100,5]B.BAS Opened 1\nGet 1 Block\nClose 0 Done\n";
 
 /// An error of the reading is one of the CHAIN, and the program stays.
 const REFUSED: Talk = (
@@ -141,7 +135,7 @@ const UNSOUND: Talk = (
         Answer::Done,
         Answer::Done,
     ],
-    READ_B,
+    "Input [100,5]B.BAS Opened 1\nGet 1 Block\nClose 0 Done\n",
 );
 
 /// Variables and the trap are those of a program that begins, core common stays, and channels are
@@ -270,10 +264,7 @@ static CHAINS: [Talk; 10] = [
 
 #[test]
 fn programs_chain(rt: HostRuntime) -> Result<(), Fail> {
-    for talk in CHAINS.iter() {
-        expect_of_files(rt.alloc(), talk.0, talk.1, talk.2)?;
-    }
-    Ok(())
+    expect_talks(rt.alloc(), &CHAINS)
 }
 
 /// The replies of a job whose calls are used up at its third CHAIN.
@@ -290,14 +281,12 @@ static TWICE: [Answer; 8] = [
 
 #[test]
 fn a_chain_without_end_is_ended_by_the_calls(rt: HostRuntime) -> Result<(), Fail> {
-    let log = format!(in rt.alloc();
-        "Login 100,5;DEMO Done\n{READ_B}{READ_B}Input [100,5]B.BAS Expired\n"
-    )?;
     expect_talk(
         rt.alloc(),
         &[HELLO, "CHAIN 'B'"],
         &TWICE,
         "HELLO 100,5;DEMO\nReady\nCHAIN 'B'\n?Job expired\n",
-        log.as_str(),
+        "Login 100,5;DEMO Done\nInput [100,5]B.BAS Opened 1\nGet 1 Block\nClose 0 Done\n\
+         Input [100,5]B.BAS Opened 1\nGet 1 Block\nClose 0 Done\nInput [100,5]B.BAS Expired\n",
     )
 }

@@ -1,14 +1,9 @@
 //! Fields, text on channels, arrays in files, formats and SYS: what they show and ask of a port.
 
-use crate::talks::{Answer, Row, expect_of_files, expect_of_user};
-use std::alloc::Global;
+use crate::talks::{Answer, Row, Talk, expect_of_ready, expect_talks};
 use std::test::Fail;
 
 const READY: &str = "Ready\n";
-
-/// Lines behind the login with what they show, the answers behind that to the login, and what is
-/// asked between the login and the logout.
-type Talk = (&'static [Row], &'static [Answer], &'static str);
 
 /// Parts of a buffer that overlap, an own text, and a variable that was never stored.
 const FIELDS: Talk = (
@@ -182,10 +177,7 @@ static TALKS: [Talk; 5] = [FIELDS, LINES, WAITING, ELEMENTS, MESSAGES];
 
 #[test]
 fn fields_texts_elements_and_messages(rt: HostRuntime) -> Result<(), Fail> {
-    for talk in TALKS.iter() {
-        expect_of_files(rt.alloc(), talk.0, talk.1, talk.2)?;
-    }
-    Ok(())
+    expect_talks(rt.alloc(), &TALKS)
 }
 
 /// A line, and what it shows in front of CR LF and Ready; nothing is asked.
@@ -220,15 +212,7 @@ static SHOWN: [Row; 22] = [
     ("PRINT POS(13%)", "?Illegal I/O channel"),
 ];
 
-fn expect_shown(alloc: Global, line: &str, text: &str) -> Result<(), Fail> {
-    let shown = format!(in alloc; "{text}\n{READY}")?;
-    expect_of_user(alloc, line, shown.as_str())
-}
-
 #[test]
 fn formats_and_refusals_ask_nothing(rt: HostRuntime) -> Result<(), Fail> {
-    for (line, text) in SHOWN.iter() {
-        expect_shown(rt.alloc(), line, text)?;
-    }
-    Ok(())
+    expect_of_ready(rt.alloc(), &SHOWN)
 }

@@ -1,8 +1,10 @@
 //! The commands on files: what they ask of the monitor, and what they show.
 
 use crate::talks::{
-    Answer, ILLEGAL_COMMAND, ILLEGAL_NAME, Row, expect_expiring, expect_of_files, expect_of_user,
+    Answer, Expiring, ILLEGAL_COMMAND, ILLEGAL_NAME, Row, Talk, expect_all_expiring,
+    expect_of_files, expect_of_user, expect_talks,
 };
+use crate::told::{Told, joined};
 use std::alloc::Global;
 use std::test::Fail;
 
@@ -12,15 +14,7 @@ const NO_DEVICE: &str = "?Device not available\nReady\n";
 
 const NO_DATA: &str = "?Data format error\nReady\n";
 
-/// Lines behind the login with what they show, the answers behind that to the login, and what is
-/// asked between the login and the logout.
-type Talk = (&'static [Row], &'static [Answer], &'static str);
-
-fn expect(alloc: Global, talk: &Talk) -> Result<(), Fail> {
-    expect_of_files(alloc, talk.0, talk.1, talk.2)
-}
-
-static KEPT: Talk = (
+static KEPT: [Talk; 1] = [(
     &[
         ("NEW DEMO", READY),
         ("10 PRINT \"HI\"", ""),
@@ -57,14 +51,14 @@ static KEPT: Talk = (
      Directory 100,5 0 Name [100,5]DEMO.BAS\nDirectory 100,5 1 Failed 5\n\
      Input [100,5]DEMO.BAS Opened 1\nGet 1 Block\nClose 0 Done\n\
      Kill [100,5]DEMO.BAS Done\nKill [100,5]DEMO.BAS Failed 5\n",
-);
+)];
 
 #[test]
 fn a_program_is_kept_and_read_again(rt: HostRuntime) -> Result<(), Fail> {
-    expect(rt.alloc(), &KEPT)
+    expect_talks(rt.alloc(), &KEPT)
 }
 
-static OLD: Talk = (
+static OLD: [Talk; 1] = [(
     &[
         ("old [1 , 2] s um . <40>", READY),
         ("LIST", "SUM\n10 STOP\nReady\n"),
@@ -81,14 +75,14 @@ static OLD: Talk = (
     ],
     "Input [1,2]SUM<40> Opened 1\nGet 1 Block\nClose 0 Done\n\
      Input [1,2]LIB.B Opened 0\nClose 0 Done\n",
-);
+)];
 
 #[test]
 fn old_takes_the_name_of_the_file(rt: HostRuntime) -> Result<(), Fail> {
-    expect(rt.alloc(), &OLD)
+    expect_talks(rt.alloc(), &OLD)
 }
 
-static REFUSED_OLD: Talk = (
+static REFUSED_OLD: [Talk; 1] = [(
     &[
         ("10 A%=7% : STOP", ""),
         ("20 PRINT A%", ""),
@@ -119,11 +113,11 @@ static REFUSED_OLD: Talk = (
          Input [100,5]X.BAS Opened 2\nGet 1 Block\nGet 2 Failed 11\nClose 0 Done\n\
          Input [100,5]X.BAS Opened 1\nGet 1 Block\nClose 0 Failed 9\n\
          Input [100,5]X.BAS Opened 1\nGet 1 Block\nClose 0 Done\n",
-);
+)];
 
 #[test]
 fn a_refused_old_leaves_all(rt: HostRuntime) -> Result<(), Fail> {
-    expect(rt.alloc(), &REFUSED_OLD)
+    expect_talks(rt.alloc(), &REFUSED_OLD)
 }
 
 static NO_PROGRAMS: [Answer; 7] = [
@@ -153,26 +147,35 @@ fn texts_that_are_no_program(rt: HostRuntime) -> Result<(), Fail> {
     Ok(())
 }
 
-/// A file of so many lines of a comment, 51 in a block, and what OLD shows of it.
-fn expect_of_comments(alloc: Global, last: u32, shown: &str) -> Result<(), Fail> {
+/// The answers to a file of so many lines of a comment, 51 in a block, and to the logout.
+fn answers_of_comments(alloc: Global, last: u16) -> Result<Vec<Answer>, Fail> {
     let mut answers = Vec::new(alloc);
     answers.push(Answer::Opened(20))?;
-    let mut asked = String::from_str(alloc, "Input [100,5]X.BAS Opened 20\n")?;
-    for page in 0..20u32 {
+    for page in 0..20u16 {
         let first = page * 51 + 1;
         answers.push(Answer::Comments(first, last.min(first + 50)))?;
-        let asked_now = format!(in alloc; "Get {} Block\n", page + 1)?;
-        asked.push_str(asked_now.as_str())?;
     }
-    answers.push(Answer::Done)?;
-    answers.push(Answer::Done)?;
-    asked.push_str("Close 0 Done\n")?;
-    expect_of_files(
-        alloc,
-        &[("OLD X", shown)],
-        answers.as_slice(),
-        asked.as_str(),
-    )
+    answers.extend_from_slice(&[Answer::Done, Answer::Done])?;
+    Ok(answers)
+}
+
+/// What is asked of such a file.
+fn asked_of_comments(alloc: Global) -> Told {
+    let mut asked = Told::new(alloc);
+    asked.put("Input [100,5]X.BAS Opened 20\n");
+    for block in 1..=20u16 {
+        asked.count("Get ", block);
+        asked.put(" Block\n");
+    }
+    asked.put("Close 0 Done\n");
+    asked
+}
+
+/// What OLD shows of such a file.
+fn expect_of_comments(alloc: Global, last: u16, shown: &str) -> Result<(), Fail> {
+    let answers = answers_of_comments(alloc, last)?;
+    let asked = asked_of_comments(alloc);
+    expect_of_files(alloc, &[("OLD X", shown)], answers.as_slice(), asked.text())
 }
 
 #[test]
@@ -181,7 +184,7 @@ fn a_text_of_one_line_too_many(rt: HostRuntime) -> Result<(), Fail> {
     expect_of_comments(rt.alloc(), 1001, NO_DATA)
 }
 
-static RUN: Talk = (
+static RUN: [Talk; 1] = [(
     &[
         ("A%=7%", READY),
         ("RUN SUM", " 0 \nStop at line 20\nReady\n"),
@@ -214,14 +217,14 @@ static RUN: Talk = (
      Input [100,5]X.BAS Opened 1\nGet 1 Block\nClose 0 Done\n\
      Input [100,5]X.BAS Opened 1\nGet 1 Block\nClose 0 Done\n\
      Input [100,5]X.BAS Opened 1\nGet 1 Block\nClose 0 Done\n",
-);
+)];
 
 #[test]
 fn run_with_a_name(rt: HostRuntime) -> Result<(), Fail> {
-    expect(rt.alloc(), &RUN)
+    expect_talks(rt.alloc(), &RUN)
 }
 
-static FULL_DISK: Talk = (
+static FULL_DISK: [Talk; 1] = [(
     &[
         ("10 STOP", ""),
         ("SAVE [1,2]A.B<42>", "?No room for user on device\nReady\n"),
@@ -238,14 +241,14 @@ static FULL_DISK: Talk = (
     ],
     "Fresh [1,2]A.B<42> Opened 0\nPut 1 Failed 4\nClose 0 Done\n\
      Fresh [100,5]A.BAS Opened 0\nPut 1 Failed 4\nClose 0 Failed 9\n",
-);
+)];
 
 #[test]
 fn a_file_on_a_full_disk_stays_as_far_as_it_came(rt: HostRuntime) -> Result<(), Fail> {
-    expect(rt.alloc(), &FULL_DISK)
+    expect_talks(rt.alloc(), &FULL_DISK)
 }
 
-static EMPTY: Talk = (
+static EMPTY: [Talk; 1] = [(
     &[("SAVE", READY), ("REPLACE X", READY)],
     &[
         Answer::Opened(0),
@@ -256,11 +259,11 @@ static EMPTY: Talk = (
     ],
     "Fresh [100,5]NONAME.BAS Opened 0\nClose 0 Done\n\
      Output [100,5]X.BAS Opened 0\nClose 0 Done\n",
-);
+)];
 
 #[test]
 fn an_empty_program_has_no_block(rt: HostRuntime) -> Result<(), Fail> {
-    expect(rt.alloc(), &EMPTY)
+    expect_talks(rt.alloc(), &EMPTY)
 }
 
 static COMMANDS: [&str; 5] = ["OLD", "RUN", "SAVE", "REPLACE", "UNSAVE"];
@@ -278,10 +281,14 @@ static NO_NAMES: [Row; 8] = [
 
 fn expect_no_names(alloc: Global, command: &str) -> Result<(), Fail> {
     for (tail, shown) in NO_NAMES.iter() {
-        let line = format!(in alloc; "{command} {tail}")?;
-        expect_of_user(alloc, line.as_str(), shown)?;
+        expect_no_name(alloc, command, tail, shown)?;
     }
     Ok(())
+}
+
+fn expect_no_name(alloc: Global, command: &str, tail: &str, shown: &str) -> Result<(), Fail> {
+    let line = joined(alloc, &[command, " ", tail])?;
+    expect_of_user(alloc, line.as_str(), shown)
 }
 
 #[test]
@@ -292,7 +299,7 @@ fn names_that_are_none(rt: HostRuntime) -> Result<(), Fail> {
     Ok(())
 }
 
-static CATALOGS: Talk = (
+static CATALOGS: [Talk; 1] = [(
     &[
         ("CAT", READY),
         ("cat 100 , 6", "A     .BAS     -  <60>\nReady\n"),
@@ -309,15 +316,14 @@ static CATALOGS: Talk = (
     "Directory 100,5 0 Failed 5\n\
      Directory 100,6 0 Name [100,5]A.BAS\nDirectory 100,6 1 Failed 5\n\
      Directory 1,2 0 Failed 5\n",
-);
+)];
 
 #[test]
 fn catalogs(rt: HostRuntime) -> Result<(), Fail> {
-    expect(rt.alloc(), &CATALOGS)
+    expect_talks(rt.alloc(), &CATALOGS)
 }
 
-/// A line at which the job's calls are used up, the answers, and what is asked.
-static EXPIRING: [(&str, &[Answer], &str); 5] = [
+static EXPIRING: [Expiring; 5] = [
     (
         "OLD X",
         &[Answer::Done, Answer::Expired],
@@ -347,8 +353,5 @@ static EXPIRING: [(&str, &[Answer], &str); 5] = [
 
 #[test]
 fn a_job_that_expires_at_a_file(rt: HostRuntime) -> Result<(), Fail> {
-    for (line, answers, asked) in EXPIRING.iter() {
-        expect_expiring(rt.alloc(), line, answers, asked)?;
-    }
-    Ok(())
+    expect_all_expiring(rt.alloc(), &EXPIRING)
 }

@@ -33,3 +33,5 @@ mod statements;
 mod talks;
 #[cfg(test)]
 mod texts;
+#[cfg(test)]
+mod told;

@@ -2,9 +2,11 @@
 
 use crate::talks::{
     Answer, FLOATING_LITERAL, FLOATING_NAME, HELLO, ILLEGAL_COMMAND, ILLEGAL_NAME, ILLEGAL_NUMBER,
-    IMMEDIATE, OPEN_STRING, Row, STRAY_BYTE, SYNTAX, TOO_DEEP, TOO_WIDE, expect_of_lines,
-    expect_of_user, expect_of_users, expect_of_visitor, expect_of_visitors, expect_talk,
+    IMMEDIATE, OPEN_STRING, Row, STRAY_BYTE, SYNTAX, TOO_DEEP, TOO_WIDE, expect_of_each,
+    expect_of_lines, expect_of_ready, expect_of_user, expect_of_users, expect_of_visitor,
+    expect_of_visitors, expect_talk,
 };
+use crate::told::joined;
 use std::alloc::Global;
 use std::test::Fail;
 
@@ -80,17 +82,9 @@ static SUMS: [Row; 11] = [
     ("PRINT 1+2+3+4+5+6+7+8+9+10", " 55 "),
 ];
 
-fn expect_sum(alloc: Global, line: &str, sum: &str) -> Result<(), Fail> {
-    let shown = format!(in alloc; "{sum}\nReady\n")?;
-    expect_of_user(alloc, line, shown.as_str())
-}
-
 #[test]
 fn sums_are_printed(rt: HostRuntime) -> Result<(), Fail> {
-    for (line, sum) in SUMS.iter() {
-        expect_sum(rt.alloc(), line, sum)?;
-    }
-    Ok(())
+    expect_of_ready(rt.alloc(), &SUMS)
 }
 
 static PRINTING: [Row; 20] = [
@@ -143,30 +137,35 @@ static FOR_PROGRAMS: [&str; 17] = [
 
 #[test]
 fn lines_that_are_for_programs(rt: HostRuntime) -> Result<(), Fail> {
-    for line in FOR_PROGRAMS.iter() {
-        expect_of_user(rt.alloc(), line, IMMEDIATE)?;
-    }
-    Ok(())
+    expect_of_each(rt.alloc(), &FOR_PROGRAMS, IMMEDIATE)
 }
 
 static ON_FILES: [&str; 5] = ["OLD", "SAVE", "REPLACE", "UNSAVE", " save"];
 
 /// What stands behind a word of a command on files is its name, and a longer word is none.
 fn expect_word(alloc: Global, word: &str) -> Result<(), Fail> {
-    let behind = format!(in alloc; "{word}& 1.5 \"")?;
-    expect_of_user(alloc, behind.as_str(), ILLEGAL_NAME)?;
-    let longer = format!(in alloc; "{word}Q")?;
-    expect_of_user(alloc, longer.as_str(), FLOATING_NAME)
+    expect_behind(alloc, word, "& 1.5 \"", ILLEGAL_NAME)?;
+    expect_behind(alloc, word, "Q", FLOATING_NAME)
+}
+
+fn expect_behind(alloc: Global, word: &str, tail: &str, shown: &str) -> Result<(), Fail> {
+    let line = joined(alloc, &[word, tail])?;
+    expect_of_user(alloc, line.as_str(), shown)
 }
 
 static TAILS_OF_CAT: [&str; 11] = [
-    " X", " 0,1", " 255,1", " 1,255", " [1,2", " 1,2]", " [1,2]X", " 1/2", "[]", " $", " 01,2",
+    "CAT X",
+    "CAT 0,1",
+    "CAT 255,1",
+    "CAT 1,255",
+    "CAT [1,2",
+    "CAT 1,2]",
+    "CAT [1,2]X",
+    "CAT 1/2",
+    "CAT[]",
+    "CAT $",
+    "CAT 01,2",
 ];
-
-fn expect_no_cat(alloc: Global, tail: &str) -> Result<(), Fail> {
-    let line = format!(in alloc; "CAT{tail}")?;
-    expect_of_user(alloc, line.as_str(), ILLEGAL_COMMAND)
-}
 
 static WORDS: [Row; 3] = [
     ("OLD", ILLEGAL_COMMAND),
@@ -179,9 +178,7 @@ fn words_of_commands_on_files(rt: HostRuntime) -> Result<(), Fail> {
     for word in ON_FILES.iter() {
         expect_word(rt.alloc(), word)?;
     }
-    for tail in TAILS_OF_CAT.iter() {
-        expect_no_cat(rt.alloc(), tail)?;
-    }
+    expect_of_each(rt.alloc(), &TAILS_OF_CAT, ILLEGAL_COMMAND)?;
     expect_of_users(rt.alloc(), &WORDS)
 }
 
@@ -196,8 +193,8 @@ static OF_MATRICES: [Row; 6] = [
 ];
 
 fn expect_stored(alloc: Global, statement: &str) -> Result<(), Fail> {
-    let line = format!(in alloc; "10 {statement}")?;
-    let listed = format!(in alloc; "{line}\nReady\n")?;
+    let line = joined(alloc, &["10 ", statement])?;
+    let listed = joined(alloc, &["10 ", statement, "\nReady\n"])?;
     let lines = [(line.as_str(), ""), ("LISTNH", listed.as_str())];
     expect_of_lines(alloc, &lines)
 }
@@ -247,14 +244,17 @@ fn nested(
     end: &str,
 ) -> Result<String, Fail> {
     let mut line = String::from_str(alloc, front)?;
+    push_times(&mut line, part, times)?;
+    line.push_str(middle)?;
+    push_times(&mut line, end, times)?;
+    Ok(line)
+}
+
+fn push_times(line: &mut String, part: &str, times: usize) -> Result<(), Fail> {
     for _ in 0..times {
         line.push_str(part)?;
     }
-    line.push_str(middle)?;
-    for _ in 0..times {
-        line.push_str(end)?;
-    }
-    Ok(line)
+    Ok(())
 }
 
 fn expect_of_levels(alloc: Global, levels: usize, shown: &str) -> Result<(), Fail> {
@@ -268,12 +268,30 @@ fn levels_of_nesting(rt: HostRuntime) -> Result<(), Fail> {
     expect_of_levels(rt.alloc(), 65, TOO_DEEP)
 }
 
+/// Fails unless a line has the most bytes that there are.
+fn expect_longest(line: &str) -> Result<(), Fail> {
+    if line.len() == 255 {
+        Ok(())
+    } else {
+        Err(Fail::from("a line has not 255 bytes"))
+    }
+}
+
+fn expect_longest_sum(alloc: Global) -> Result<(), Fail> {
+    let sum = nested(alloc, "PRINT 1", "+1", 124, "", "")?;
+    expect_longest(sum.as_str())?;
+    expect_of_user(alloc, sum.as_str(), " 125 \nReady\n")
+}
+
+fn expect_longest_hello(alloc: Global) -> Result<(), Fail> {
+    let hello = nested(alloc, "HELLO", "1", 250, "", "")?;
+    expect_longest(hello.as_str())?;
+    expect_of_visitor(alloc, hello.as_str(), "Invalid entry - try again\n")
+}
+
 /// Lines of 255 bytes, the most that there are.
 #[test]
 fn the_longest_lines(rt: HostRuntime) -> Result<(), Fail> {
-    let sum = nested(rt.alloc(), "PRINT 1", "+1", 124, "", "")?;
-    let hello = nested(rt.alloc(), "HELLO", "1", 250, "", "")?;
-    assert_eq!(rt; (sum.len(), hello.len()), (255, 255));
-    expect_of_user(rt.alloc(), sum.as_str(), " 125 \nReady\n")?;
-    expect_of_visitor(rt.alloc(), hello.as_str(), "Invalid entry - try again\n")
+    expect_longest_sum(rt.alloc())?;
+    expect_longest_hello(rt.alloc())
 }

@@ -1,6 +1,7 @@
 //! MAT: what its statements read, store, refuse and write.
 
 use crate::talks::{Answer, Row, expect_of_files, expect_of_lines};
+use crate::told::joined;
 use std::alloc::Global;
 use std::test::Fail;
 
@@ -115,8 +116,8 @@ static LEFT_IN_B: [Row; 22] = [
 ];
 
 fn expect_left_in_b(alloc: Global, statement: &str, rows: &str) -> Result<(), Fail> {
-    let line = format!(in alloc; "30 {statement}")?;
-    let shown = format!(in alloc; "{rows}{READY}")?;
+    let line = joined(alloc, &["30 ", statement])?;
+    let shown = joined(alloc, &[rows, READY])?;
     let lines = [
         ("10 DIM A%(2%,2%),B%(2%,2%)", ""),
         ("20 MAT READ A%,B%", ""),
@@ -153,8 +154,8 @@ static BESIDE_0: [Row; 10] = [
 ];
 
 fn expect_beside_0(alloc: Global, statement: &str, element: &str) -> Result<(), Fail> {
-    let line = format!(in alloc; "30 {statement}")?;
-    let shown = format!(in alloc; " 2  3  4  {element} \n{READY}")?;
+    let line = joined(alloc, &["30 ", statement])?;
+    let shown = joined(alloc, &[" 2  3  4  ", element, " \n", READY])?;
     let lines = [
         (
             "10 DIM A%(1%,1%),B%(1%,1%) : MAT B%=CON : MAT B%=(6%)*B%",
@@ -423,7 +424,7 @@ static OF_FILES: [&str; 16] = [
 ];
 
 fn expect_in_a_file(alloc: Global, statement: &str) -> Result<(), Fail> {
-    let line = format!(in alloc; "20 {statement}")?;
+    let line = joined(alloc, &["20 ", statement])?;
     let lines = [
         ("10 PRINT 'NOT RUN' : MAT A%=ZER", ""),
         (line.as_str(), ""),

@@ -1,8 +1,10 @@
 //! The commands on the printer: what they ask of the monitor, and what they show.
 
 use crate::talks::{
-    Answer, ILLEGAL_COMMAND, Row, expect_expiring, expect_of_files, expect_of_user,
+    Answer, Expiring, ILLEGAL_COMMAND, Talk, expect_all_expiring, expect_of_each, expect_of_files,
+    expect_talks,
 };
+use crate::told::Told;
 use std::alloc::Global;
 use std::test::Fail;
 
@@ -12,15 +14,7 @@ const NO_PRINTER: &str = "?Device not available\nReady\n";
 
 const NOT_OPEN: &str = "?I/O channel not open\nReady\n";
 
-/// Lines behind the login with what they show, the answers behind that to the login, and what is
-/// asked between the login and the logout.
-type Talk = (&'static [Row], &'static [Answer], &'static str);
-
-fn expect(alloc: Global, talk: &Talk) -> Result<(), Fail> {
-    expect_of_files(alloc, talk.0, talk.1, talk.2)
-}
-
-static ASSIGNED: Talk = (
+static ASSIGNED: [Talk; 1] = [(
     &[
         ("ASSIGN LP:", READY),
         ("deassign l p :", READY),
@@ -37,14 +31,14 @@ static ASSIGNED: Talk = (
         Answer::Done,
     ],
     "Assign Done\nDeassign Done\nAssign Failed 8\nDeassign Failed 9\nDeassign Failed 3\n",
-);
+)];
 
 #[test]
 fn the_printer_is_kept_and_given_back(rt: HostRuntime) -> Result<(), Fail> {
-    expect(rt.alloc(), &ASSIGNED)
+    expect_talks(rt.alloc(), &ASSIGNED)
 }
 
-static PRINTED: Talk = (
+static PRINTED: [Talk; 1] = [(
     &[
         ("QUE DEMO.BAS", READY),
         ("que [100 , 6] a <42>", READY),
@@ -76,40 +70,50 @@ static PRINTED: Talk = (
      Input [100,6]A.LST<42> Opened 2\nOpenPrinter Done\nGet 1 Block\nPrint A\r\n Done\n\
      Get 2 Block\nPrint  Done\nClosePrinter Done\nClose 0 Done\n\
      Input [1,2]A.LST Opened 0\nOpenPrinter Done\nClosePrinter Done\nClose 0 Done\n",
-);
+)];
 
 #[test]
 fn a_file_is_printed_without_its_zeros(rt: HostRuntime) -> Result<(), Fail> {
-    expect(rt.alloc(), &PRINTED)
+    expect_talks(rt.alloc(), &PRINTED)
+}
+
+/// The answers to a file of 16 blocks that is printed, and to the logout.
+fn answers_of_16(alloc: Global) -> Result<Vec<Answer>, Fail> {
+    let mut answers = Vec::new(alloc);
+    answers.extend_from_slice(&[Answer::Opened(16), Answer::Done])?;
+    for _ in 0..16 {
+        answers.extend_from_slice(&[Answer::Block("LINE\n"), Answer::Done])?;
+    }
+    answers.extend_from_slice(&[Answer::Done, Answer::Done, Answer::Done])?;
+    Ok(answers)
+}
+
+/// What is asked of such a file.
+fn asked_of_16(alloc: Global) -> Told {
+    let mut asked = Told::new(alloc);
+    asked.put("Input [100,5]A.LST Opened 16\nOpenPrinter Done\n");
+    for block in 1..=16u16 {
+        asked.count("Get ", block);
+        asked.put(" Block\nPrint LINE\r\n Done\n");
+    }
+    asked.put("ClosePrinter Done\nClose 0 Done\n");
+    asked
 }
 
 /// So many blocks are read and printed one by one.
 #[test]
 fn a_file_of_16_blocks(rt: HostRuntime) -> Result<(), Fail> {
-    let alloc = rt.alloc();
-    let mut answers = Vec::new(alloc);
-    answers.push(Answer::Opened(16))?;
-    answers.push(Answer::Done)?;
-    let mut asked = String::from_str(alloc, "Input [100,5]A.LST Opened 16\nOpenPrinter Done\n")?;
-    for block in 1..=16u32 {
-        answers.push(Answer::Block("LINE\n"))?;
-        answers.push(Answer::Done)?;
-        let asked_now = format!(in alloc; "Get {block} Block\nPrint LINE\r\n Done\n")?;
-        asked.push_str(asked_now.as_str())?;
-    }
-    for _ in 0..3 {
-        answers.push(Answer::Done)?;
-    }
-    asked.push_str("ClosePrinter Done\nClose 0 Done\n")?;
+    let answers = answers_of_16(rt.alloc())?;
+    let asked = asked_of_16(rt.alloc());
     expect_of_files(
-        alloc,
+        rt.alloc(),
         &[("QUE A", READY)],
         answers.as_slice(),
-        asked.as_str(),
+        asked.text(),
     )
 }
 
-static REFUSED: Talk = (
+static REFUSED: [Talk; 1] = [(
     &[
         ("QUE A", "?Can't find file or account\nReady\n"),
         ("QUE [100,6]A", "?Protection violation\nReady\n"),
@@ -130,14 +134,14 @@ static REFUSED: Talk = (
     "Input [100,5]A.LST Failed 5\nInput [100,6]A.LST Failed 10\n\
      Input [100,5]A.LST Opened 1\nOpenPrinter Failed 8\nClose 0 Done\n\
      Input [100,5]A.LST Opened 1\nOpenPrinter Failed 8\nClose 0 Failed 9\n",
-);
+)];
 
 #[test]
 fn what_was_not_opened_is_not_closed(rt: HostRuntime) -> Result<(), Fail> {
-    expect(rt.alloc(), &REFUSED)
+    expect_talks(rt.alloc(), &REFUSED)
 }
 
-static BROKEN: Talk = (
+static BROKEN: [Talk; 1] = [(
     &[
         ("QUE A", "?End of file on device\nReady\n"),
         ("QUE A", "?Illegal byte count for I/O\nReady\n"),
@@ -160,14 +164,14 @@ static BROKEN: Talk = (
      ClosePrinter Failed 9\nClose 0 Failed 9\n\
      Input [100,5]A.LST Opened 1\nOpenPrinter Done\nGet 1 Block\nPrint A\r\n Failed 31\n\
      ClosePrinter Done\nClose 0 Done\n",
-);
+)];
 
 #[test]
 fn the_first_fault_is_shown_behind_both_closings(rt: HostRuntime) -> Result<(), Fail> {
-    expect(rt.alloc(), &BROKEN)
+    expect_talks(rt.alloc(), &BROKEN)
 }
 
-static UNCLOSED: Talk = (
+static UNCLOSED: [Talk; 1] = [(
     &[
         ("QUE A", NOT_OPEN),
         ("QUE A", "?Protection violation\nReady\n"),
@@ -185,11 +189,11 @@ static UNCLOSED: Talk = (
     ],
     "Input [100,5]A.LST Opened 0\nOpenPrinter Done\nClosePrinter Failed 9\nClose 0 Done\n\
      Input [100,5]A.LST Opened 0\nOpenPrinter Done\nClosePrinter Done\nClose 0 Failed 10\n",
-);
+)];
 
 #[test]
 fn a_refused_closing_is_asked_once(rt: HostRuntime) -> Result<(), Fail> {
-    expect(rt.alloc(), &UNCLOSED)
+    expect_talks(rt.alloc(), &UNCLOSED)
 }
 
 static WRONG_TAILS: [&str; 12] = [
@@ -209,14 +213,10 @@ static WRONG_TAILS: [&str; 12] = [
 
 #[test]
 fn other_tails_are_illegal_commands(rt: HostRuntime) -> Result<(), Fail> {
-    for line in WRONG_TAILS.iter() {
-        expect_of_user(rt.alloc(), line, ILLEGAL_COMMAND)?;
-    }
-    Ok(())
+    expect_of_each(rt.alloc(), &WRONG_TAILS, ILLEGAL_COMMAND)
 }
 
-/// A line at which the job's calls are used up, the answers, and what is asked.
-static EXPIRING: [(&str, &[Answer], &str); 4] = [
+static EXPIRING: [Expiring; 4] = [
     (
         "ASSIGN LP:",
         &[Answer::Done, Answer::Opened(1)],
@@ -251,8 +251,5 @@ static EXPIRING: [(&str, &[Answer], &str); 4] = [
 
 #[test]
 fn a_job_that_expires_at_the_printer(rt: HostRuntime) -> Result<(), Fail> {
-    for (line, answers, asked) in EXPIRING.iter() {
-        expect_expiring(rt.alloc(), line, answers, asked)?;
-    }
-    Ok(())
+    expect_all_expiring(rt.alloc(), &EXPIRING)
 }

@@ -1,5 +1,6 @@
 //! A port that plays a script, and what was asked of it as text.
 
+use crate::told::Told;
 use basic_values::{Fault, Stop};
 use monitor_calls::{Account, FileName, OpenKind, Page, Reply, Request, ScriptPort, Short};
 use std::alloc::Global;
@@ -66,22 +67,26 @@ fn opened(blocks: u16) -> Reply {
 pub(crate) fn port_of(alloc: Global, script: &[Said]) -> Result<ScriptPort, Fail> {
     let mut replies = Vec::new(alloc);
     for said in script {
-        replies.push(reply_of(alloc, *said)?)?;
+        push_reply(alloc, &mut replies, *said)?;
     }
     Ok(ScriptPort::new(alloc, replies))
 }
 
-/// What was asked, a line for each request.
-fn asked(alloc: Global, port: &ScriptPort) -> Result<String, Fail> {
-    let mut text = String::new(alloc);
-    for (request, _) in port.log() {
-        text.push_str(request_told(alloc, request)?.as_str())?;
-        text.push_str("\n")?;
-    }
-    Ok(text)
+fn push_reply(alloc: Global, replies: &mut Vec<Reply>, said: Said) -> Result<(), Fail> {
+    Ok(replies.push(reply_of(alloc, said)?)?)
 }
 
-fn request_told(alloc: Global, request: &Request) -> Result<String, Fail> {
+/// What was asked, a line for each request.
+fn asked(alloc: Global, port: &ScriptPort) -> Told {
+    let mut told = Told::new(alloc);
+    for (request, _) in port.log() {
+        put_request(&mut told, request);
+        told.put("\n");
+    }
+    told
+}
+
+fn put_request(told: &mut Told, request: &Request) {
     match request {
         Request::OpenFile {
             channel,
@@ -90,33 +95,40 @@ fn request_told(alloc: Global, request: &Request) -> Result<String, Fail> {
             code,
             ..
         } => {
-            let (kind, code) = (kind_told(*kind), code.unwrap_or(99));
-            Ok(format!(in alloc; "{kind} {channel} {update} {code}")?)
+            told.count(kind_told(*kind), u16::from(*channel));
+            told.put(if *update { " true" } else { " false" });
+            told.count(" ", u16::from(code.unwrap_or(99)))
         }
-        Request::CloseFile { channel } => Ok(format!(in alloc; "close {channel}")?),
-        Request::Get { channel, block } => Ok(format!(in alloc; "get {channel} {block}")?),
+        Request::CloseFile { channel } => told.count("close ", u16::from(*channel)),
+        Request::Get { channel, block } => {
+            told.count("get ", u16::from(*channel));
+            told.count(" ", *block)
+        }
         Request::Put {
             channel,
             block,
             page,
         } => {
-            let first = page.as_bytes()[0];
-            Ok(format!(in alloc; "put {channel} {block} {first}")?)
+            told.count("put ", u16::from(*channel));
+            told.count(" ", *block);
+            told.count(" ", u16::from(page.as_bytes()[0]))
         }
-        Request::Kill { .. } => Ok(String::from_str(alloc, "kill")?),
+        Request::Kill { .. } => told.put("kill"),
         Request::Directory { owner, index } => {
-            Ok(format!(in alloc; "directory {},{} {index}", owner.project, owner.programmer)?)
+            told.count("directory ", u16::from(owner.project));
+            told.count(",", u16::from(owner.programmer));
+            told.count(" ", *index)
         }
-        _ => Ok(String::from_str(alloc, "another")?),
+        _ => told.put("another"),
     }
 }
 
 fn kind_told(kind: OpenKind) -> &'static str {
     match kind {
-        OpenKind::Input => "input",
-        OpenKind::Output => "output",
-        OpenKind::Either => "either",
-        OpenKind::Fresh => "fresh",
+        OpenKind::Input => "input ",
+        OpenKind::Output => "output ",
+        OpenKind::Either => "either ",
+        OpenKind::Fresh => "fresh ",
     }
 }
 
@@ -146,10 +158,10 @@ pub(crate) fn expect_asked(
     ending: u8,
     wanted: u8,
 ) -> Result<(), Fail> {
-    let asked = asked(alloc, port)?;
-    if asked.as_str() == requests && ending == wanted {
-        Ok(())
+    let told = asked(alloc, port);
+    if ending == wanted {
+        told.expect(requests)
     } else {
-        Err(Fail::new(asked))
+        Err(Fail::from("the call ends otherwise"))
     }
 }

@@ -1,6 +1,7 @@
 //! Whole sessions, the forms of HELLO, and each reply to a login and to a logout.
 
-use crate::talks::{Answer, HELLO, NOTHING_BETWEEN, WRONG, expect_of_visitor, expect_talk};
+use crate::talks::{Answer, HELLO, NOTHING_BETWEEN, expect_of_visitor, expect_talk};
+use crate::told::joined;
 use std::alloc::Global;
 use std::test::Fail;
 
@@ -77,8 +78,8 @@ static ASKING: [(&str, &str); 5] = [
 ];
 
 fn expect_refused_login(alloc: Global, line: &str, asked: &str) -> Result<(), Fail> {
-    let screen = format!(in alloc; "{line}\n{WRONG}\n")?;
-    let log = format!(in alloc; "Login {asked} Failed 5\n")?;
+    let screen = joined(alloc, &[line, "\nInvalid entry - try again\n"])?;
+    let log = joined(alloc, &["Login ", asked, " Failed 5\n"])?;
     expect_talk(
         alloc,
         &[line],
@@ -194,7 +195,7 @@ static LOGOUTS: [(Answer, &str); 4] = [
 
 /// No answer to a logout shows another end than Done does.
 fn expect_logout(alloc: Global, answer: Answer, told: &str) -> Result<(), Fail> {
-    let log = format!(in alloc; "Login 100,5;DEMO Done\nLogout {told}\n")?;
+    let log = joined(alloc, &["Login 100,5;DEMO Done\nLogout ", told, "\n"])?;
     let answers = [Answer::Done, answer];
     let shown = "HELLO 100,5;DEMO\nReady\nBYE\nBye\n";
     expect_talk(alloc, &[HELLO, "BYE", "BYE"], &answers, shown, log.as_str())?;

@@ -1,18 +1,9 @@
 //! Statements on files: what they ask, what they refuse before, and when channels are closed.
 
-use crate::talks::{Answer, Row, expect_of_files};
-use std::alloc::Global;
+use crate::talks::{Answer, Row, Talk, expect_of_ready, expect_talks};
 use std::test::Fail;
 
 const READY: &str = "Ready\n";
-
-/// Lines behind the login with what they show, the answers behind that to the login, and what is
-/// asked between the login and the logout.
-type Talk = (&'static [Row], &'static [Answer], &'static str);
-
-fn expect(alloc: Global, talk: &Talk) -> Result<(), Fail> {
-    expect_of_files(alloc, talk.0, talk.1, talk.2)
-}
 
 const BY_BLOCKS: Talk = (
     &[
@@ -148,10 +139,7 @@ static TALKS: [Talk; 4] = [BY_BLOCKS, PURPOSES, ENDS, COMMANDS];
 
 #[test]
 fn files_are_used_and_closed(rt: HostRuntime) -> Result<(), Fail> {
-    for talk in TALKS.iter() {
-        expect(rt.alloc(), talk)?;
-    }
-    Ok(())
+    expect_talks(rt.alloc(), &TALKS)
 }
 
 /// Statements that are refused before anything is asked.
@@ -189,13 +177,5 @@ static REFUSED: [Row; 14] = [
 
 #[test]
 fn statements_refuse_before_they_ask(rt: HostRuntime) -> Result<(), Fail> {
-    for (line, text) in REFUSED.iter() {
-        expect_refused(rt.alloc(), line, text)?;
-    }
-    Ok(())
-}
-
-fn expect_refused(alloc: Global, line: &str, text: &str) -> Result<(), Fail> {
-    let shown = format!(in alloc; "{text}\n{READY}")?;
-    expect_of_files(alloc, &[(line, shown.as_str())], &[Answer::Done], "")
+    expect_of_ready(rt.alloc(), &REFUSED)
 }

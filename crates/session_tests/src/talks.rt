@@ -1,16 +1,13 @@
 //! How a session is tried: its keys, the replies of its port, what it shows and what it asks.
 
+use crate::told::{Told, joined};
 use basic_values::{Fault, KeyLine, Text};
 use command_level::serve;
-use file_names::print;
 use monitor_calls::{Account, FileName, OpenKind, Page, Reply, Request, ScriptPort, Short};
 use std::alloc::Global;
-use std::str;
 use std::test::Fail;
 
 pub(crate) const HELLO: &str = "HELLO 100,5;DEMO";
-
-pub(crate) const WRONG: &str = "Invalid entry - try again";
 
 pub(crate) const ILLEGAL_COMMAND: &str = "?Illegal command\nReady\n";
 
@@ -34,6 +31,16 @@ pub(crate) const SYNTAX: &str = "?Syntax error\nReady\n";
 
 pub(crate) const TOO_DEEP: &str = "?Expression too deep\nReady\n";
 
+/// A line, and what it shows.
+pub(crate) type Row = (&'static str, &'static str);
+
+/// Lines behind the login with what they show, the answers behind that to the login, and what is
+/// asked between the login and the logout.
+pub(crate) type Talk = (&'static [Row], &'static [Answer], &'static str);
+
+/// A line at which the job's calls are used up, the answers, and what is asked behind the login.
+pub(crate) type Expiring = (&'static str, &'static [Answer], &'static str);
+
 /// A reply of the script, in few words.
 #[derive(Clone, Copy)]
 pub(crate) enum Answer {
@@ -45,7 +52,7 @@ pub(crate) enum Answer {
     /// A block that begins with this text, with CR and LF where it has LF.
     Block(&'static str),
     /// A block of comments: the number of the first line, and of the last.
-    Comments(u32, u32),
+    Comments(u16, u16),
     /// A file of [100,5] with the extension BAS: its code, and its blocks where they are told.
     Named(&'static str, u8, Option<u16>),
     /// A message of this text, from the first job.
@@ -54,29 +61,19 @@ pub(crate) enum Answer {
     State(u16),
 }
 
-fn key_lines(alloc: Global, keys: &[&str]) -> Result<Vec<KeyLine>, Fail> {
-    let mut lines = Vec::new(alloc);
-    for line in keys {
-        let bytes = line.as_bytes();
-        if bytes.len() > 255 {
-            return Err(Fail::from("a key line is too long"));
-        }
-        lines.push(KeyLine::of(alloc, bytes)?)?;
-    }
-    Ok(lines)
-}
+// WHAT A PORT REPLIES
 
-fn reply_of(alloc: Global, answer: Answer) -> Result<Reply, Fail> {
+fn reply_of(alloc: Global, answer: &Answer) -> Result<Reply, Fail> {
     match answer {
         Answer::Done => Ok(Reply::Done),
         Answer::Expired => Ok(Reply::Expired),
-        Answer::Failed(number) => Ok(Reply::Failed(Fault::new(number))),
-        Answer::Opened(blocks) => Ok(opened(blocks)),
+        Answer::Failed(number) => Ok(Reply::Failed(Fault::new(*number))),
+        Answer::Opened(blocks) => Ok(opened(*blocks)),
         Answer::Block(text) => block(alloc, text),
-        Answer::Comments(first, last) => block(alloc, comments(alloc, first, last)?.as_str()),
-        Answer::Named(stem, code, blocks) => name(stem.as_bytes(), code, blocks),
+        Answer::Comments(first, last) => block(alloc, comments(alloc, *first, *last).whole()?),
+        Answer::Named(stem, code, blocks) => name(stem.as_bytes(), *code, *blocks),
         Answer::Message(text) => message(alloc, text),
-        Answer::State(calls) => Ok(state(calls)),
+        Answer::State(calls) => Ok(state(*calls)),
     }
 }
 
@@ -86,14 +83,14 @@ const USER: Account = Account {
 };
 
 fn message(alloc: Global, text: &str) -> Result<Reply, Fail> {
-    let Ok(text) = Text::of(alloc, text.as_bytes()) else {
-        return Err(Fail::from("a message is too long"));
-    };
-    Ok(Reply::Message {
-        job: 0,
-        account: USER,
-        text,
-    })
+    match Text::of(alloc, text.as_bytes()) {
+        Ok(text) => Ok(Reply::Message {
+            job: 0,
+            account: USER,
+            text,
+        }),
+        Err(_) => Err(Fail::from("a message is too long")),
+    }
 }
 
 fn state(calls: u16) -> Reply {
@@ -112,9 +109,9 @@ fn opened(blocks: u16) -> Reply {
     }
 }
 
+/// A block that begins with this text.
 fn block(alloc: Global, text: &str) -> Result<Reply, Fail> {
-    let mut bytes = with_returns(alloc, text)?;
-    bytes.resize(512, 0)?;
+    let bytes = block_bytes(alloc, text)?;
     let mut page = Page::new(alloc)?;
     if bytes.len() == 512 {
         page.fill(bytes.as_slice());
@@ -122,13 +119,30 @@ fn block(alloc: Global, text: &str) -> Result<Reply, Fail> {
     Ok(Reply::Block(page))
 }
 
-fn comments(alloc: Global, first: u32, last: u32) -> Result<String, Fail> {
-    let mut text = String::new(alloc);
-    for number in first..=last {
-        let line = format!(in alloc; "{number}!\n")?;
-        text.push_str(line.as_str())?;
+/// The text with CR and LF where it has LF, and zeros behind it.
+fn block_bytes(alloc: Global, text: &str) -> Result<Vec<u8>, Fail> {
+    let mut bytes = Vec::new(alloc);
+    for byte in text.as_bytes() {
+        push_byte(&mut bytes, *byte)?;
     }
-    Ok(text)
+    bytes.resize(512, 0)?;
+    Ok(bytes)
+}
+
+fn push_byte(bytes: &mut Vec<u8>, byte: u8) -> Result<(), Fail> {
+    if byte == b'\n' {
+        bytes.push(b'\r')?;
+    }
+    Ok(bytes.push(byte)?)
+}
+
+fn comments(alloc: Global, first: u16, last: u16) -> Told {
+    let mut text = Told::new(alloc);
+    for number in first..=last {
+        text.count("", number);
+        text.put("!\n");
+    }
+    text
 }
 
 fn name(stem: &[u8], code: u8, blocks: Option<u16>) -> Result<Reply, Fail> {
@@ -140,153 +154,199 @@ fn name(stem: &[u8], code: u8, blocks: Option<u16>) -> Result<Reply, Fail> {
     Ok(Reply::Name { name, code, blocks })
 }
 
-fn script(alloc: Global, answers: &[Answer]) -> Result<Vec<Reply>, Fail> {
-    let mut replies = Vec::new(alloc);
-    for answer in answers {
-        replies.push(reply_of(alloc, *answer)?)?;
-    }
-    Ok(replies)
+fn push_reply(alloc: Global, replies: &mut Vec<Reply>, answer: &Answer) -> Result<(), Fail> {
+    Ok(replies.push(reply_of(alloc, answer)?)?)
 }
 
-/// The text with CR and LF where it has LF.
-fn with_returns(alloc: Global, text: &str) -> Result<Vec<u8>, Fail> {
-    let mut bytes = Vec::new(alloc);
-    for byte in text.as_bytes() {
-        if *byte == b'\n' {
-            bytes.push(b'\r')?;
-        }
-        bytes.push(*byte)?;
+/// A port that replies this, and before it to a login where there is one.
+fn port_of(alloc: Global, has_login: bool, answers: &[Answer]) -> Result<ScriptPort, Fail> {
+    let mut replies = Vec::new(alloc);
+    if has_login {
+        replies.push(Reply::Done)?;
     }
-    Ok(bytes)
+    for answer in answers {
+        push_reply(alloc, &mut replies, answer)?;
+    }
+    Ok(ScriptPort::new(alloc, replies))
+}
+
+// WHAT IS ASKED OF IT
+
+fn put_account(told: &mut Told, word: &str, account: &Account) {
+    told.count(word, u16::from(account.project));
+    told.count(",", u16::from(account.programmer))
 }
 
 /// A reply as text.
-fn reply_told(alloc: Global, reply: &Reply) -> Result<String, Fail> {
+fn put_reply(told: &mut Told, reply: &Reply) {
     match reply {
-        Reply::Done => Ok(String::from_str(alloc, "Done")?),
-        Reply::Failed(fault) => Ok(format!(in alloc; "Failed {}", fault.number())?),
-        Reply::Expired => Ok(String::from_str(alloc, "Expired")?),
-        Reply::Opened { blocks, .. } => Ok(format!(in alloc; "Opened {blocks}")?),
-        Reply::Block(_) => Ok(String::from_str(alloc, "Block")?),
-        Reply::Name { name, .. } => named(alloc, "Name", name, None),
-        Reply::Message { .. } => Ok(String::from_str(alloc, "Message")?),
-        Reply::State { .. } => Ok(String::from_str(alloc, "State")?),
-        _ => Ok(String::from_str(alloc, "another")?),
+        Reply::Done => told.put("Done"),
+        Reply::Failed(fault) => told.count("Failed ", u16::from(fault.number())),
+        Reply::Expired => told.put("Expired"),
+        Reply::Opened { blocks, .. } => told.count("Opened ", *blocks),
+        Reply::Block(_) => told.put("Block"),
+        Reply::Name { name, .. } => told.file("Name ", name, None),
+        Reply::Message { .. } => told.put("Message"),
+        Reply::State { .. } => told.put("State"),
+        _ => told.put("another"),
     }
 }
 
 /// A request as text.
-fn request_told(alloc: Global, request: &Request) -> Result<String, Fail> {
+fn put_request(told: &mut Told, request: &Request) {
     match request {
-        Request::Login { account, password } => login_told(alloc, *account, password),
-        Request::Logout => Ok(String::from_str(alloc, "Logout")?),
-        Request::Tick => Ok(String::from_str(alloc, "Tick")?),
+        Request::Login { account, password } => {
+            put_account(told, "Login ", account);
+            told.put(";");
+            told.put_bytes(password.as_bytes())
+        }
         Request::OpenFile {
             name,
             kind,
             code,
             ..
-        } => named(alloc, kind_told(*kind), name, *code),
-        Request::CloseFile { channel } => Ok(format!(in alloc; "Close {channel}")?),
-        Request::Get { block, .. } => Ok(format!(in alloc; "Get {block}")?),
-        Request::Put { block, .. } => Ok(format!(in alloc; "Put {block}")?),
+        } => told.file(kind_told(*kind), name, *code),
+        Request::CloseFile { channel } => told.count("Close ", u16::from(*channel)),
+        Request::Get { block, .. } => told.count("Get ", *block),
+        Request::Put { block, .. } => told.count("Put ", *block),
         Request::GetRecord { block, count, .. } => {
-            Ok(format!(in alloc; "GetRecord {block} {count}")?)
+            told.count("GetRecord ", *block);
+            told.count(" ", u16::from(*count))
         }
-        Request::Unlock { channel } => Ok(format!(in alloc; "Unlock {channel}")?),
-        Request::Sleep { seconds } => Ok(format!(in alloc; "Sleep {seconds}")?),
-        Request::Rename { new, code, .. } => named(alloc, "Rename to", new, *code),
-        Request::Kill { name } => named(alloc, "Kill", name, None),
-        Request::Directory { owner, index } => directory_told(alloc, *owner, *index),
-        Request::Declare { name, most } => declare_told(alloc, name, *most),
-        Request::Send { name, text } => send_told(alloc, name, text),
-        Request::Remove => Ok(String::from_str(alloc, "Remove")?),
-        Request::Receive => Ok(String::from_str(alloc, "Receive")?),
-        Request::Status => Ok(String::from_str(alloc, "Status")?),
-        _ => printer_told(alloc, request),
+        Request::Unlock { channel } => told.count("Unlock ", u16::from(*channel)),
+        Request::Sleep { seconds } => told.count("Sleep ", *seconds),
+        Request::Rename { new, code, .. } => told.file("Rename to ", new, *code),
+        Request::Kill { name } => told.file("Kill ", name, None),
+        Request::Directory { owner, index } => {
+            put_account(told, "Directory ", owner);
+            told.count(" ", *index)
+        }
+        _ => put_message_request(told, request),
     }
 }
 
-/// A request of the printer as text.
-fn printer_told(alloc: Global, request: &Request) -> Result<String, Fail> {
+/// A request on messages or on the printer as text.
+fn put_message_request(told: &mut Told, request: &Request) {
     match request {
-        Request::Assign => Ok(String::from_str(alloc, "Assign")?),
-        Request::Deassign => Ok(String::from_str(alloc, "Deassign")?),
-        Request::OpenPrinter => Ok(String::from_str(alloc, "OpenPrinter")?),
-        Request::Print { text } => print_told(alloc, text),
-        Request::ClosePrinter => Ok(String::from_str(alloc, "ClosePrinter")?),
-        _ => Ok(String::from_str(alloc, "another")?),
+        Request::Declare { name, most } => {
+            told.put("Declare ");
+            told.put_bytes(name.as_bytes());
+            told.count(" ", u16::from(*most))
+        }
+        Request::Send { name, text } => {
+            told.put("Send ");
+            told.put_bytes(name.as_bytes());
+            told.put(" ");
+            told.put_bytes(text.as_bytes())
+        }
+        Request::Print { text } => {
+            told.put("Print ");
+            told.put_bytes(text.as_bytes())
+        }
+        _ => told.put(word_of(request)),
     }
 }
 
-fn print_told(alloc: Global, text: &Text) -> Result<String, Fail> {
-    let text = str::from_utf8(text.as_bytes())?;
-    Ok(format!(in alloc; "Print {text}")?)
-}
-
-fn declare_told(alloc: Global, name: &Short, most: u8) -> Result<String, Fail> {
-    let name = str::from_utf8(name.as_bytes())?;
-    Ok(format!(in alloc; "Declare {name} {most}")?)
-}
-
-fn send_told(alloc: Global, name: &Short, text: &Text) -> Result<String, Fail> {
-    let name = str::from_utf8(name.as_bytes())?;
-    let text = str::from_utf8(text.as_bytes())?;
-    Ok(format!(in alloc; "Send {name} {text}")?)
-}
-
-fn login_told(alloc: Global, account: Account, password: &Short) -> Result<String, Fail> {
-    let password = str::from_utf8(password.as_bytes())?;
-    let (project, programmer) = (account.project, account.programmer);
-    Ok(format!(in alloc; "Login {project},{programmer};{password}")?)
-}
-
-fn directory_told(alloc: Global, owner: Account, index: u16) -> Result<String, Fail> {
-    let (project, programmer) = (owner.project, owner.programmer);
-    Ok(format!(in alloc; "Directory {project},{programmer} {index}")?)
-}
-
-/// A word, the name of a file, and its code where it is given.
-fn named(alloc: Global, word: &str, name: &FileName, code: Option<u8>) -> Result<String, Fail> {
-    let printed = print(name);
-    let name = str::from_utf8(printed.as_slice())?;
-    match code {
-        Some(code) => Ok(format!(in alloc; "{word} {name}<{code}>")?),
-        None => Ok(format!(in alloc; "{word} {name}")?),
+/// A request that is no more than a word.
+fn word_of(request: &Request) -> &'static str {
+    match request {
+        Request::Logout => "Logout",
+        Request::Tick => "Tick",
+        Request::Remove => "Remove",
+        Request::Receive => "Receive",
+        Request::Status => "Status",
+        Request::Assign => "Assign",
+        Request::Deassign => "Deassign",
+        Request::OpenPrinter => "OpenPrinter",
+        Request::ClosePrinter => "ClosePrinter",
+        _ => "another",
     }
 }
 
 fn kind_told(kind: OpenKind) -> &'static str {
     match kind {
-        OpenKind::Input => "Input",
-        OpenKind::Output => "Output",
-        OpenKind::Either => "Either",
-        OpenKind::Fresh => "Fresh",
+        OpenKind::Input => "Input ",
+        OpenKind::Output => "Output ",
+        OpenKind::Either => "Either ",
+        OpenKind::Fresh => "Fresh ",
     }
 }
 
 /// The log as text, with a line for each call.
-fn log_told(alloc: Global, log: &[(Request, Reply)]) -> Result<String, Fail> {
-    let mut text = String::new(alloc);
+fn log_told(alloc: Global, log: &[(Request, Reply)]) -> Told {
+    let mut told = Told::new(alloc);
     for (request, reply) in log {
-        text.push_str(request_told(alloc, request)?.as_str())?;
-        text.push_str(" ")?;
-        text.push_str(reply_told(alloc, reply)?.as_str())?;
-        text.push_str("\n")?;
+        put_request(&mut told, request);
+        told.put(" ");
+        put_reply(&mut told, reply);
+        told.put("\n");
     }
-    Ok(text)
+    told
 }
 
-/// What a session shows, and the log of what it asks.
-fn played(alloc: Global, keys: &[KeyLine], replies: Vec<Reply>) -> Result<(Vec<u8>, String), Fail> {
-    let mut port = ScriptPort::new(alloc, replies);
-    let screen = serve(alloc, keys, &mut port)?;
-    let log = log_told(alloc, port.log())?;
-    Ok((screen.bytes().to_vec(alloc)?, log))
+// SESSIONS
+
+/// Whether these bytes are the text, with CR and LF where it has LF.
+fn is_shown(bytes: &[u8], text: &str) -> bool {
+    let mut shown = bytes.iter();
+    for byte in text.as_bytes() {
+        if *byte == b'\n' && shown.next() != Some(&b'\r') {
+            return false;
+        }
+        if shown.next() != Some(byte) {
+            return false;
+        }
+    }
+    shown.next().is_none()
 }
 
-/// Fails with what was shown or asked, unless the session of these keys shows and asks this of a
-/// port that answers so.
+/// Fails with what is shown, unless it is this.
+fn expect_shown(alloc: Global, bytes: &[u8], wanted: &str) -> Result<(), Fail> {
+    if is_shown(bytes, wanted) {
+        return Ok(());
+    }
+    Err(Fail::new(String::from_utf8(Vec::from_slice(alloc, bytes)?)?))
+}
+
+/// Fails with what the session of these keys shows, unless it is this.
+fn expect_screen(
+    alloc: Global,
+    keys: &[KeyLine],
+    port: &mut ScriptPort,
+    wanted: &str,
+) -> Result<(), Fail> {
+    let screen = serve(alloc, keys, port)?;
+    expect_shown(alloc, screen.bytes(), wanted)
+}
+
+/// Fails with what was shown or asked, unless the session of these keys shows and asks this.
+fn expect_session(
+    alloc: Global,
+    keys: &[KeyLine],
+    port: &mut ScriptPort,
+    screen: &str,
+    log: &str,
+) -> Result<(), Fail> {
+    expect_screen(alloc, keys, port, screen)?;
+    log_told(alloc, port.log()).expect(log)
+}
+
+fn push_key(alloc: Global, keys: &mut Vec<KeyLine>, line: &str) -> Result<(), Fail> {
+    if line.len() > 255 {
+        return Err(Fail::from("a key line is too long"));
+    }
+    Ok(keys.push(KeyLine::of(alloc, line.as_bytes())?)?)
+}
+
+fn key_lines(alloc: Global, lines: &[&str]) -> Result<Vec<KeyLine>, Fail> {
+    let mut keys = Vec::new(alloc);
+    for line in lines {
+        push_key(alloc, &mut keys, line)?;
+    }
+    Ok(keys)
+}
+
+/// The same over a port that answers so.
 pub(crate) fn expect_talk(
     alloc: Global,
     keys: &[&str],
@@ -295,25 +355,15 @@ pub(crate) fn expect_talk(
     log: &str,
 ) -> Result<(), Fail> {
     let keys = key_lines(alloc, keys)?;
-    let (shown, asked) = played(alloc, keys.as_slice(), script(alloc, answers)?)?;
-    if shown.as_slice() != with_returns(alloc, screen)?.as_slice() {
-        return Err(Fail::new(String::from_utf8(shown)?));
-    }
-    if asked.as_str() != log {
-        return Err(Fail::new(asked));
-    }
-    Ok(())
+    let mut port = port_of(alloc, false, answers)?;
+    expect_session(alloc, keys.as_slice(), &mut port, screen, log)
 }
 
 /// Fails unless a user's line is the last of a job that expires at one of these answers.
-pub(crate) fn expect_expiring(
-    alloc: Global,
-    line: &str,
-    answers: &[Answer],
-    asked: &str,
-) -> Result<(), Fail> {
-    let screen = format!(in alloc; "{HELLO}\nReady\n{line}\n?Job expired\n")?;
-    let log = format!(in alloc; "Login 100,5;DEMO Done\n{asked}")?;
+fn expect_expiring(alloc: Global, row: &Expiring) -> Result<(), Fail> {
+    let (line, answers, asked) = row;
+    let screen = joined(alloc, &[HELLO, "\nReady\n", line, "\n?Job expired\n"])?;
+    let log = joined(alloc, &["Login 100,5;DEMO Done\n", asked])?;
     expect_talk(
         alloc,
         &[HELLO, line],
@@ -323,12 +373,17 @@ pub(crate) fn expect_expiring(
     )
 }
 
-/// A line, and what it shows.
-pub(crate) type Row = (&'static str, &'static str);
+/// The same for each of these.
+pub(crate) fn expect_all_expiring(alloc: Global, rows: &[Expiring]) -> Result<(), Fail> {
+    for row in rows {
+        expect_expiring(alloc, row)?;
+    }
+    Ok(())
+}
 
 /// The same for a line before the login, which asks nothing.
 pub(crate) fn expect_of_visitor(alloc: Global, line: &str, shown: &str) -> Result<(), Fail> {
-    let screen = format!(in alloc; "{line}\n{shown}")?;
+    let screen = joined(alloc, &[line, "\n", shown])?;
     expect_talk(alloc, &[line], &[], screen.as_str(), "")
 }
 
@@ -356,6 +411,23 @@ pub(crate) fn expect_of_users(alloc: Global, rows: &[Row]) -> Result<(), Fail> {
     Ok(())
 }
 
+/// The same where all of them show one text.
+pub(crate) fn expect_of_each(alloc: Global, lines: &[&str], shown: &str) -> Result<(), Fail> {
+    for line in lines {
+        expect_of_user(alloc, line, shown)?;
+    }
+    Ok(())
+}
+
+/// The same where LF and Ready stand behind what each of them shows.
+pub(crate) fn expect_of_ready(alloc: Global, rows: &[Row]) -> Result<(), Fail> {
+    for (line, text) in rows {
+        let shown = joined(alloc, &[text, "\nReady\n"])?;
+        expect_of_user(alloc, line, shown.as_str())?;
+    }
+    Ok(())
+}
+
 /// The same for lines behind the login one after another, which ask nothing.
 pub(crate) fn expect_of_lines(alloc: Global, lines: &[(&str, &str)]) -> Result<(), Fail> {
     expect_of_files(alloc, lines, &[Answer::Done], "")
@@ -368,34 +440,50 @@ pub(crate) fn expect_of_files(
     answers: &[Answer],
     asked: &str,
 ) -> Result<(), Fail> {
-    let (keys, screen) = keys_and_screen(alloc, lines)?;
-    let mut script = Vec::new(alloc);
-    script.push(Answer::Done)?;
-    script.extend_from_slice(answers)?;
-    let log = format!(in alloc; "Login 100,5;DEMO Done\n{asked}Logout Done\n")?;
-    expect_talk(
-        alloc,
-        keys.as_slice(),
-        script.as_slice(),
-        screen.as_str(),
-        log.as_str(),
-    )
+    let keys = user_keys(alloc, lines)?;
+    let mut port = port_of(alloc, true, answers)?;
+    let screen = user_screen(alloc, lines);
+    let log = user_log(alloc, asked);
+    expect_session(alloc, keys.as_slice(), &mut port, screen.text(), log.text())
 }
 
-/// The keys of lines behind HELLO, and the screen to the end of the session.
-fn keys_and_screen<'a>(
-    alloc: Global,
-    lines: &[(&'a str, &'a str)],
-) -> Result<(Vec<&'a str>, String), Fail> {
-    let mut keys = Vec::new(alloc);
-    keys.push(HELLO)?;
-    let mut screen = format!(in alloc; "{HELLO}\nReady\n")?;
-    for (line, shown) in lines {
-        keys.push(*line)?;
-        screen.push_str(line)?;
-        screen.push_str("\n")?;
-        screen.push_str(shown)?;
+/// The same for each of these.
+pub(crate) fn expect_talks(alloc: Global, talks: &[Talk]) -> Result<(), Fail> {
+    for (lines, answers, asked) in talks {
+        expect_of_files(alloc, lines, answers, asked)?;
     }
-    screen.push_str("Bye\n")?;
-    Ok((keys, screen))
+    Ok(())
+}
+
+/// HELLO, and the lines behind it.
+fn user_keys(alloc: Global, lines: &[(&str, &str)]) -> Result<Vec<KeyLine>, Fail> {
+    let mut keys = Vec::new(alloc);
+    push_key(alloc, &mut keys, HELLO)?;
+    for (line, _) in lines {
+        push_key(alloc, &mut keys, line)?;
+    }
+    Ok(keys)
+}
+
+/// The screen of HELLO and of the lines behind it, to the end of the session.
+fn user_screen(alloc: Global, lines: &[(&str, &str)]) -> Told {
+    let mut screen = Told::new(alloc);
+    screen.put(HELLO);
+    screen.put("\nReady\n");
+    for (line, shown) in lines {
+        screen.put(line);
+        screen.put("\n");
+        screen.put(shown);
+    }
+    screen.put("Bye\n");
+    screen
+}
+
+/// What is asked, between a login and a logout.
+fn user_log(alloc: Global, asked: &str) -> Told {
+    let mut log = Told::new(alloc);
+    log.put("Login 100,5;DEMO Done\n");
+    log.put(asked);
+    log.put("Logout Done\n");
+    log
 }

@@ -1,0 +1,88 @@
+//! A text that is told piece by piece.
+
+use file_names::print;
+use monitor_calls::FileName;
+use std::alloc::{AllocError, Global};
+use std::test::Fail;
+
+/// A text that grows until memory runs out: whoever puts something there need not ask each time.
+#[derive(Drop)]
+pub(crate) struct Told {
+    text: String,
+    is_cut: bool,
+}
+
+impl Told {
+    pub(crate) fn new(alloc: Global) -> Told {
+        Told {
+            text: String::new(alloc),
+            is_cut: false,
+        }
+    }
+
+    pub(crate) fn put(&mut self, word: &str) {
+        let done = self.text.push_str(word);
+        self.note(done);
+    }
+
+    pub(crate) fn put_bytes(&mut self, bytes: &[u8]) {
+        for byte in bytes {
+            let done = self.text.push(*byte as char);
+            self.note(done);
+        }
+    }
+
+    /// A word, and a number behind it.
+    pub(crate) fn count(&mut self, word: &str, number: u16) {
+        self.put(word);
+        let done = write!(self.text, "{number}");
+        self.note(done);
+    }
+
+    fn note(&mut self, done: Result<(), AllocError>) {
+        self.is_cut = self.is_cut || done.is_err();
+    }
+
+    /// A word, the name of a file, and its code where it is given.
+    pub(crate) fn file(&mut self, word: &str, name: &FileName, code: Option<u8>) {
+        self.put(word);
+        let printed = print(name);
+        self.put_bytes(printed.as_slice());
+        if let Some(code) = code {
+            self.count("<", u16::from(code));
+            self.put(">");
+        }
+    }
+
+    /// The text, where it is whole.
+    pub(crate) fn whole(&self) -> Result<&str, Fail> {
+        if self.is_cut {
+            Err(Fail::from("no memory"))
+        } else {
+            Ok(self.text.as_str())
+        }
+    }
+
+    /// The text as far as it came.
+    pub(crate) fn text(&self) -> &str {
+        self.text.as_str()
+    }
+
+    /// Fails with the text, unless it is whole and this one.
+    pub(crate) fn expect(self, wanted: &str) -> Result<(), Fail> {
+        if self.text.as_str() == wanted && !self.is_cut {
+            Ok(())
+        } else {
+            Err(Fail::new(self.text))
+        }
+    }
+}
+
+/// These pieces one behind another.
+pub(crate) fn joined(alloc: Global, pieces: &[&str]) -> Result<String, Fail> {
+    let mut text = String::new(alloc);
+    for piece in pieces {
+        text.push_str(piece)?;
+    }
+    Ok(text)
+}
