@@ -54,16 +54,15 @@ static TEXTS: [&str; 18] = [
     "(I$+LEFT(J$,1%))",
 ];
 
+const FUNCTIONS: &str = "DEF FNN%(X%)=X%\nDEF FNT%(X$)=1%\nDEF FNN$(X%)='A'\n";
+
 /// Whether this is told of a program whose line 40 gives a function that argument.
 fn is_told(alloc: Global, function: &str, argument: &str, wanted: Verdict) -> Result<bool, Fail> {
-    let call = format!(in alloc; "A%={function}({argument})")?;
-    let lines: [&[u8]; 4] = [
-        b"DEF FNN%(X%)=X%",
-        b"DEF FNT%(X$)=1%",
-        b"DEF FNN$(X%)='A'",
-        call.as_bytes(),
-    ];
-    is_judged(alloc, &lines, wanted)
+    is_judged(
+        alloc,
+        &[FUNCTIONS, "A%=", function, "(", argument, ")"],
+        wanted,
+    )
 }
 
 const UNFIT: Verdict = Some((40, LowerCause::Arguments));
@@ -93,16 +92,16 @@ fn an_argument_has_the_kind_of_its_parameter(rt: HostRuntime) -> Result<(), Fail
 }
 
 /// Arguments of a function with the parameters X%, Y$ and Z%, and whether they fit.
-static LISTS: [(&[u8], bool); 9] = [
-    (b"A%=FNA%(1%,'A',2%)", true),
-    (b"A%=FNA%('A',1%,2%)", false),
-    (b"A%=FNA%(1%,2%,3%)", false),
-    (b"A%=FNA%(1%,'A','B')", false),
-    (b"A%=FNA%(1%,'A')", false),
-    (b"A%=FNA%(1%,'A',2%,3%)", false),
-    (b"A%=FNA%", false),
-    (b"A%=FNA%(FNA%(1%,'A',2%),'A',2%)", true),
-    (b"A%=FNA%(FNA%(1%,2%,2%),'A',2%)", false),
+static LISTS: [(&str, bool); 9] = [
+    ("A%=FNA%(1%,'A',2%)", true),
+    ("A%=FNA%('A',1%,2%)", false),
+    ("A%=FNA%(1%,2%,3%)", false),
+    ("A%=FNA%(1%,'A','B')", false),
+    ("A%=FNA%(1%,'A')", false),
+    ("A%=FNA%(1%,'A',2%,3%)", false),
+    ("A%=FNA%", false),
+    ("A%=FNA%(FNA%(1%,'A',2%),'A',2%)", true),
+    ("A%=FNA%(FNA%(1%,2%,2%),'A',2%)", false),
 ];
 
 fn first_wrong_list(alloc: Global) -> Result<Option<usize>, Fail> {
@@ -112,7 +111,7 @@ fn first_wrong_list(alloc: Global) -> Result<Option<usize>, Fail> {
         } else {
             Some((20, LowerCause::Arguments))
         };
-        if !is_judged(alloc, &[b"DEF FNA%(X%,Y$,Z%)=X%+Z%", line], wanted)? {
+        if !is_judged(alloc, &["DEF FNA%(X%,Y$,Z%)=X%+Z%\n", line], wanted)? {
             return Ok(Some(place));
         }
     }

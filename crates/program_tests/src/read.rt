@@ -12,17 +12,20 @@ use std::test::Fail;
 /// A refusal by its line and its cause; none where there is code.
 pub(crate) type Verdict = Option<(u16, LowerCause)>;
 
-/// A program of these lines, which are numbered 10, 20 and so on. Empty ones are left out.
-pub(crate) fn program_of(alloc: Global, lines: &[&[u8]]) -> Result<ProgramText, Fail> {
+/// A program of these lines, which are numbered 10, 20 and so on.
+pub(crate) fn program_of(alloc: Global, lines: &str) -> Result<ProgramText, Fail> {
     let mut text = ProgramText::new(alloc);
+    put_lines(&mut text, lines)?;
+    Ok(text)
+}
+
+fn put_lines(text: &mut ProgramText, lines: &str) -> Result<(), Fail> {
     let mut number = 10;
-    for line in lines {
-        if !line.is_empty() {
-            stored(text.put_line(number, line))?;
-        }
+    for line in lines.lines() {
+        stored(text.put_line(number, line.as_bytes()))?;
         number = if number < 60000 { number + 10 } else { number };
     }
-    Ok(text)
+    Ok(())
 }
 
 fn stored(answer: Result<(), Trouble<EditRefusal>>) -> Result<(), Fail> {
@@ -42,19 +45,29 @@ fn verdict_of(answer: Result<Code, Trouble<LowerRefusal>>) -> Result<Verdict, Fa
 }
 
 /// What a program of these lines is answered.
-fn judged(alloc: Global, lines: &[&[u8]]) -> Result<Verdict, Fail> {
+fn judged(alloc: Global, lines: &str) -> Result<Verdict, Fail> {
     let text = program_of(alloc, lines)?;
     verdict_of(lower(alloc, text.program()))
 }
 
-/// Whether a program of these lines is answered so.
-pub(crate) fn is_judged(alloc: Global, lines: &[&[u8]], wanted: Verdict) -> Result<bool, Fail> {
-    Ok(judged(alloc, lines)? == wanted)
+/// These pieces one behind another.
+fn joined(alloc: Global, pieces: &[&str]) -> Result<String, Fail> {
+    let mut text = String::new(alloc);
+    for piece in pieces {
+        text.push_str(piece)?;
+    }
+    Ok(text)
+}
+
+/// Whether a program is answered so, whose lines are told in these pieces.
+pub(crate) fn is_judged(alloc: Global, pieces: &[&str], wanted: Verdict) -> Result<bool, Fail> {
+    let lines = joined(alloc, pieces)?;
+    Ok(judged(alloc, lines.as_str())? == wanted)
 }
 
 /// What a line is answered in immediate mode.
-fn judged_now(alloc: Global, line: &[u8]) -> Result<Verdict, Fail> {
-    let text = program_of(alloc, &[line])?;
+fn judged_now(alloc: Global, line: &str) -> Result<Verdict, Fail> {
+    let text = program_of(alloc, line)?;
     match text.program().lines.get(&10) {
         Some(line) => verdict_of(lower_now(alloc, line)),
         None => Err(Fail::from("no line")),
@@ -62,6 +75,6 @@ fn judged_now(alloc: Global, line: &[u8]) -> Result<Verdict, Fail> {
 }
 
 /// Whether a line is answered so in immediate mode.
-pub(crate) fn is_judged_now(alloc: Global, line: &[u8], wanted: Verdict) -> Result<bool, Fail> {
+pub(crate) fn is_judged_now(alloc: Global, line: &str, wanted: Verdict) -> Result<bool, Fail> {
     Ok(judged_now(alloc, line)? == wanted)
 }

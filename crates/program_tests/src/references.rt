@@ -7,13 +7,13 @@ use std::alloc::Global;
 use std::test::Fail;
 
 /// The lines of a program, numbered 10, 20 and so on, and what it is answered.
-type Row = ([&'static [u8]; 6], Verdict);
+type Row = (&'static str, Verdict);
 
 const ACROSS: LowerCause = LowerCause::AcrossBody;
 
 fn first_wrong(alloc: Global, rows: &[Row]) -> Result<Option<usize>, Fail> {
     for (place, (lines, wanted)) in rows.iter().enumerate() {
-        if !is_judged(alloc, lines.as_slice(), *wanted)? {
+        if !is_judged(alloc, &[lines], *wanted)? {
             return Ok(Some(place));
         }
     }
@@ -22,108 +22,36 @@ fn first_wrong(alloc: Global, rows: &[Row]) -> Result<Option<usize>, Fail> {
 
 static BODIES: [Row; 14] = [
     // into the body, to its result and to its FNEND
-    (
-        [b"DEF FNA%(X%)", b"FNA%=X%", b"FNEND", b"GOTO 20", b"", b""],
-        Some((40, ACROSS)),
-    ),
-    (
-        [b"DEF FNA%(X%)", b"FNA%=X%", b"FNEND", b"GOTO 30", b"", b""],
-        Some((40, ACROSS)),
-    ),
+    ("DEF FNA%(X%)\nFNA%=X%\nFNEND\nGOTO 20", Some((40, ACROSS))),
+    ("DEF FNA%(X%)\nFNA%=X%\nFNEND\nGOTO 30", Some((40, ACROSS))),
     // to its DEF, which stands outside
-    (
-        [b"DEF FNA%(X%)", b"FNA%=X%", b"FNEND", b"GOTO 10", b"", b""],
-        None,
-    ),
+    ("DEF FNA%(X%)\nFNA%=X%\nFNEND\nGOTO 10", None),
     // out of it, to what is behind and to its own DEF
-    (
-        [b"DEF FNA%(X%)", b"GOTO 40", b"FNEND", b"END", b"", b""],
-        Some((20, ACROSS)),
-    ),
-    (
-        [b"DEF FNA%(X%)", b"GOTO 10", b"FNEND", b"END", b"", b""],
-        Some((20, ACROSS)),
-    ),
+    ("DEF FNA%(X%)\nGOTO 40\nFNEND\nEND", Some((20, ACROSS))),
+    ("DEF FNA%(X%)\nGOTO 10\nFNEND\nEND", Some((20, ACROSS))),
     // within it
-    (
-        [b"DEF FNA%(X%)", b"GOTO 30", b"FNEND", b"END", b"", b""],
-        None,
-    ),
-    (
-        [
-            b"DEF FNA%(X%)",
-            b"IF X%=0% THEN 30",
-            b"FNEND",
-            b"END",
-            b"",
-            b"",
-        ],
-        None,
-    ),
+    ("DEF FNA%(X%)\nGOTO 30\nFNEND\nEND", None),
+    ("DEF FNA%(X%)\nIF X%=0% THEN 30\nFNEND\nEND", None),
     // beside it
-    (
-        [
-            b"GOTO 50",
-            b"DEF FNA%(X%)",
-            b"FNA%=X%",
-            b"FNEND",
-            b"END",
-            b"",
-        ],
-        None,
-    ),
-    (
-        [
-            b"GOSUB 50",
-            b"DEF FNA%(X%)",
-            b"FNA%=X%",
-            b"FNEND",
-            b"RETURN",
-            b"",
-        ],
-        None,
-    ),
+    ("GOTO 50\nDEF FNA%(X%)\nFNA%=X%\nFNEND\nEND", None),
+    ("GOSUB 50\nDEF FNA%(X%)\nFNA%=X%\nFNEND\nRETURN", None),
     // a line without statements stands for the next one that has some
     (
-        [
-            b"GOTO 30",
-            b"DEF FNA%(X%)",
-            b"!",
-            b"FNA%=X%",
-            b"FNEND",
-            b"END",
-        ],
+        "GOTO 30\nDEF FNA%(X%)\n!\nFNA%=X%\nFNEND\nEND",
         Some((10, ACROSS)),
     ),
     (
-        [b"DEF FNA%(X%)", b"!", b"FNA%=X%", b"FNEND", b"GOTO 20", b""],
+        "DEF FNA%(X%)\n!\nFNA%=X%\nFNEND\nGOTO 20",
         Some((50, ACROSS)),
     ),
-    ([b"GOTO 20", b"!", b"END", b"", b"", b""], None),
+    ("GOTO 20\n!\nEND", None),
     // from one body into another
     (
-        [
-            b"DEF FNA%(X%)",
-            b"GOTO 50",
-            b"FNEND",
-            b"DEF FNB%(X%)",
-            b"FNEND",
-            b"",
-        ],
+        "DEF FNA%(X%)\nGOTO 50\nFNEND\nDEF FNB%(X%)\nFNEND",
         Some((20, ACROSS)),
     ),
     // the lines of an ON are judged one by one
-    (
-        [
-            b"ON A% GOTO 10,30",
-            b"DEF FNA%(X%)",
-            b"FNEND",
-            b"",
-            b"",
-            b"",
-        ],
-        Some((10, ACROSS)),
-    ),
+    ("ON A% GOTO 10,30\nDEF FNA%(X%)\nFNEND", Some((10, ACROSS))),
 ];
 
 #[test]
@@ -132,94 +60,44 @@ fn references_stay_in_their_body(rt: HostRuntime) -> Result<(), Fail> {
 }
 
 static LINES: [Row; 19] = [
-    ([b"GOTO 10", b"", b"", b"", b"", b""], None),
-    (
-        [b"GOTO 15", b"END", b"", b"", b"", b""],
-        Some((10, LowerCause::NoLine)),
-    ),
-    (
-        [b"ON A% GOSUB 10,11", b"END", b"", b"", b"", b""],
-        Some((10, LowerCause::NoLine)),
-    ),
-    (
-        [b"IF A%=1% THEN 11 ELSE 10", b"", b"", b"", b"", b""],
-        Some((10, LowerCause::NoLine)),
-    ),
-    (
-        [b"IF A%=1% THEN 10 ELSE 11", b"", b"", b"", b"", b""],
-        Some((10, LowerCause::NoLine)),
-    ),
-    (
-        [b"IF A%=1% GOTO 11", b"", b"", b"", b"", b""],
-        Some((10, LowerCause::NoLine)),
-    ),
-    (
-        [b"GOTO 11 IF A%=1%", b"", b"", b"", b"", b""],
-        Some((10, LowerCause::NoLine)),
-    ),
+    ("GOTO 10", None),
+    ("GOTO 15\nEND", Some((10, LowerCause::NoLine))),
+    ("ON A% GOSUB 10,11\nEND", Some((10, LowerCause::NoLine))),
+    ("IF A%=1% THEN 11 ELSE 10", Some((10, LowerCause::NoLine))),
+    ("IF A%=1% THEN 10 ELSE 11", Some((10, LowerCause::NoLine))),
+    ("IF A%=1% GOTO 11", Some((10, LowerCause::NoLine))),
+    ("GOTO 11 IF A%=1%", Some((10, LowerCause::NoLine))),
     // line 0 is none
-    (
-        [b"ON ERROR GOTO 0", b"RESUME 0", b"END", b"", b"", b""],
-        None,
-    ),
-    ([b"ON ERROR GOTO", b"RESUME", b"END", b"", b"", b""], None),
-    (
-        [b"ON ERROR GOTO 11", b"END", b"", b"", b"", b""],
-        Some((10, LowerCause::NoLine)),
-    ),
+    ("ON ERROR GOTO 0\nRESUME 0\nEND", None),
+    ("ON ERROR GOTO\nRESUME\nEND", None),
+    ("ON ERROR GOTO 11\nEND", Some((10, LowerCause::NoLine))),
     // in a body errors are not handled
+    ("DEF FNA%(X%)\nRESUME\nFNEND", Some((20, ACROSS))),
     (
-        [b"DEF FNA%(X%)", b"RESUME", b"FNEND", b"", b"", b""],
-        Some((20, ACROSS)),
-    ),
-    (
-        [
-            b"DEF FNA%(X%)",
-            b"IF X%=1% THEN ON ERROR GOTO 0",
-            b"FNEND",
-            b"",
-            b"",
-            b"",
-        ],
+        "DEF FNA%(X%)\nIF X%=1% THEN ON ERROR GOTO 0\nFNEND",
         Some((20, ACROSS)),
     ),
     // arrays of DIM
     (
-        [
-            b"DIM A%(3%),B%(3%)",
-            b"DIM A$(3%)",
-            b"DIM A%(3%,3%)",
-            b"",
-            b"",
-            b"",
-        ],
+        "DIM A%(3%),B%(3%)\nDIM A$(3%)\nDIM A%(3%,3%)",
         Some((30, LowerCause::DoubleDim)),
     ),
-    (
-        [b"DIM A%(3%),A%(3%)", b"", b"", b"", b"", b""],
-        Some((10, LowerCause::DoubleDim)),
-    ),
+    ("DIM A%(3%),A%(3%)", Some((10, LowerCause::DoubleDim))),
     // a function that is defined behind its call, and calls within arguments
+    ("A%=FNA%(FNA%(1%))\nDEF FNA%(X%)=X%", None),
     (
-        [b"A%=FNA%(FNA%(1%))", b"DEF FNA%(X%)=X%", b"", b"", b"", b""],
-        None,
-    ),
-    (
-        [b"A%=FNA%(FNB%(1%))", b"DEF FNA%(X%)=X%", b"", b"", b"", b""],
+        "A%=FNA%(FNB%(1%))\nDEF FNA%(X%)=X%",
         Some((10, LowerCause::NoFunction)),
     ),
     (
-        [b"A%(FNA%)=1%", b"DEF FNA%(X%)=X%", b"", b"", b"", b""],
+        "A%(FNA%)=1%\nDEF FNA%(X%)=X%",
         Some((10, LowerCause::Arguments)),
     ),
     (
-        [b"A%(FNA%('1'))=1%", b"DEF FNA%(X%)=X%", b"", b"", b"", b""],
+        "A%(FNA%('1'))=1%\nDEF FNA%(X%)=X%",
         Some((10, LowerCause::Arguments)),
     ),
-    (
-        [b"DEF FNA$(X$)=FNA$(1%)", b"", b"", b"", b"", b""],
-        Some((10, LowerCause::Arguments)),
-    ),
+    ("DEF FNA$(X$)=FNA$(1%)", Some((10, LowerCause::Arguments))),
 ];
 
 #[test]
@@ -228,86 +106,32 @@ fn lines_arrays_and_functions_are_found(rt: HostRuntime) -> Result<(), Fail> {
 }
 
 static LOOPS: [Row; 10] = [
-    (
-        [
-            b"FOR I%=1% TO 3%",
-            b"FOR J%=1% TO 3%",
-            b"NEXT J%",
-            b"NEXT I%",
-            b"",
-            b"",
-        ],
-        None,
-    ),
-    ([b"FOR I%=1% TO 3%:NEXT I%", b"", b"", b"", b"", b""], None),
+    ("FOR I%=1% TO 3%\nFOR J%=1% TO 3%\nNEXT J%\nNEXT I%", None),
+    ("FOR I%=1% TO 3%:NEXT I%", None),
     // a NEXT closes the nearest FOR alone
     (
-        [
-            b"FOR I%=1% TO 3%",
-            b"FOR J%=1% TO 3%",
-            b"NEXT I%",
-            b"NEXT J%",
-            b"",
-            b"",
-        ],
+        "FOR I%=1% TO 3%\nFOR J%=1% TO 3%\nNEXT I%\nNEXT J%",
         Some((10, LowerCause::OpenFor)),
     ),
     (
-        [b"FOR I%=1% TO 3%", b"NEXT I%", b"NEXT I%", b"", b"", b""],
+        "FOR I%=1% TO 3%\nNEXT I%\nNEXT I%",
         Some((30, LowerCause::StrayNext)),
     ),
     // of its body
     (
-        [
-            b"FOR I%=1% TO 3%",
-            b"DEF FNA%(X%)",
-            b"NEXT I%",
-            b"FNEND",
-            b"NEXT I%",
-            b"",
-        ],
+        "FOR I%=1% TO 3%\nDEF FNA%(X%)\nNEXT I%\nFNEND\nNEXT I%",
         Some((30, LowerCause::StrayNext)),
     ),
-    (
-        [
-            b"FOR I%=1% TO 3%",
-            b"DEF FNA%(X%)",
-            b"FNEND",
-            b"NEXT I%",
-            b"",
-            b"",
-        ],
-        None,
-    ),
-    (
-        [
-            b"DEF FNA%(X%)",
-            b"FOR I%=1% TO 3%",
-            b"NEXT I%",
-            b"FNEND",
-            b"",
-            b"",
-        ],
-        None,
-    ),
+    ("FOR I%=1% TO 3%\nDEF FNA%(X%)\nFNEND\nNEXT I%", None),
+    ("DEF FNA%(X%)\nFOR I%=1% TO 3%\nNEXT I%\nFNEND", None),
     // DEF and FNEND
+    ("DEF FNA%(X%)\nFNA%=X%", Some((10, LowerCause::OpenDef))),
     (
-        [b"DEF FNA%(X%)", b"FNA%=X%", b"", b"", b"", b""],
-        Some((10, LowerCause::OpenDef)),
-    ),
-    (
-        [b"DEF FNA%(X%)", b"FNB%=X%", b"FNEND", b"", b"", b""],
+        "DEF FNA%(X%)\nFNB%=X%\nFNEND",
         Some((20, LowerCause::StrayResult)),
     ),
     (
-        [
-            b"DEF FNA%(X%)",
-            b"FNA%=X%",
-            b"FNEND",
-            b"DEF FNA%(X%)=X%",
-            b"",
-            b"",
-        ],
+        "DEF FNA%(X%)\nFNA%=X%\nFNEND\nDEF FNA%(X%)=X%",
         Some((40, LowerCause::DoubleDef)),
     ),
 ];
