@@ -96,42 +96,33 @@ static RANGES: [(u16, u16, &[u8], &[u8]); 6] = [
     (0, 65535, b"10!\r\n20!\r\n30!\r\n", b""),
 ];
 
-/// Three lines, which are put out of their order.
-fn three_lines(alloc: Global) -> Option<ProgramText> {
-    let mut text = ProgramText::new(alloc);
-    for number in [30, 10, 20] {
-        if line_put(&mut text, number, b"!") != Put::Done {
-            return None;
-        }
-    }
-    Some(text)
+/// Puts three lines out of their order into a text; not where one is refused.
+fn puts_three(text: &mut ProgramText) -> bool {
+    line_put(text, 30, b"!") == Put::Done
+        && line_put(text, 10, b"!") == Put::Done
+        && line_put(text, 20, b"!") == Put::Done
 }
 
-fn is_listed_and_deleted(
-    alloc: Global,
-    from: u16,
-    to: u16,
-    listed: &[u8],
-    left: &[u8],
-) -> Result<bool, Fail> {
-    let mut text = three_lines(alloc).ok_or("a line is refused")?;
+fn is_listed_and_deleted(alloc: Global, from: u16, to: u16, listed: &[u8], left: &[u8]) -> bool {
+    let mut text = ProgramText::new(alloc);
+    let are_put = puts_three(&mut text);
     let is_listed = lists(&text, from, to, listed);
     text.delete(from, to);
-    Ok(is_listed && lists(&text, 0, 65535, left))
+    are_put && is_listed && lists(&text, 0, 65535, left)
 }
 
-fn first_wrong_range(alloc: Global) -> Result<Option<usize>, Fail> {
+fn first_wrong_range(alloc: Global) -> Option<usize> {
     for (place, (from, to, listed, left)) in RANGES.iter().enumerate() {
-        if !is_listed_and_deleted(alloc, *from, *to, listed, left)? {
-            return Ok(Some(place));
+        if !is_listed_and_deleted(alloc, *from, *to, listed, left) {
+            return Some(place);
         }
     }
-    Ok(None)
+    None
 }
 
 #[test]
 fn ranges_are_listed_and_deleted(rt: HostRuntime) -> Result<(), Fail> {
-    expect_none(rt.alloc(), first_wrong_range(rt.alloc())?)
+    expect_none(rt.alloc(), first_wrong_range(rt.alloc()))
 }
 
 /// Lines that grow, shrink and go, at both ends of three lines and between them.
@@ -151,7 +142,8 @@ static CHANGED: [(u16, &[u8], &[u8]); 11] = [
 
 #[test]
 fn lines_grow_and_shrink_in_place(rt: HostRuntime) -> Result<(), Fail> {
-    let mut text = three_lines(rt.alloc()).ok_or("a line is refused")?;
+    let mut text = ProgramText::new(rt.alloc());
+    expect(puts_three(&mut text), "three lines are put")?;
     expect_none(rt.alloc(), first_wrong_store(&mut text, &CHANGED))
 }
 
@@ -178,7 +170,8 @@ fn first_wrong_line(text: &ProgramText) -> Option<usize> {
 
 #[test]
 fn a_line_is_lent_where_it_is_there(rt: HostRuntime) -> Result<(), Fail> {
-    let text = three_lines(rt.alloc()).ok_or("a line is refused")?;
+    let mut text = ProgramText::new(rt.alloc());
+    expect(puts_three(&mut text), "three lines are put")?;
     expect_none(rt.alloc(), first_wrong_line(&text))
 }
 
@@ -197,36 +190,37 @@ static REFUSED: [(u16, Option<&[u8]>, Put); 10] = [
 ];
 
 /// Whether a text of one line is answered so, and keeps its line.
-fn is_refused(alloc: Global, number: u16, rest: &[u8], answer: Put) -> Result<bool, Fail> {
+fn is_refused(alloc: Global, number: u16, rest: &[u8], answer: Put) -> bool {
     let mut text = ProgramText::new(alloc);
     let is_put = line_put(&mut text, 10, b" STOP") == Put::Done;
     let is_refused = line_put(&mut text, number, rest) == answer;
-    Ok(is_put && is_refused && lists(&text, 1, 32767, b"10 STOP\r\n"))
+    is_put && is_refused && lists(&text, 1, 32767, b"10 STOP\r\n")
 }
 
-fn first_wrong_refusal(alloc: Global) -> Result<Option<usize>, Fail> {
-    let long = vec![in alloc; b'&'; 300]?;
+fn first_wrong_refusal(alloc: Global, long: &[u8]) -> Option<usize> {
     for (place, (number, rest, answer)) in REFUSED.iter().enumerate() {
         let rest = match rest {
             Some(rest) => *rest,
-            None => long.as_slice(),
+            None => long,
         };
-        if !is_refused(alloc, *number, rest, *answer)? {
-            return Ok(Some(place));
+        if !is_refused(alloc, *number, rest, *answer) {
+            return Some(place);
         }
     }
-    Ok(None)
+    None
 }
 
 #[test]
 fn refused_lines_change_nothing(rt: HostRuntime) -> Result<(), Fail> {
-    expect_none(rt.alloc(), first_wrong_refusal(rt.alloc())?)
+    let long = vec![in rt.alloc(); b'&'; 300]?;
+    let wrong = first_wrong_refusal(rt.alloc(), long.as_slice());
+    expect_none(rt.alloc(), wrong)
 }
 
 /// The answer to a comment of so many bytes.
 fn comment(alloc: Global, number: u16, length: usize) -> Result<Put, Fail> {
-    let mut text = ProgramText::new(alloc);
     let rest = vec![in alloc; b'!'; length]?;
+    let mut text = ProgramText::new(alloc);
     Ok(line_put(&mut text, number, &rest))
 }
 
@@ -254,26 +248,24 @@ fn a_line_has_255_bytes_with_its_number(rt: HostRuntime) -> Result<(), Fail> {
     expect_none(rt.alloc(), first_wrong_comment(rt.alloc())?)
 }
 
-/// A text of 1,000 lines; none where a line is refused.
-fn full_text(alloc: Global) -> Option<ProgramText> {
-    let mut text = ProgramText::new(alloc);
-    for number in 1..=1000 {
-        if line_put(&mut text, number, b"!") != Put::Done {
-            return None;
+/// Puts so many lines into a text, from a number on; not where one is refused.
+fn puts(text: &mut ProgramText, first: u16, count: u16, rest: &[u8]) -> bool {
+    for number in first..first.saturating_add(count) {
+        if line_put(text, number, rest) != Put::Done {
+            return false;
         }
     }
-    Some(text)
+    true
 }
 
-/// The same lines, entered in falling order.
-fn fallen_text(alloc: Global) -> Option<ProgramText> {
-    let mut text = ProgramText::new(alloc);
+/// Puts 1,000 lines into a text in falling order.
+fn puts_falling(text: &mut ProgramText) -> bool {
     for entered in 0..1000 {
-        if line_put(&mut text, 1000 - entered, b"!") != Put::Done {
-            return None;
+        if line_put(text, 1000 - entered, b"!") != Put::Done {
+            return false;
         }
     }
-    Some(text)
+    true
 }
 
 /// Fails unless a text of falling lines has those of a text of rising ones.
@@ -286,24 +278,17 @@ fn expect_same(risen: &ProgramText, fallen: &ProgramText) -> Result<(), Fail> {
 
 #[test]
 fn lines_may_be_entered_in_falling_order(rt: HostRuntime) -> Result<(), Fail> {
-    let risen = full_text(rt.alloc()).ok_or("a line is refused")?;
-    let fallen = fallen_text(rt.alloc()).ok_or("a line is refused")?;
+    let mut risen = ProgramText::new(rt.alloc());
+    let mut fallen = ProgramText::new(rt.alloc());
+    let are_put = puts(&mut risen, 1, 1000, b"!") && puts_falling(&mut fallen);
+    expect(are_put, "all lines are put")?;
     expect_same(&risen, &fallen)
 }
 
-/// 1,000 lines of 255 bytes with their numbers, from 1000 on.
-fn long_text(alloc: Global, rest: &[u8]) -> Option<ProgramText> {
-    let mut text = ProgramText::new(alloc);
-    for number in 1000..2000 {
-        if line_put(&mut text, number, rest) != Put::Done {
-            return None;
-        }
-    }
-    Some(text)
-}
-
-/// Fails unless those lines are listed whole, and the first and the last are lent.
-fn expect_long(text: &ProgramText, rest: &[u8]) -> Result<(), Fail> {
+/// Fails unless 1,000 lines of 255 bytes with their numbers, from 1000 on, are listed whole, and the
+/// first and the last are lent.
+fn expect_long(text: &mut ProgramText, rest: &[u8]) -> Result<(), Fail> {
+    expect(puts(text, 1000, 1000, rest), "all lines are put")?;
     expect(text.list(1, 32767).len() == 257_000, "all lines")?;
     expect(text.list(1500, 1500).len() == 257, "line 1500")?;
     expect(lends(text, 1000, Some(rest)), "line 1000")?;
@@ -314,8 +299,8 @@ fn expect_long(text: &ProgramText, rest: &[u8]) -> Result<(), Fail> {
 #[test]
 fn long_lines_are_listed_whole(rt: HostRuntime) -> Result<(), Fail> {
     let rest = vec![in rt.alloc(); b'!'; 251]?;
-    let text = long_text(rt.alloc(), &rest).ok_or("a line is refused")?;
-    expect_long(&text, &rest)
+    let mut text = ProgramText::new(rt.alloc());
+    expect_long(&mut text, &rest)
 }
 
 /// Lines that are put into a text of 1,000 lines one after another, and their answers.
@@ -338,9 +323,15 @@ fn first_wrong_beyond(text: &mut ProgramText) -> Option<usize> {
     None
 }
 
+/// Fails with the first row whose line is answered otherwise by a text of 1,000 lines.
+fn expect_full(alloc: Global, text: &mut ProgramText) -> Result<(), Fail> {
+    expect(puts(text, 1, 1000, b"!"), "all lines are put")?;
+    expect_none(alloc, first_wrong_beyond(text))?;
+    expect(count(text) == 1000, "how many lines there are")
+}
+
 #[test]
 fn a_text_has_1000_lines(rt: HostRuntime) -> Result<(), Fail> {
-    let mut text = full_text(rt.alloc()).ok_or("a line is refused")?;
-    expect_none(rt.alloc(), first_wrong_beyond(&mut text))?;
-    expect(count(&text) == 1000, "how many lines there are")
+    let mut text = ProgramText::new(rt.alloc());
+    expect_full(rt.alloc(), &mut text)
 }

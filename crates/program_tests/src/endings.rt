@@ -8,7 +8,6 @@ use basic_values::{Fault, Halt, Int};
 use program_model::Home;
 use std::alloc::Global;
 use std::test::Fail;
-use terminal_line::Screen;
 
 const HOME: Home = Home {
     start: 3,
@@ -16,22 +15,13 @@ const HOME: Home = Home {
     line: 10,
 };
 
-/// A screen that shows this.
-fn screen_of(alloc: Global, shown: &[u8]) -> Result<Screen, Fail> {
-    let mut screen = Screen::new(alloc);
-    screen.write(shown)?;
-    Ok(screen)
-}
-
-/// A job at an item of line 10, whose screen shows this.
-fn running(alloc: Global, shown: &[u8]) -> Result<Running, Fail> {
-    let screen = screen_of(alloc, shown)?;
-    let mut state = at_rest(alloc)?;
-    state.screen = screen;
+/// Puts a job at an item of line 10, and shows this on its screen.
+fn set(state: &mut Running, shown: &[u8]) -> Result<(), Fail> {
+    state.screen.write(shown)?;
     state.item = 5;
     state.line = 10;
     state.home = HOME;
-    Ok(state)
+    Ok(())
 }
 
 /// How a program ends, in few words.
@@ -75,16 +65,22 @@ static ENDINGS: [Ending; 8] = [
     (b"", Why::StoppedInside, 40, b"Stop at line 40\r\n"),
 ];
 
-fn is_told(alloc: Global, ending: &Ending) -> Result<bool, Fail> {
-    let mut state = running(alloc, ending.0)?;
+/// Whether the end of a job is told so.
+fn is_told(state: &mut Running, ending: &Ending) -> Result<bool, Fail> {
+    set(state, ending.0)?;
     state.line = ending.2;
-    write_ending(&mut state, exit(ending.1))?;
+    write_ending(state, exit(ending.1))?;
     Ok(state.screen.bytes() == ending.3)
+}
+
+fn is_told_at_rest(alloc: Global, ending: &Ending) -> Result<bool, Fail> {
+    let mut state = at_rest(alloc)?;
+    is_told(&mut state, ending)
 }
 
 fn first_wrong(alloc: Global) -> Result<Option<usize>, Fail> {
     for (place, ending) in ENDINGS.iter().enumerate() {
-        if !is_told(alloc, ending)? {
+        if !is_told_at_rest(alloc, ending)? {
             return Ok(Some(place));
         }
     }
@@ -102,15 +98,15 @@ const A: Name = Name {
     text: false,
 };
 
-/// A job in which a number, a handler and a place to return to are kept.
-fn kept(alloc: Global) -> Result<Running, Fail> {
-    let mut state = running(alloc, b"A")?;
+/// Keeps a number, a handler and a place to return to in a job.
+fn keep(state: &mut Running) -> Result<(), Fail> {
+    set(state, b"A")?;
     if state.storage.set_number(A, Int::new(7)).is_err() {
-        return Err("the number is refused")?;
+        return Err(Fail::from("the number is refused"));
     }
     state.trap.handler = Some(100);
     state.returns.push(Spot::new(3, HOME))?;
-    Ok(state)
+    Ok(())
 }
 
 /// Whether nothing is kept but the screen, and limits that let a FOR take no turn.
@@ -127,9 +123,15 @@ fn has_limits(state: &Running) -> bool {
     limits.len() == 2 && limits[1].0 == Int::new(0) && limits[1].1 == Int::new(1)
 }
 
+/// Fails unless a job in which that is kept is cleared.
+fn expect_cleared(state: &mut Running) -> Result<(), Fail> {
+    keep(state)?;
+    clear(state, 2)?;
+    expect(is_cleared(state) && has_limits(state), "what is kept")
+}
+
 #[test]
 fn a_program_begins_with_nothing_kept(rt: HostRuntime) -> Result<(), Fail> {
-    let mut state = kept(rt.alloc())?;
-    clear(&mut state, 2)?;
-    expect(is_cleared(&state) && has_limits(&state), "what is kept")
+    let mut state = at_rest(rt.alloc())?;
+    expect_cleared(&mut state)
 }

@@ -5,6 +5,7 @@ use basic_values::Trouble;
 use line_editor::ProgramText;
 use monitor_calls::Page;
 use std::alloc::Global;
+use std::slice;
 use std::test::Fail;
 
 /// One page that begins with these bytes.
@@ -50,17 +51,17 @@ fn has_listing(text: &ProgramText, wanted: Option<&[u8]>) -> bool {
 }
 
 /// Whether the program of a file has this listing; for none, whether it is refused with 50.
-fn is_listed(alloc: Global, pages: &[Page], wanted: Option<&[u8]>) -> Result<bool, Fail> {
+fn is_listed(alloc: Global, pages: &[Page], wanted: Option<&[u8]>) -> bool {
     match ProgramText::from_file(alloc, pages) {
-        Ok(text) => Ok(has_listing(&text, wanted)),
-        Err(Trouble::Refused(fault)) if fault.number() == 50 => Ok(wanted.is_none()),
-        Err(_) => Err("another answer")?,
+        Ok(text) => has_listing(&text, wanted),
+        Err(Trouble::Refused(fault)) => fault.number() == 50 && wanted.is_none(),
+        Err(Trouble::NoMemory) => false,
     }
 }
 
 fn is_read(alloc: Global, bytes: &[u8], wanted: Option<&[u8]>) -> Result<bool, Fail> {
-    let pages = [page_of(alloc, bytes)?];
-    is_listed(alloc, &pages, wanted)
+    let page = page_of(alloc, bytes)?;
+    Ok(is_listed(alloc, slice::from_ref(&page), wanted))
 }
 
 fn first_wrong(alloc: Global) -> Result<Option<usize>, Fail> {
@@ -77,23 +78,27 @@ fn a_file_is_read(rt: HostRuntime) -> Result<(), Fail> {
     expect_none(rt.alloc(), first_wrong(rt.alloc())?)
 }
 
-/// A program of so many lines.
-fn lines_of_two(alloc: Global, count: u16) -> Result<ProgramText, Fail> {
-    let mut text = ProgramText::new(alloc);
+/// Puts so many lines into a text.
+fn put_lines(text: &mut ProgramText, count: u16) -> Result<(), Fail> {
     for number in 100..100u16.saturating_add(count) {
         if text.put_line(number, b"!!").is_err() {
-            return Err("a line is refused")?;
+            return Err(Fail::from("a line is refused"));
         }
     }
-    Ok(text)
+    Ok(())
 }
 
-/// Whether the file of a program of so many lines has so many pages, and is read as that program.
-fn is_written(alloc: Global, count: u16, pages: usize) -> Result<bool, Fail> {
-    let text = lines_of_two(alloc, count)?;
+/// Whether the file of a text has so many pages, and is read as that text.
+fn is_kept(alloc: Global, text: &ProgramText, pages: usize) -> Result<bool, Fail> {
     let file = text.to_file()?;
-    let is_same = is_listed(alloc, file.as_slice(), Some(text.list(1, 32767)))?;
-    Ok(is_same && file.len() == pages)
+    Ok(file.len() == pages && is_listed(alloc, file.as_slice(), Some(text.list(1, 32767))))
+}
+
+/// The same of a text of so many lines.
+fn is_written(alloc: Global, count: u16, pages: usize) -> Result<bool, Fail> {
+    let mut text = ProgramText::new(alloc);
+    put_lines(&mut text, count)?;
+    is_kept(alloc, &text, pages)
 }
 
 /// How many lines a program has, and how many pages its file.
