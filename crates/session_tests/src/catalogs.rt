@@ -22,6 +22,14 @@ fn shown(alloc: Global, port: &mut ScriptPort, screen: &mut Screen) -> Result<u8
     Ok(ending(&show_catalog(alloc, port, OWNER, screen)))
 }
 
+fn expect_shown(screen: &Screen, wanted: &[u8]) -> Result<(), Fail> {
+    if screen.bytes() == wanted {
+        Ok(())
+    } else {
+        Err(Fail::from("another catalog is shown"))
+    }
+}
+
 /// Fails unless a catalog over a port shows, asks and ends so.
 fn expect_over(
     alloc: Global,
@@ -30,9 +38,7 @@ fn expect_over(
     row: &Row,
 ) -> Result<(), Fail> {
     let ending = shown(alloc, port, screen)?;
-    if screen.bytes() != row.1 {
-        return Err(Fail::from("another catalog is shown"));
-    }
+    expect_shown(screen, row.1)?;
     expect_asked(alloc, port, row.2, ending, row.3)
 }
 
