@@ -65,12 +65,16 @@ static ENDINGS: [Ending; 8] = [
     (b"", Why::StoppedInside, 40, b"Stop at line 40\r\n"),
 ];
 
+fn shows(state: &Running, wanted: &[u8]) -> bool {
+    state.screen.bytes() == wanted
+}
+
 /// Whether the end of a job is told so.
 fn is_told(state: &mut Running, ending: &Ending) -> Result<bool, Fail> {
     set(state, ending.0)?;
     state.line = ending.2;
     write_ending(state, exit(ending.1))?;
-    Ok(state.screen.bytes() == ending.3)
+    Ok(shows(state, ending.3))
 }
 
 fn is_told_at_rest(alloc: Global, ending: &Ending) -> Result<bool, Fail> {
