@@ -4,7 +4,7 @@ ghost use Rattle.std.specs.Prelude.{◌≡◌, ◌≤◌, [], ◌∷◌};
 ghost use Rattle.monitor_calls.specs.Pairs.{requests};
 ghost use Rattle.monitor_calls.specs.declared.calls.Request.TheVariants.{Login, Logout};
 
-use crate::volumes::{DEMO, password, volume};
+use crate::volumes::{DEMO, opened, password};
 use basic_values::NoMemory;
 use monitor_calls::{Account, Port, Request, Screen2, Short};
 use monitor_core::Monitor;
@@ -123,8 +123,13 @@ impl<'a, R: Clock> Pacer for Together<'a, R> {
 
 /// How many entries of a run are a job's.
 fn entries_of(end: &RunEnd, job: u32) -> u64 {
-    let entries = end.run.as_slice().iter().filter(|entry| entry.job == job);
-    entries.count() as u64
+    let mut count = 0u64;
+    for entry in end.run.as_slice() {
+        if entry.job == job {
+            count = count.saturating_add(1);
+        }
+    }
+    count
 }
 
 /// How often the pacer was called before and after the calls of a job.
@@ -153,17 +158,6 @@ fn expect_held<R: Clock>(pacer: &Together<'_, R>, end: &RunEnd, jobs: u32) -> Re
         }
     }
     Ok(())
-}
-
-/// A monitor for so many jobs, over a volume with one account.
-fn opened(alloc: Global, jobs: u32) -> Result<Monitor, Fail>
-    requires { jobs ≤ 63 }
-{
-    let volume = volume(alloc)?;
-    if !volume.is_good() {
-        return Err(Fail::new("the volume is not good"));
-    }
-    Ok(Monitor::open(alloc, &volume, jobs)?)
 }
 
 /// All jobs of a monitor are run.

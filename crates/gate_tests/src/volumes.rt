@@ -1,6 +1,9 @@
-//! A volume with one account, and the login to it.
+//! A monitor over a volume with one account, and the login to it.
+
+ghost use Rattle.std.specs.Prelude.{◌≡◌, ◌≤◌, IfOk, length};
 
 use monitor_calls::{Account, AccountEntry, Request, Short, Volume};
+use monitor_core::Monitor;
 use std::alloc::Global;
 use std::test::Fail;
 
@@ -14,7 +17,7 @@ pub(crate) fn password() -> Result<Short, Fail> {
     Ok(Short::of(b"DEMO").ok_or("no short text")?)
 }
 
-pub(crate) fn volume(alloc: Global) -> Result<Volume, Fail> {
+fn volume(alloc: Global) -> Result<Volume, Fail> {
     let mut accounts = Vec::new(alloc);
     accounts.push(AccountEntry {
         account: DEMO,
@@ -27,6 +30,18 @@ pub(crate) fn volume(alloc: Global) -> Result<Volume, Fail> {
         accounts,
         files: Vec::new(alloc),
     })
+}
+
+/// A monitor for so many jobs, over a volume with one account.
+pub(crate) fn opened(alloc: Global, jobs: u32) -> Result<Monitor, Fail>
+    requires { jobs ≤ 63 }
+    ensures { IfOk result (λ monitor. length monitor.jobs ≡ jobs) }
+{
+    let volume = volume(alloc)?;
+    if !volume.is_good() {
+        return Err(Fail::new("the volume is not good"));
+    }
+    Ok(Monitor::open(alloc, &volume, jobs)?)
 }
 
 pub(crate) fn login() -> Result<Request, Fail> {
