@@ -1,11 +1,12 @@
 //! Calls of the program over ends in memory, for tests.
 
-use rsts_io::{MemorySink, MemorySource};
+use crate::expects::{expect, expect_text};
+use rsts_io::{MemorySink, MemorySource, Sink, Source};
 use std::alloc::Global;
 use std::sync::Wait;
 use std::test::Fail;
 use std::thread::Threads;
-use terminal_runner::IdlePacer;
+use terminal_runner::{IdlePacer, Pacer};
 use time_sharing::{Outcome, rsts_main};
 
 pub(crate) const HEAD: &[u8] = b"RSTS-DECK 1\nDISK 8\nACCOUNT 100,5 DEMO 100\nTERMINAL T1\n";
@@ -20,14 +21,6 @@ pub(crate) const FIRST_SUM_2: &[u8] =
 
 pub(crate) const SUM_REPORT: &[u8] =
     b"TERMINAL T1 60\nHELLO 100,5;DEMO\r\nReady\r\nPRINT 2%+3%\r\n 5 \r\nReady\r\nBYE\r\nBye\r\n\n";
-
-/// What a call of the program left: its status, its line, and what it wrote.
-#[derive(Drop)]
-pub(crate) struct Ended {
-    pub(crate) status: u8,
-    pub(crate) line: String,
-    pub(crate) written: Vec<u8>,
-}
 
 /// What a call is to leave.
 #[derive(Clone, Copy)]
@@ -46,39 +39,55 @@ pub(crate) fn words_of(alloc: Global, asked: &[&str]) -> Result<Vec<String>, Fai
     Ok(words)
 }
 
-/// Calls the program with words and an input, over ends that fail at the listed calls.
-pub(crate) fn call<R: Threads + Wait + Sync>(
+/// The program between two ends. Nothing is owned here, so nothing is dropped behind the call.
+pub(crate) fn between<R: Threads + Wait + Sync, S: Source, K: Sink, P: Pacer + Sync>(
+    rt: &R,
+    alloc: Global,
+    words: &[String],
+    source: &mut S,
+    sink: &mut K,
+    pacer: &P,
+) -> Outcome {
+    rsts_main(rt, alloc, words, source, sink, pacer)
+}
+
+/// What the program answers to words and an input over ends that fail at the listed calls, and the
+/// sink.
+pub(crate) fn answered<R: Threads + Wait + Sync, P: Pacer + Sync>(
     rt: &R,
     alloc: Global,
     asked: &[&str],
     input: &[u8],
     failing_takes: &[u64],
     failing_gifts: &[u64],
-) -> Result<Ended, Fail> {
+    pacer: &P,
+) -> Result<(Outcome, MemorySink), Fail> {
     let words = words_of(alloc, asked)?;
     let mut source = MemorySource::new(alloc, input, failing_takes)?;
     let mut sink = MemorySink::new(alloc, failing_gifts)?;
-    let outcome = rsts_main(rt, alloc, &words, &mut source, &mut sink, &IdlePacer);
-    left(alloc, &outcome, sink.bytes())
+    let outcome = between(rt, alloc, &words, &mut source, &mut sink, pacer);
+    Ok((outcome, sink))
 }
 
-pub(crate) fn left(alloc: Global, outcome: &Outcome, written: &[u8]) -> Result<Ended, Fail> {
-    Ok(Ended {
-        status: outcome.status(),
-        line: String::from_utf8(outcome.line().as_slice().to_vec(alloc)?)?,
-        written: written.to_vec(alloc)?,
-    })
+/// Fails with what was written or told, unless a call left this.
+pub(crate) fn expect_left(outcome: &Outcome, written: &[u8], want: Want<'_>) -> Result<(), Fail> {
+    expect_text(written, want.written)?;
+    expect_text(outcome.line().as_slice(), want.line.as_bytes())?;
+    expect(outcome.status() == want.status, "another status")
 }
 
-/// Fails with what was told or written, unless a call left this.
-pub(crate) fn expect(ended: Ended, want: Want<'_>) -> Result<(), Fail> {
-    if ended.written.as_slice() != want.written {
-        return Err(Fail::new(String::from_utf8(ended.written)?));
-    }
-    if ended.status != want.status || ended.line.as_str() != want.line {
-        return Err(Fail::new(ended.line));
-    }
-    Ok(())
+/// A call over ends that fail at the listed calls leaves this.
+pub(crate) fn expect_between<R: Threads + Wait + Sync>(
+    rt: &R,
+    alloc: Global,
+    asked: &[&str],
+    input: &[u8],
+    failing: (&[u64], &[u64]),
+    want: Want<'_>,
+) -> Result<(), Fail> {
+    let (takes, gifts) = failing;
+    let (outcome, sink) = answered(rt, alloc, asked, input, takes, gifts, &IdlePacer)?;
+    expect_left(&outcome, sink.bytes(), want)
 }
 
 /// A call over ends that never fail leaves this.
@@ -89,7 +98,7 @@ pub(crate) fn expect_call<R: Threads + Wait + Sync>(
     input: &[u8],
     want: Want<'_>,
 ) -> Result<(), Fail> {
-    expect(call(rt, alloc, asked, input, &[], &[])?, want)
+    expect_between(rt, alloc, asked, input, (&[], &[]), want)
 }
 
 /// What a call leaves that writes this and says nothing.
@@ -122,71 +131,4 @@ pub(crate) fn expect_all<R: Threads + Wait + Sync>(
         expect_call(rt, alloc, words, input, good(written))?;
     }
     Ok(())
-}
-
-/// A line, and what it shows.
-pub(crate) type Row = (&'static str, &'static str);
-
-/// The deck of lines behind the login, each given with what it shows, and the screen.
-pub(crate) fn deck_and_screen(
-    alloc: Global,
-    lines: &[(&str, &str)],
-) -> Result<(Vec<u8>, String), Fail> {
-    let mut deck = HEAD.to_vec(alloc)?;
-    deck.extend_from_slice(b">HELLO 100,5;DEMO\n")?;
-    let mut screen = String::from_str(alloc, "HELLO 100,5;DEMO\r\nReady\r\n")?;
-    for (line, shown) in lines {
-        deck.push(b'>')?;
-        deck.extend_from_slice(line.as_bytes())?;
-        deck.push(b'\n')?;
-        screen.push_str(line)?;
-        screen.push_str("\r\n")?;
-        screen.push_str(shown)?;
-    }
-    deck.extend_from_slice(b"END\n")?;
-    screen.push_str("Bye\r\n")?;
-    Ok((deck, screen))
-}
-
-/// The program shows this of lines behind the login, each given with what it shows.
-pub(crate) fn expect_lines<R: Threads + Wait + Sync>(
-    rt: &R,
-    alloc: Global,
-    lines: &[(&str, &str)],
-) -> Result<(), Fail> {
-    let (deck, screen) = deck_and_screen(alloc, lines)?;
-    let count = screen.len();
-    let report = format!(in alloc; "TERMINAL T1 {count}\n{screen}\n")?;
-    expect_call(
-        rt,
-        alloc,
-        &["run"],
-        deck.as_slice(),
-        good(report.as_bytes()),
-    )
-}
-
-/// The same of one line, in front of CR LF and Ready.
-pub(crate) fn expect_line<R: Threads + Wait + Sync>(
-    rt: &R,
-    alloc: Global,
-    line: &str,
-    answer: &str,
-) -> Result<(), Fail> {
-    let shown = format!(in alloc; "{answer}\r\nReady\r\n")?;
-    expect_lines(rt, alloc, &[(line, shown.as_str())])
-}
-
-/// The keys of lines behind the login, and the screen up to what they show.
-pub(crate) fn keys_and_screen(alloc: Global, lines: &[&str]) -> Result<(String, String), Fail> {
-    let mut keys = String::from_str(alloc, ">HELLO 100,5;DEMO\n")?;
-    let mut screen = String::from_str(alloc, "HELLO 100,5;DEMO\r\nReady\r\n")?;
-    for line in lines {
-        keys.push_str(">")?;
-        keys.push_str(line)?;
-        keys.push_str("\n")?;
-        screen.push_str(line)?;
-        screen.push_str("\r\n")?;
-    }
-    Ok((keys, screen))
 }

@@ -7,14 +7,18 @@ use std::sync::Wait;
 use std::test::Fail;
 use std::thread::Threads;
 use terminal_runner::IdlePacer;
-use time_sharing::rsts_main;
 
 static VERSIONS: [&[u8]; 2] = [FIRST_SUM, FIRST_SUM_2];
 
 /// How many lines are whole in some bytes, and one.
 fn last_line(bytes: &[u8]) -> usize {
-    let whole = bytes.iter().filter(|b| **b == b'\n').count();
-    whole.saturating_add(1)
+    let mut line = 1usize;
+    for byte in bytes {
+        if *byte == b'\n' {
+            line = line.saturating_add(1);
+        }
+    }
+    line
 }
 
 fn expect_cut<R: Threads + Wait + Sync>(rt: &R, alloc: Global, front: &[u8]) -> Result<(), Fail> {
@@ -64,68 +68,58 @@ static FAILING: [Failing; 11] = [
     ("check", &[], &[2], 0, "", b"GOOD 1 0 1\n"),
 ];
 
-/// What each row leaves of a deck.
+/// A row leaves this of a deck.
 fn expect_failing<R: Threads + Wait + Sync>(
     rt: &R,
     alloc: Global,
     deck: &[u8],
+    row: &Failing,
 ) -> Result<(), Fail> {
-    for (word, takes, gifts, status, line, written) in FAILING.iter() {
-        let want = Want {
-            status: *status,
-            line,
-            written,
-        };
-        expect(call(rt, alloc, &[*word], deck, takes, gifts)?, want)?;
-    }
-    Ok(())
+    let (word, takes, gifts, status, line, written) = *row;
+    let want = Want {
+        status,
+        line,
+        written,
+    };
+    expect_between(rt, alloc, &[word], deck, (takes, gifts), want)
 }
 
 #[test]
 fn each_call_of_each_end_fails_in_turn(rt: HostRuntime) -> Result<(), Fail> {
-    for deck in VERSIONS.iter() {
-        expect_failing(&rt, rt.alloc(), deck)?;
+    for row in FAILING.iter() {
+        expect_failing(&rt, rt.alloc(), FIRST_SUM, row)?;
+        expect_failing(&rt, rt.alloc(), FIRST_SUM_2, row)?;
     }
     Ok(())
 }
 
-/// Runs a deck between ends that move at most so many bytes a call.
-fn run_dribbling<R: Threads + Wait + Sync>(
-    rt: &R,
-    alloc: Global,
-    deck: &[u8],
-    most: usize,
-) -> Result<Ended, Fail> {
-    let words = words_of(alloc, &["run"])?;
-    let most = most.max(1);
-    let mut source = DribbleSource::new(alloc, deck, most)?;
-    let mut sink = DribbleSink::new(alloc, most)?;
-    let outcome = rsts_main(rt, alloc, &words, &mut source, &mut sink, &IdlePacer);
-    left(alloc, &outcome, sink.bytes())
-}
-
+/// The first sum is run between ends that move at most so many bytes a call.
 fn expect_dribbling<R: Threads + Wait + Sync>(
     rt: &R,
     alloc: Global,
     deck: &[u8],
+    most: usize,
 ) -> Result<(), Fail> {
-    for most in [1usize, 2, 7] {
-        expect(run_dribbling(rt, alloc, deck, most)?, good(SUM_REPORT))?;
-    }
-    Ok(())
+    let words = words_of(alloc, &["run"])?;
+    let most = most.max(1);
+    let mut source = DribbleSource::new(alloc, deck, most)?;
+    let mut sink = DribbleSink::new(alloc, most)?;
+    let outcome = between(rt, alloc, &words, &mut source, &mut sink, &IdlePacer);
+    expect_left(&outcome, sink.bytes(), good(SUM_REPORT))
 }
 
 #[test]
 fn ends_that_move_few_bytes_a_call_change_nothing(rt: HostRuntime) -> Result<(), Fail> {
-    for deck in VERSIONS.iter() {
-        expect_dribbling(&rt, rt.alloc(), deck)?;
+    for most in [1usize, 2, 7] {
+        expect_dribbling(&rt, rt.alloc(), FIRST_SUM, most)?;
+        expect_dribbling(&rt, rt.alloc(), FIRST_SUM_2, most)?;
     }
     Ok(())
 }
 
 /// How many lines of the deck stay in front, what stands behind them, how many of its first lines
 /// do not follow, the line that is refused, and its cause.
-type Row = (usize, &'static [u8], usize, u32, &'static str);
+type Row<'a> = (usize, &'a [u8], usize, u32, &'static str);
 
 const VERSION: &str = "not a version 1 or 2 deck";
 
@@ -139,7 +133,7 @@ const OWNER: &str = "unknown account";
 
 const SPACE: &str = "no room";
 
-static REFUSED: [Row; 12] = [
+static REFUSED: [Row<'static>; 12] = [
     (0, b"RSTS-DECK 9\n", 1, 1, VERSION),
     (1, b"DISK 007\n", 2, 2, SHAPE),
     (1, b"DISK 0\n", 2, 2, RANGE),
@@ -155,20 +149,21 @@ static REFUSED: [Row; 12] = [
 ];
 
 /// An account of project 0, in each version.
-static NO_PROJECT: [Row; 2] = [
+static NO_PROJECT: [Row<'static>; 2] = [
     (2, b"ACCOUNT 0,5 DEMO 100\n", 3, 3, RANGE),
     (2, b"ACCOUNT 0,5 DEMO 100 8\n", 3, 3, RANGE),
 ];
 
 /// How many bytes the first so many lines have.
 fn length_of_lines(deck: &[u8], lines: usize) -> usize {
-    let ends = deck.iter().enumerate().filter(|(_, b)| **b == b'\n');
     let (mut count, mut length) = (0usize, 0usize);
-    for (at, _) in ends {
+    for byte in deck {
         if count < lines {
-            length = at.saturating_add(1);
+            length = length.saturating_add(1);
         }
-        count = count.saturating_add(1);
+        if *byte == b'\n' {
+            count = count.saturating_add(1);
+        }
     }
     length
 }
@@ -203,59 +198,77 @@ fn expect_refused<R: Threads + Wait + Sync>(
     expect_call(rt, alloc, &["check"], input, want)
 }
 
+/// A deck is refused with its lines changed as a row tells.
+fn expect_row<R: Threads + Wait + Sync>(
+    rt: &R,
+    alloc: Global,
+    deck: &[u8],
+    row: &Row<'_>,
+) -> Result<(), Fail> {
+    let (kept, other, dropped, line, cause) = *row;
+    let input = changed(alloc, deck, kept, other, dropped)?;
+    expect_refused(rt, alloc, &input, line, cause)
+}
+
 fn expect_rows<R: Threads + Wait + Sync>(
     rt: &R,
     alloc: Global,
     deck: &[u8],
-    rows: &[Row],
+    rows: &[Row<'_>],
 ) -> Result<(), Fail> {
-    for (kept, other, dropped, line, cause) in rows {
-        let input = changed(alloc, deck, *kept, other, *dropped)?;
-        expect_refused(rt, alloc, input.as_slice(), *line, cause)?;
+    for row in rows {
+        expect_row(rt, alloc, deck, row)?;
     }
     Ok(())
 }
 
-/// A line of so many letters behind a greater-than sign.
-fn push_long(bytes: &mut Vec<u8>, alloc: Global, letters: usize) -> Result<(), Fail> {
+/// Other bytes, and behind them lines of so many letters behind a greater-than sign.
+fn with_long_lines(
+    alloc: Global,
+    front: &[u8],
+    lines: usize,
+    letters: usize,
+) -> Result<Vec<u8>, Fail> {
     let letters = vec![in alloc; b'A'; letters]?;
-    bytes.push(b'>')?;
-    bytes.extend_from_slice(&letters)?;
-    bytes.push(b'\n')?;
-    Ok(())
+    let mut bytes = front.to_vec(alloc)?;
+    for _ in 0..lines {
+        bytes.push(b'>')?;
+        bytes.extend_from_slice(&letters)?;
+        bytes.push(b'\n')?;
+    }
+    Ok(bytes)
 }
 
-/// A key line of 256 bytes in place of line 6, and a text of two lines of 300 bytes in a block.
-fn expect_long<R: Threads + Wait + Sync>(rt: &R, alloc: Global, deck: &[u8]) -> Result<(), Fail> {
-    let mut keys = Vec::new(alloc);
-    push_long(&mut keys, alloc, 256)?;
-    let input = changed(alloc, deck, 5, keys.as_slice(), 6)?;
-    expect_refused(rt, alloc, input.as_slice(), 6, RANGE)?;
-    let mut file = b"FILE [100,5]A<60> 1\n".to_vec(alloc)?;
-    push_long(&mut file, alloc, 300)?;
-    push_long(&mut file, alloc, 300)?;
-    let input = changed(alloc, deck, 3, file.as_slice(), 3)?;
-    expect_refused(rt, alloc, input.as_slice(), 6, SPACE)
-}
-
-/// The 64th terminal has no room.
-fn expect_many<R: Threads + Wait + Sync>(rt: &R, alloc: Global, deck: &[u8]) -> Result<(), Fail> {
+/// The lines of so many terminals.
+fn terminals(alloc: Global, count: u32) -> Result<Vec<u8>, Fail> {
     let mut terminals = Vec::new(alloc);
-    for number in 1..=64u32 {
+    for number in 1..=count {
         let line = format!(in alloc; "TERMINAL T{number}\n")?;
         terminals.extend_from_slice(line.as_bytes())?;
     }
-    let input = changed(alloc, deck, 3, terminals.as_slice(), 7)?;
-    expect_refused(rt, alloc, input.as_slice(), 67, SPACE)
+    Ok(terminals)
+}
+
+/// A key line of 256 bytes in place of line 6, and a text of two lines of 300 bytes in a block. The
+/// 64th terminal has no room.
+fn expect_long<R: Threads + Wait + Sync>(rt: &R, alloc: Global, deck: &[u8]) -> Result<(), Fail> {
+    let keys = with_long_lines(alloc, b"", 1, 256)?;
+    let file = with_long_lines(alloc, b"FILE [100,5]A<60> 1\n", 2, 300)?;
+    let many = terminals(alloc, 64)?;
+    let rows = [
+        (5, keys.as_slice(), 6, 6, RANGE),
+        (3, file.as_slice(), 3, 6, SPACE),
+        (3, many.as_slice(), 7, 67, SPACE),
+    ];
+    expect_rows(rt, alloc, deck, &rows)
 }
 
 #[test]
 fn each_cause_of_a_refusal_is_told_with_its_line(rt: HostRuntime) -> Result<(), Fail> {
     for (deck, row) in VERSIONS.iter().zip(NO_PROJECT) {
         expect_rows(&rt, rt.alloc(), deck, &REFUSED)?;
-        expect_rows(&rt, rt.alloc(), deck, &[row])?;
+        expect_row(&rt, rt.alloc(), deck, &row)?;
         expect_long(&rt, rt.alloc(), deck)?;
-        expect_many(&rt, rt.alloc(), deck)?;
     }
     Ok(())
 }
@@ -263,10 +276,10 @@ fn each_cause_of_a_refusal_is_told_with_its_line(rt: HostRuntime) -> Result<(), 
 /// One byte more than an input may have, in the keys of a deck.
 #[test]
 fn an_input_that_is_too_long_is_told_so(rt: HostRuntime) -> Result<(), Fail> {
-    let mut deck = HEAD.to_vec(rt.alloc())?;
-    push_long(&mut deck, rt.alloc(), INPUT_LIMIT + 1 - HEAD.len() - 6)?;
+    let letters = INPUT_LIMIT + 1 - HEAD.len() - 6;
+    let mut deck = with_long_lines(rt.alloc(), HEAD, 1, letters)?;
     deck.extend_from_slice(b"END\n")?;
     let want = refused(4, "input too long");
-    expect_call(&rt, rt.alloc(), &["run"], deck.as_slice(), want)?;
-    expect_call(&rt, rt.alloc(), &["check"], deck.as_slice(), want)
+    expect_call(&rt, rt.alloc(), &["run"], &deck, want)?;
+    expect_call(&rt, rt.alloc(), &["check"], &deck, want)
 }

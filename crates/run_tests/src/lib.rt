@@ -9,6 +9,8 @@ mod drilling;
 #[cfg(test)]
 mod ends;
 #[cfg(test)]
+mod expects;
+#[cfg(test)]
 mod hostile;
 #[cfg(test)]
 mod pacing;
@@ -18,5 +20,7 @@ mod printing;
 mod replaying;
 #[cfg(test)]
 mod runs;
+#[cfg(test)]
+mod screens;
 #[cfg(test)]
 mod sessions;

@@ -1,13 +1,18 @@
-//! A pacer for tests: it holds calls until calls of other jobs were answered.
+//! Runs whose calls are held until calls of other jobs were answered, by a pacer for tests.
 
+use crate::calls::{answered, expect_left, good};
 use monitor_calls::RunRecord;
 use monitor_gate::JobSeat;
+use rsts_io::MemorySink;
 use std::alloc::Global;
+use std::sync::Wait;
 use std::sync::atomic::{AtomicU64, Ordering};
 use std::test::Fail;
 use std::thread;
+use std::thread::Threads;
 use std::time::{Clock, Duration};
 use terminal_runner::{Pacer, Telling, Tellings};
+use time_sharing::Outcome;
 
 /// How many milliseconds a call waits for a call of another job.
 const MOST_NAPS: u32 = 20_000;
@@ -32,18 +37,13 @@ struct Calls {
 #[derive(Drop)]
 pub(crate) struct Ordered<'a, R: Clock> {
     rt: &'a R,
-    holds: Vec<Hold>,
+    holds: &'a [Hold],
     calls: Vec<Calls>,
     late: AtomicU64,
 }
 
 impl<'a, R: Clock> Ordered<'a, R> {
-    pub(crate) fn new(
-        rt: &'a R,
-        alloc: Global,
-        jobs: u32,
-        holds: Vec<Hold>,
-    ) -> Result<Ordered<'a, R>, Fail> {
+    fn new(rt: &'a R, alloc: Global, jobs: u32, holds: &'a [Hold]) -> Result<Ordered<'a, R>, Fail> {
         let mut calls = Vec::new(alloc);
         for _ in 0..jobs {
             calls.push(Calls {
@@ -59,22 +59,13 @@ impl<'a, R: Clock> Ordered<'a, R> {
         })
     }
 
-    /// No job makes its second call before each has made its first.
-    pub(crate) fn together(rt: &'a R, alloc: Global, jobs: u32) -> Result<Ordered<'a, R>, Fail> {
-        let mut holds = Vec::new(alloc);
-        for job in 0..jobs {
-            push_second_calls(&mut holds, job, jobs)?;
-        }
-        Ordered::new(rt, alloc, jobs, holds)
-    }
-
     /// Whether a call waited in vain.
-    pub(crate) fn is_late(&self) -> bool {
+    fn is_late(&self) -> bool {
         self.late.load(Ordering::SeqCst) > 0
     }
 
     /// How often it was called before and after the calls of a job.
-    pub(crate) fn calls_of(&self, job: u32) -> (u64, u64) {
+    fn calls_of(&self, job: u32) -> (u64, u64) {
         match self.calls.get(job as usize) {
             Some(calls) => (
                 calls.before.load(Ordering::SeqCst),
@@ -84,7 +75,7 @@ impl<'a, R: Clock> Ordered<'a, R> {
         }
     }
 
-    fn wait_for(&self, hold: Hold) {
+    fn wait_for(&self, hold: &Hold) {
         for _ in 0..MOST_NAPS {
             if self.calls_of(hold.other).1 >= hold.answered || self.is_late() {
                 return;
@@ -93,19 +84,18 @@ impl<'a, R: Clock> Ordered<'a, R> {
         }
         self.late.store(1, Ordering::SeqCst);
     }
-}
 
-/// A job's second call waits for the first call of each.
-fn push_second_calls(holds: &mut Vec<Hold>, job: u32, jobs: u32) -> Result<(), Fail> {
-    for other in 0..jobs {
-        holds.push(Hold {
-            job,
-            call: 2,
-            other,
-            answered: 1,
-        })?;
+    /// Counts a job's call of that number, and holds it.
+    fn hold(&self, job: u32, call: u32) {
+        if let Some(calls) = self.calls.get(job as usize) {
+            calls.before.fetch_add(1, Ordering::SeqCst);
+        }
+        for hold in self.holds {
+            if hold.job == job && hold.call == call {
+                self.wait_for(hold);
+            }
+        }
     }
-    Ok(())
 }
 
 impl<'a, R: Clock> Pacer for Ordered<'a, R> {
@@ -119,15 +109,7 @@ impl<'a, R: Clock> Pacer for Ordered<'a, R> {
 
     fn before(&self, kept: &mut Tellings, seat: &JobSeat, call: u32) {
         kept.push(Telling::Before { call }, seat);
-        let job = seat.job();
-        if let Some(calls) = self.calls.get(job as usize) {
-            calls.before.fetch_add(1, Ordering::SeqCst);
-        }
-        for hold in self.holds.as_slice() {
-            if hold.job == job && hold.call == call {
-                self.wait_for(*hold);
-            }
-        }
+        self.hold(seat.job(), call);
     }
 
     fn after(&self, kept: &mut Tellings, seat: &JobSeat, call: u32) {
@@ -140,13 +122,23 @@ impl<'a, R: Clock> Pacer for Ordered<'a, R> {
 
 /// How many entries of a history are a job's.
 fn entries_of(record: &RunRecord, job: u32) -> u64 {
-    let entries = record.as_slice().iter().filter(|entry| entry.job == job);
-    entries.count() as u64
+    let mut count = 0u64;
+    for entry in record.as_slice() {
+        if entry.job == job {
+            count = count.saturating_add(1);
+        }
+    }
+    count
 }
 
-/// Whether the pacer held each job: it was called before and after each call, and nobody waited in
-/// vain.
-pub(crate) fn were_held<R: Clock>(pacer: &Ordered<'_, R>, record: &RunRecord, jobs: u32) -> bool {
+/// Whether a history is told whose jobs the pacer held: it was called before and after each call,
+/// and nobody waited in vain.
+fn were_held<R: Clock>(pacer: &Ordered<'_, R>, outcome: &Outcome, jobs: u32) -> bool {
+    let record = match outcome {
+        Outcome::Ok(record) => record,
+        Outcome::Drilled(drill) => &drill.history,
+        _ => return false,
+    };
     for job in 0..jobs {
         let entries = entries_of(record, job);
         if pacer.calls_of(job) != (entries, entries) {
@@ -154,4 +146,53 @@ pub(crate) fn were_held<R: Clock>(pacer: &Ordered<'_, R>, record: &RunRecord, jo
         }
     }
     !pacer.is_late()
+}
+
+/// What the program answers to words and an input with its jobs' calls held so, where its sink
+/// never fails, and the sink. Fails where a job was not held at each of its calls.
+pub(crate) fn run_ordered<R: Threads + Wait + Clock + Sync>(
+    rt: &R,
+    alloc: Global,
+    asked: &[&str],
+    input: &[u8],
+    failing_takes: &[u64],
+    jobs: u32,
+    holds: &[Hold],
+) -> Result<(Outcome, MemorySink), Fail> {
+    let pacer = Ordered::new(rt, alloc, jobs, holds)?;
+    let answer = answered(rt, alloc, asked, input, failing_takes, &[], &pacer)?;
+    if !were_held(&pacer, &answer.0, jobs) {
+        return Err("a job was not held")?;
+    }
+    Ok(answer)
+}
+
+/// The program is run with its calls held so, and writes this.
+pub(crate) fn expect_ordered<R: Threads + Wait + Clock + Sync>(
+    rt: &R,
+    alloc: Global,
+    asked: &[&str],
+    deck: &[u8],
+    jobs: u32,
+    holds: &[Hold],
+    want: &[u8],
+) -> Result<(), Fail> {
+    let (outcome, sink) = run_ordered(rt, alloc, asked, deck, &[], jobs, holds)?;
+    expect_left(&outcome, sink.bytes(), good(want))
+}
+
+/// The second call of each of so many jobs waits for the first call of each.
+pub(crate) fn second_calls(alloc: Global, jobs: u32) -> Result<Vec<Hold>, Fail> {
+    let mut holds = Vec::new(alloc);
+    for job in 0..jobs {
+        for other in 0..jobs {
+            holds.push(Hold {
+                job,
+                call: 2,
+                other,
+                answered: 1,
+            })?;
+        }
+    }
+    Ok(holds)
 }

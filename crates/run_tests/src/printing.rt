@@ -1,15 +1,13 @@
 //! The line printer at the terminals of a deck, and what of it stands behind the report.
 
-use crate::calls::{FIRST_SUM, Good, SUM_REPORT, expect_all, words_of};
-use crate::pacing::{Hold, Ordered};
-use crate::sessions::{LOGIN, NO_FILE, PROTECTED, READY, Row, System, deck_and_report};
-use rsts_io::{MemorySink, MemorySource};
+use crate::calls::{FIRST_SUM, Good, SUM_REPORT, expect_all};
+use crate::pacing::{Hold, expect_ordered};
+use crate::screens::{LOGIN, NO_FILE, PROTECTED, READY, Row, System, deck_and_report};
 use std::alloc::Global;
 use std::sync::Wait;
 use std::test::Fail;
 use std::thread::Threads;
 use std::time::Clock;
-use time_sharing::rsts_main;
 
 const NO_PRINTER: &str = "?Device not available\nReady\n";
 
@@ -35,53 +33,37 @@ fn no_listing_is_told_behind_the_history(rt: HostRuntime) -> Result<(), Fail> {
 }
 
 /// Terminals, the calls of which some are held, and what is written behind their report.
-#[derive(Clone, Copy)]
 struct Printing {
-    system: System,
+    system: System<'static>,
     holds: &'static [Hold],
     printed: &'static [u8],
 }
 
-/// Runs the deck with its calls held so, and gives what is written.
-fn run_printing<R: Threads + Wait + Clock + Sync>(
-    rt: &R,
-    alloc: Global,
-    deck: &[u8],
-    jobs: u32,
-    holds: Vec<Hold>,
-) -> Result<Vec<u8>, Fail> {
-    let words = words_of(alloc, &["run", "--printer"])?;
-    let mut source = MemorySource::new(alloc, deck, &[])?;
-    let mut sink = MemorySink::new(alloc, &[])?;
-    let pacer = Ordered::new(rt, alloc, jobs, holds)?;
-    let outcome = rsts_main(rt, alloc, &words, &mut source, &mut sink, &pacer);
-    if outcome.status() != 0 || pacer.is_late() {
-        return Err("the terminals were not run beside each other")?;
-    }
-    Ok(sink.bytes().to_vec(alloc)?)
-}
-
+/// The deck is run with its calls held so, and this is written.
 fn expect_printing<R: Threads + Wait + Clock + Sync>(
     rt: &R,
     alloc: Global,
     row: &Printing,
 ) -> Result<(), Fail> {
-    let (deck, mut report) = deck_and_report(alloc, &row.system)?;
+    let (deck, mut report) = deck_and_report(alloc, 0, &row.system)?;
     report.extend_from_slice(row.printed)?;
     let jobs = row.system.1.len().min(63) as u32;
-    let holds = row.holds.to_vec(alloc)?;
-    let written = run_printing(rt, alloc, deck.as_slice(), jobs, holds)?;
-    if written.as_slice() != report.as_slice() {
-        return Err(Fail::new(String::from_utf8(written)?));
-    }
-    Ok(())
+    expect_ordered(
+        rt,
+        alloc,
+        &["run", "--printer"],
+        &deck,
+        jobs,
+        row.holds,
+        &report,
+    )
 }
 
 const FILES: &str = "RSTS-DECK 1\nDISK 32\nACCOUNT 100,5 DEMO 100\nACCOUNT 100,6 DEMO 100\n\
 FILE [100,5]EMPTY.LST<60> 0\nFILE [100,5]LONG.LST<60> 16\n>LINE\n\
 FILE [100,6]SECRET.LST<60> 1\n";
 
-const PRINTED_FILES: &[Row] = &[
+const PRINTED_FILES: &[Row<'static>] = &[
     LOGIN,
     ("NEW DEMO", READY),
     ("10 PRINT \"HI\"", ""),
@@ -94,7 +76,7 @@ const PRINTED_FILES: &[Row] = &[
     ("QUE", "?Illegal command\nReady\n"),
 ];
 
-const OF_ONE_TERMINAL: Printing = Printing {
+static OF_ONE_TERMINAL: Printing = Printing {
     system: (FILES, &[PRINTED_FILES]),
     holds: &[],
     printed: b"PRINTED 3\nLISTING T0 15\n10 PRINT \"HI\"\r\n\nLISTING T0 0\n\nLISTING T0 6\nLINE\r\n\n",
@@ -108,12 +90,12 @@ fn a_program_and_files_are_printed(rt: HostRuntime) -> Result<(), Fail> {
 const TWO_FILES: &str = "RSTS-DECK 1\nDISK 8\nACCOUNT 100,5 DEMO 100\n\
 FILE [100,5]ONE.LST<60> 1\n>ONE\nFILE [100,5]TWO.LST<60> 1\n>TWO\n";
 
-const FIRST_QUEUES: &[Row] = &[LOGIN, ("QUE ONE", READY)];
+const FIRST_QUEUES: &[Row<'static>] = &[LOGIN, ("QUE ONE", READY)];
 
-const SECOND_QUEUES_TWICE: &[Row] = &[LOGIN, ("QUE TWO", NO_PRINTER), ("QUE TWO", READY)];
+const SECOND_QUEUES_TWICE: &[Row<'static>] = &[LOGIN, ("QUE TWO", NO_PRINTER), ("QUE TWO", READY)];
 
 /// The second asks for the printer while the first prints, and once more behind it.
-const IN_TURN: Printing = Printing {
+static IN_TURN: Printing = Printing {
     system: (TWO_FILES, &[FIRST_QUEUES, SECOND_QUEUES_TWICE]),
     holds: &[
         Hold {
@@ -143,10 +125,10 @@ fn one_terminal_prints_at_a_time(rt: HostRuntime) -> Result<(), Fail> {
     expect_printing(&rt, rt.alloc(), &IN_TURN)
 }
 
-const SECOND_QUEUES: &[Row] = &[LOGIN, ("QUE TWO", READY)];
+const SECOND_QUEUES: &[Row<'static>] = &[LOGIN, ("QUE TWO", READY)];
 
 /// The first terminal begins when the second has printed.
-const SECOND_FIRST: Printing = Printing {
+static SECOND_FIRST: Printing = Printing {
     system: (TWO_FILES, &[FIRST_QUEUES, SECOND_QUEUES]),
     holds: &[Hold {
         job: 0,
@@ -162,17 +144,21 @@ fn listings_stand_in_the_order_in_which_they_begin(rt: HostRuntime) -> Result<()
     expect_printing(&rt, rt.alloc(), &SECOND_FIRST)
 }
 
-const FIRST_ASSIGNS: &[Row] = &[
+const FIRST_ASSIGNS: &[Row<'static>] = &[
     LOGIN,
     ("ASSIGN LP:", READY),
     ("QUE ONE", READY),
     ("DEASSIGN LP:", READY),
 ];
 
-const SECOND_IS_REFUSED: &[Row] = &[LOGIN, ("QUE TWO", NO_PRINTER), ("ASSIGN LP:", NO_PRINTER)];
+const SECOND_IS_REFUSED: &[Row<'static>] = &[
+    LOGIN,
+    ("QUE TWO", NO_PRINTER),
+    ("ASSIGN LP:", NO_PRINTER),
+];
 
 /// The second asks for the printer while the first has it assigned, and prints nothing.
-const ASSIGNED: Printing = Printing {
+static ASSIGNED: Printing = Printing {
     system: (TWO_FILES, &[FIRST_ASSIGNS, SECOND_IS_REFUSED]),
     holds: &[
         Hold {

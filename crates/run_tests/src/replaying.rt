@@ -6,21 +6,42 @@ use std::alloc::Global;
 use std::sync::Wait;
 use std::test::Fail;
 use std::thread::Threads;
+use terminal_runner::IdlePacer;
 
 /// The text behind a deck, and what is told of it.
 type Disputed = (&'static str, &'static str);
 
-/// A replay of a deck with a text behind it, over ends of which the sink fails at the listed calls.
-fn replay<R: Threads + Wait + Sync>(
+/// These pieces, one behind another.
+fn joined(alloc: Global, pieces: &[&[u8]]) -> Result<Vec<u8>, Fail> {
+    let mut bytes = Vec::new(alloc);
+    for piece in pieces {
+        bytes.extend_from_slice(piece)?;
+    }
+    Ok(bytes)
+}
+
+/// A replay of these pieces, over ends of which the sink fails at the listed calls, leaves this.
+fn expect_replay<R: Threads + Wait + Sync>(
+    rt: &R,
+    alloc: Global,
+    pieces: &[&[u8]],
+    failing_gifts: &[u64],
+    want: Want<'_>,
+) -> Result<(), Fail> {
+    let input = joined(alloc, pieces)?;
+    expect_between(rt, alloc, &["replay"], &input, (&[], failing_gifts), want)
+}
+
+/// A text behind a deck is told this line.
+fn expect_told<R: Threads + Wait + Sync>(
     rt: &R,
     alloc: Global,
     deck: &[u8],
-    text: &[u8],
-    failing_gifts: &[u64],
-) -> Result<Ended, Fail> {
-    let mut input = deck.to_vec(alloc)?;
-    input.extend_from_slice(text)?;
-    call(rt, alloc, &["replay"], input.as_slice(), &[], failing_gifts)
+    text: &str,
+    line: &str,
+) -> Result<(), Fail> {
+    let pieces = [deck, text.as_bytes()];
+    expect_replay(rt, alloc, &pieces, &[], refused(7, line))
 }
 
 fn expect_disputed<R: Threads + Wait + Sync>(
@@ -30,42 +51,44 @@ fn expect_disputed<R: Threads + Wait + Sync>(
     rows: &[Disputed],
 ) -> Result<(), Fail> {
     for (text, line) in rows {
-        let ended = replay(rt, alloc, deck, text.as_bytes(), &[])?;
-        expect(ended, refused(7, line))?;
+        expect_told(rt, alloc, deck, text, line)?;
     }
     Ok(())
 }
 
 /// What a run of a deck writes: its report, and the text of its history.
-fn run_told<R: Threads + Wait + Sync>(
-    rt: &R,
-    alloc: Global,
-    deck: &[u8],
-) -> Result<(String, String), Fail> {
-    let ended = call(rt, alloc, &["run", "--history"], deck, &[], &[])?;
-    let written = String::from_utf8(ended.written)?;
-    match written.as_str().split_once("HISTORY ") {
-        Some((report, entries)) => Ok((
-            String::from_str(alloc, report)?,
-            format!(in alloc; "HISTORY {entries}")?,
-        )),
-        None => Err("no history was written")?,
-    }
+fn run_told<R: Threads + Wait + Sync>(rt: &R, alloc: Global, deck: &[u8]) -> Result<String, Fail> {
+    let asked = ["run", "--history"];
+    let (_, sink) = answered(rt, alloc, &asked, deck, &[], &[], &IdlePacer)?;
+    Ok(String::from_utf8(sink.bytes().to_vec(alloc)?)?)
 }
+
+/// The word in front of the number of entries.
+const HISTORY: &str = "HISTORY ";
 
 /// A run that was told with its history is replayed, and gives the same report.
 fn expect_retold<R: Threads + Wait + Sync>(rt: &R, alloc: Global, deck: &[u8]) -> Result<(), Fail> {
-    let (report, text) = run_told(rt, alloc, deck)?;
-    let ended = replay(rt, alloc, deck, text.as_bytes(), &[])?;
-    expect(ended, good(report.as_bytes()))
+    let told = run_told(rt, alloc, deck)?;
+    match told.as_str().split_once(HISTORY) {
+        Some((report, entries)) => {
+            let pieces = [deck, HISTORY.as_bytes(), entries.as_bytes()];
+            expect_replay(rt, alloc, &pieces, &[], good(report.as_bytes()))
+        }
+        None => Err("no history was written")?,
+    }
 }
 
 const SUM_TEXT: &[u8] = b"HISTORY 2\n0 LOGIN 100,5 44454d4f = DONE\n0 LOGOUT = DONE\n";
 
 #[test]
 fn a_history_of_a_run_is_replayed(rt: HostRuntime) -> Result<(), Fail> {
-    let ended = replay(&rt, rt.alloc(), FIRST_SUM, SUM_TEXT, &[])?;
-    expect(ended, good(SUM_REPORT))
+    expect_replay(
+        &rt,
+        rt.alloc(),
+        &[FIRST_SUM, SUM_TEXT],
+        &[],
+        good(SUM_REPORT),
+    )
 }
 
 /// Texts behind the eight lines of the first deck.
@@ -187,41 +210,40 @@ const RETURNS: &[u8] = b"RSTS-DECK 1\r\nDISK 8\r\nTERMINAL T1\r\nEND\r\n";
 
 #[test]
 fn a_deck_ends_behind_a_line_end_with_a_return(rt: HostRuntime) -> Result<(), Fail> {
-    let ended = replay(&rt, rt.alloc(), RETURNS, b"HISTORY 0\n", &[])?;
-    expect(ended, good(b"TERMINAL T1 0\n\n"))
+    let want = good(b"TERMINAL T1 0\n\n");
+    expect_replay(&rt, rt.alloc(), &[RETURNS, b"HISTORY 0\n"], &[], want)
 }
 
 #[test]
 fn a_second_end_belongs_to_the_text(rt: HostRuntime) -> Result<(), Fail> {
-    let ended = replay(&rt, rt.alloc(), RETURNS, b"END\nHISTORY 0\n", &[])?;
-    expect(ended, refused(7, "history line 5: wrong form"))
+    let want = refused(7, "history line 5: wrong form");
+    expect_replay(&rt, rt.alloc(), &[RETURNS, b"END\nHISTORY 0\n"], &[], want)
 }
 
 #[test]
 fn a_replay_whose_sink_fails_writes_a_front(rt: HostRuntime) -> Result<(), Fail> {
-    let ended = replay(&rt, rt.alloc(), FIRST_SUM, SUM_TEXT, &[1])?;
-    expect(ended, refused(5, "write fault"))
+    let want = refused(5, "write fault");
+    expect_replay(&rt, rt.alloc(), &[FIRST_SUM, SUM_TEXT], &[1], want)
 }
 
 #[test]
 fn a_replay_whose_source_fails_writes_nothing(rt: HostRuntime) -> Result<(), Fail> {
-    let ended = call(&rt, rt.alloc(), &["replay"], FIRST_SUM, &[1], &[])?;
-    expect(ended, refused(3, "read fault"))
+    let want = refused(3, "read fault");
+    expect_between(&rt, rt.alloc(), &["replay"], FIRST_SUM, (&[1], &[]), want)
 }
 
 /// The keys of a terminal of the drill.
-const COUNTS: &str = ">HELLO 100,5;DEMO\n>10 ON ERROR GOTO 100\n\
+const COUNTS: &[u8] = b">HELLO 100,5;DEMO\n>10 ON ERROR GOTO 100\n\
 >20 OPEN \"COUNT.DAT\" AS FILE 1%, MODE 1%\n>30 FIELD #1%, 2% AS C$\n>40 FOR I%=1% TO 20%\n\
 >50 GET #1%, RECORD 1%\n>60 LSET C$=CVT%$(CVT$%(C$)+1%)\n>70 PUT #1%, RECORD 1%\n>80 NEXT I%\n\
 >90 CLOSE 1% : GOTO 130\n>100 IF ERR<>19% THEN ON ERROR GOTO 0\n\
 >110 K%=0% : K%=K%+1% WHILE K%<1000%\n>120 SLEEP 1% : RESUME\n>130 END\n>RUNNH\n>BYE\n";
 
 /// The deck of a drill of two terminals.
-fn drill_of_two(alloc: Global) -> Result<String, Fail> {
-    Ok(format!(in alloc;
-        "RSTS-DECK 1\nDISK 8\nACCOUNT 100,5 DEMO 16384\n\
-FILE [100,5]COUNT.DAT<60> 1\nTERMINAL T1\n{COUNTS}TERMINAL T2\n{COUNTS}END\n"
-    )?)
+fn drill_of_two(alloc: Global) -> Result<Vec<u8>, Fail> {
+    let front =
+        b"RSTS-DECK 1\nDISK 8\nACCOUNT 100,5 DEMO 16384\nFILE [100,5]COUNT.DAT<60> 1\nTERMINAL T1\n";
+    joined(alloc, &[front, COUNTS, b"TERMINAL T2\n", COUNTS, b"END\n"])
 }
 
 #[test]
@@ -232,21 +254,39 @@ fn a_run_of_two_terminals_is_replayed(rt: HostRuntime) -> Result<(), Fail> {
 #[test]
 fn a_drill_of_two_terminals_is_replayed(rt: HostRuntime) -> Result<(), Fail> {
     let drill = drill_of_two(rt.alloc())?;
-    expect_retold(&rt, rt.alloc(), drill.as_bytes())
+    expect_retold(&rt, rt.alloc(), &drill)
 }
 
 /// The first page that was read had zeros alone; here its first byte is 1.
-#[test]
-fn one_bit_of_a_page_that_was_read_is_missed(rt: HostRuntime) -> Result<(), Fail> {
-    let drill = drill_of_two(rt.alloc())?;
-    let (_, text) = run_told(&rt, rt.alloc(), drill.as_bytes())?;
-    let (front, behind) = match text.as_str().split_once("BLOCK 00") {
+fn expect_missed<R: Threads + Wait + Sync>(
+    rt: &R,
+    alloc: Global,
+    deck: &[u8],
+    told: &str,
+) -> Result<(), Fail> {
+    let entries = match told.split_once(HISTORY) {
+        Some((_, entries)) => entries,
+        None => return Err("no history was written")?,
+    };
+    let (front, behind) = match entries.split_once("BLOCK 00") {
         Some(parts) => parts,
         None => return Err("no page was read")?,
     };
-    let changed = format!(in rt.alloc(); "{front}BLOCK 01{behind}")?;
     let line = front.lines().count().saturating_add(39);
-    let told = format!(in rt.alloc(); "history line {line}: reply differs")?;
-    let ended = replay(&rt, rt.alloc(), drill.as_bytes(), changed.as_bytes(), &[])?;
-    expect(ended, refused(7, told.as_str()))
+    let told = format!(in alloc; "history line {line}: reply differs")?;
+    let changed = [
+        deck,
+        HISTORY.as_bytes(),
+        front.as_bytes(),
+        b"BLOCK 01",
+        behind.as_bytes(),
+    ];
+    expect_replay(rt, alloc, &changed, &[], refused(7, told.as_str()))
+}
+
+#[test]
+fn one_bit_of_a_page_that_was_read_is_missed(rt: HostRuntime) -> Result<(), Fail> {
+    let drill = drill_of_two(rt.alloc())?;
+    let told = run_told(&rt, rt.alloc(), &drill)?;
+    expect_missed(&rt, rt.alloc(), &drill, &told)
 }

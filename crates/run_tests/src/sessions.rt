@@ -1,114 +1,16 @@
 //! Whole sessions at the terminals of a deck: what files, records, fields, arrays in files, text on
 //! channels and messages show behind a monitor.
 
-use crate::calls::{expect_call, good};
-use std::alloc::Global;
-use std::sync::Wait;
+use crate::screens::{LOGIN, NO_FILE, ONE_ACCOUNT, PROTECTED, READY, System, expect_systems};
 use std::test::Fail;
-use std::thread::Threads;
-
-/// A line, and what it shows, with LF where the screen has CR LF.
-pub(crate) type Row = (&'static str, &'static str);
-
-/// A deck's lines in front of its terminals, and the rows of each terminal, `T0` and so on.
-pub(crate) type System = (&'static str, &'static [&'static [Row]]);
-
-pub(crate) const READY: &str = "Ready\n";
-
-pub(crate) const NO_FILE: &str = "?Can't find file or account\nReady\n";
-
-pub(crate) const PROTECTED: &str = "?Protection violation\nReady\n";
 
 const END_OF_FILE: &str = "?End of file on device\nReady\n";
 
 const INTERLOCKED: &str = "?Disk block is interlocked\nReady\n";
 
-pub(crate) const LOGIN: Row = ("HELLO 100,5;DEMO", READY);
-
-/// Adds a text with CR LF where it has LF.
-fn push_shown(screen: &mut Vec<u8>, text: &str) -> Result<(), Fail> {
-    for byte in text.as_bytes() {
-        if *byte == b'\n' {
-            screen.push(b'\r')?;
-        }
-        screen.push(*byte)?;
-    }
-    Ok(())
-}
-
-/// Adds the keys of the rows to a deck, and gives the screen, to the end of the keys.
-fn push_keys(alloc: Global, deck: &mut Vec<u8>, rows: &[Row]) -> Result<Vec<u8>, Fail> {
-    let mut screen = Vec::new(alloc);
-    for (line, shown) in rows {
-        deck.push(b'>')?;
-        deck.extend_from_slice(line.as_bytes())?;
-        deck.push(b'\n')?;
-        push_shown(&mut screen, line)?;
-        push_shown(&mut screen, "\n")?;
-        push_shown(&mut screen, shown)?;
-    }
-    push_shown(&mut screen, "Bye\n")?;
-    Ok(screen)
-}
-
-/// Adds the terminal of that number to a deck, and what it shows to the report.
-fn push_terminal(
-    alloc: Global,
-    deck: &mut Vec<u8>,
-    report: &mut Vec<u8>,
-    number: usize,
-    rows: &[Row],
-) -> Result<(), Fail> {
-    let head = format!(in alloc; "TERMINAL T{number}")?;
-    deck.extend_from_slice(head.as_bytes())?;
-    deck.push(b'\n')?;
-    let screen = push_keys(alloc, deck, rows)?;
-    let count = screen.len();
-    let told = format!(in alloc; "{head} {count}\n")?;
-    report.extend_from_slice(told.as_bytes())?;
-    report.extend_from_slice(screen.as_slice())?;
-    report.push(b'\n')?;
-    Ok(())
-}
-
-/// The deck of a system, and its report.
-pub(crate) fn deck_and_report(alloc: Global, system: &System) -> Result<(Vec<u8>, Vec<u8>), Fail> {
-    let mut deck = system.0.as_bytes().to_vec(alloc)?;
-    let mut report = Vec::new(alloc);
-    for (place, rows) in system.1.iter().enumerate() {
-        push_terminal(alloc, &mut deck, &mut report, place, rows)?;
-    }
-    deck.extend_from_slice(b"END\n")?;
-    Ok((deck, report))
-}
-
-fn expect_system<R: Threads + Wait + Sync>(
-    rt: &R,
-    alloc: Global,
-    system: &System,
-) -> Result<(), Fail> {
-    let (deck, report) = deck_and_report(alloc, system)?;
-    let want = good(report.as_slice());
-    expect_call(rt, alloc, &["run"], deck.as_slice(), want)
-}
-
-fn expect_systems<R: Threads + Wait + Sync>(
-    rt: &R,
-    alloc: Global,
-    systems: &[System],
-) -> Result<(), Fail> {
-    for system in systems {
-        expect_system(rt, alloc, system)?;
-    }
-    Ok(())
-}
-
-/// A disk of 8 blocks, and nothing on it.
-const EMPTY_DISK: &str = "RSTS-DECK 1\nDISK 8\nACCOUNT 100,5 DEMO 100\n";
-
 const TWO_BLOCKS: &str = "RSTS-DECK 1\nDISK 8\nACCOUNT 100,5 DEMO 100\nFILE [100,5]DATA<60> 2\n";
 
-const CODES_60_40_AND_2: System = (
+const CODES_60_40_AND_2: System<'static> = (
     "RSTS-DECK 1\nDISK 8\nACCOUNT 100,5 DEMO 100\nACCOUNT 100,6 DEMO 100\nACCOUNT 1,2 SYS 100\n\
      FILE [100,5]OWN<60> 1\nFILE [100,5]SHOWN<40> 1\nFILE [100,5]KEPT<2> 1\n",
     &[
@@ -131,7 +33,7 @@ const CODES_60_40_AND_2: System = (
     ],
 );
 
-const PAST_THE_END: System = (
+const PAST_THE_END: System<'static> = (
     TWO_BLOCKS,
     &[&[
         LOGIN,
@@ -145,7 +47,7 @@ const PAST_THE_END: System = (
     ]],
 );
 
-const DISK_OF_THREE_BLOCKS: System = (
+const DISK_OF_THREE_BLOCKS: System<'static> = (
     "RSTS-DECK 1\nDISK 3\nACCOUNT 100,5 DEMO 100\nFILE [100,5]DATA<60> 2\n",
     &[&[
         LOGIN,
@@ -155,7 +57,7 @@ const DISK_OF_THREE_BLOCKS: System = (
     ]],
 );
 
-const TWO_CHANNELS_FOR_UPDATE: System = (
+const TWO_CHANNELS_FOR_UPDATE: System<'static> = (
     TWO_BLOCKS,
     &[&[
         LOGIN,
@@ -172,7 +74,7 @@ const TWO_CHANNELS_FOR_UPDATE: System = (
     ]],
 );
 
-const RECORDS_OF_TWO_BLOCKS: System = (
+const RECORDS_OF_TWO_BLOCKS: System<'static> = (
     "RSTS-DECK 1\nDISK 8\nACCOUNT 100,5 DEMO 100\nFILE [100,5]DATA<60> 4\n",
     &[&[
         LOGIN,
@@ -200,7 +102,7 @@ const RECORDS_OF_TWO_BLOCKS: System = (
     ]],
 );
 
-static BLOCKS: [System; 5] = [
+static BLOCKS: [System<'static>; 5] = [
     CODES_60_40_AND_2,
     PAST_THE_END,
     DISK_OF_THREE_BLOCKS,
@@ -214,8 +116,8 @@ fn blocks_are_refused_held_and_made(rt: HostRuntime) -> Result<(), Fail> {
 }
 
 /// What was put through fields is there again, and the variable is empty until it is fielded anew.
-const FIELDS_OF_A_BLOCK: System = (
-    EMPTY_DISK,
+const FIELDS_OF_A_BLOCK: System<'static> = (
+    ONE_ACCOUNT,
     &[&[
         LOGIN,
         ("OPEN 'A' AS FILE 1% : FIELD #1%,10% AS A$", READY),
@@ -233,8 +135,8 @@ const FIELDS_OF_A_BLOCK: System = (
     ]],
 );
 
-const TEXTS_OF_512_BYTES_IN_A_FILE: System = (
-    EMPTY_DISK,
+const TEXTS_OF_512_BYTES_IN_A_FILE: System<'static> = (
+    ONE_ACCOUNT,
     &[&[
         LOGIN,
         ("10 DIM #1%, S$(3%)=512%", ""),
@@ -252,8 +154,8 @@ const TEXTS_OF_512_BYTES_IN_A_FILE: System = (
     ]],
 );
 
-const NUMBERS_OVER_TWO_BLOCKS: System = (
-    EMPTY_DISK,
+const NUMBERS_OVER_TWO_BLOCKS: System<'static> = (
+    ONE_ACCOUNT,
     &[&[
         LOGIN,
         ("10 DIM #1%, A%(300%)", ""),
@@ -272,8 +174,8 @@ const NUMBERS_OVER_TWO_BLOCKS: System = (
 );
 
 /// An element is a target of READ and INPUT, and stands in the midst of an argument.
-const ELEMENTS_AS_TARGETS: System = (
-    EMPTY_DISK,
+const ELEMENTS_AS_TARGETS: System<'static> = (
+    ONE_ACCOUNT,
     &[&[
         LOGIN,
         ("10 DIM #1%, N$(4%)=8%, V%(4%)", ""),
@@ -288,8 +190,8 @@ const ELEMENTS_AS_TARGETS: System = (
     ]],
 );
 
-const TEXT_IS_READ_BACK: System = (
-    EMPTY_DISK,
+const TEXT_IS_READ_BACK: System<'static> = (
+    ONE_ACCOUNT,
     &[&[
         LOGIN,
         ("OPEN 'T' FOR OUTPUT AS FILE 1%", READY),
@@ -301,7 +203,7 @@ const TEXT_IS_READ_BACK: System = (
 );
 
 /// The bytes of a PRINT USING wait where the disk has no room for them, and are put once it has.
-const REFUSED_PUT_OF_A_FORMAT: System = (
+const REFUSED_PUT_OF_A_FORMAT: System<'static> = (
     "RSTS-DECK 1\nDISK 1\nACCOUNT 100,5 DEMO 100\nFILE [100,5]FULL<60> 1\n",
     &[&[
         LOGIN,
@@ -321,7 +223,7 @@ const REFUSED_PUT_OF_A_FORMAT: System = (
     ]],
 );
 
-static CHANNELS: [System; 6] = [
+static CHANNELS: [System<'static>; 6] = [
     FIELDS_OF_A_BLOCK,
     TEXTS_OF_512_BYTES_IN_A_FILE,
     NUMBERS_OVER_TWO_BLOCKS,
@@ -337,8 +239,8 @@ fn fields_elements_and_texts_of_files(rt: HostRuntime) -> Result<(), Fail> {
 
 const ILLEGAL_SYS: &str = "?Illegal SYS() usage\nReady\n";
 
-const MESSAGES_TO_ITSELF: System = (
-    EMPTY_DISK,
+const MESSAGES_TO_ITSELF: System<'static> = (
+    ONE_ACCOUNT,
     &[&[
         LOGIN,
         ("M$=CHR$(6%)+CHR$(22%) : T$=M$+CHR$(255%)+'ORDERS'", READY),
@@ -367,8 +269,8 @@ const MESSAGES_TO_ITSELF: System = (
     ]],
 );
 
-const CALLS_OF_SYS: System = (
-    EMPTY_DISK,
+const CALLS_OF_SYS: System<'static> = (
+    ONE_ACCOUNT,
     &[&[
         LOGIN,
         ("PRINT ASCII(SYS(CHR$(6%)+CHR$(128%)))", " 1 \nReady\n"),
@@ -388,7 +290,7 @@ const MANY_CALLS: &str =
     "RSTS-DECK 1\nDISK 200\nACCOUNT 100,5 DEMO 16384\nFILE [100,5]DATA<60> 1\n";
 
 /// One holds a block until it is told that the other was refused, and the other polls for it.
-const A_HELD_BLOCK_IS_POLLED_FOR: System = (
+const A_HELD_BLOCK_IS_POLLED_FOR: System<'static> = (
     MANY_CALLS,
     &[
         &[
@@ -423,7 +325,7 @@ const A_HELD_BLOCK_IS_POLLED_FOR: System = (
 );
 
 /// Eight customers stand in a block; each balance is changed. It takes 250 calls, and 4 Ticks.
-const A_THOUSAND_CUSTOMERS: System = (
+const A_THOUSAND_CUSTOMERS: System<'static> = (
     MANY_CALLS,
     &[&[
         LOGIN,
@@ -448,7 +350,7 @@ const A_THOUSAND_CUSTOMERS: System = (
     ]],
 );
 
-static JOBS: [System; 4] = [
+static JOBS: [System<'static>; 4] = [
     MESSAGES_TO_ITSELF,
     CALLS_OF_SYS,
     A_HELD_BLOCK_IS_POLLED_FOR,
