@@ -1,35 +1,24 @@
 //! What fails a test.
 
-use std::alloc::Global;
 use std::test::Fail;
 
-/// Fails with the place of a row that is answered otherwise.
-pub(crate) fn expect_none(alloc: Global, wrong: Option<usize>) -> Result<(), Fail> {
-    match wrong {
-        None => Ok(()),
-        Some(place) => Err(Fail::new(format!(in alloc; "row {place} is answered otherwise")?)),
+/// Fails with the place of a row that is answered otherwise, and its table.
+pub(crate) fn expect_row(table: &str, place: usize, is_so: bool) -> Result<(), Fail> {
+    if is_so {
+        return Ok(());
     }
-}
-
-/// The same where a test goes over more than one table.
-pub(crate) fn expect_none_of(alloc: Global, table: &str, wrong: Option<usize>) -> Result<(), Fail> {
-    match wrong {
-        None => Ok(()),
-        Some(place) => Err(Fail::new(format!(in alloc;
-            "row {place} of {table} is answered otherwise"
-        )?)),
-    }
+    Err(Fail::new(format_args!("row {place} of {table} is answered otherwise")))
 }
 
 /// Fails with what is otherwise, unless it is so.
-pub(crate) fn expect(is_so: bool, what: &'static str) -> Result<(), Fail> {
-    if is_so { Ok(()) } else { Err(what)? }
+pub(crate) fn expect(is_so: bool, what: &str) -> Result<(), Fail> {
+    if is_so { Ok(()) } else { Err(Fail::new(what)) }
 }
 
 /// Fails with the bytes that are found, unless they are these.
-pub(crate) fn expect_bytes(alloc: Global, found: &[u8], wanted: &[u8]) -> Result<(), Fail> {
+pub(crate) fn expect_bytes(found: &[u8], wanted: &[u8]) -> Result<(), Fail> {
     if found == wanted {
         return Ok(());
     }
-    Err(Fail::new(format!(in alloc; "{found:?} are found")?))
+    Err(Fail::new(format_args!("{found:?} are found")))
 }

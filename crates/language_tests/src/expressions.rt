@@ -1,6 +1,6 @@
 //! Lines and their words, and the longest expression at the front of a line.
 
-use crate::expects::expect_none;
+use crate::expects::expect_row;
 use basic_expr::{Word, Words, parse_expr};
 use basic_scanner::scan;
 use basic_tree::{Cause, Expr, Keyword, Name, Refusal, Sign, Want};
@@ -56,7 +56,10 @@ const A0_TEXT: Name = Name {
     text: true,
 };
 
-static LINES: [(&[u8], &[Word<'static>]); 30] = [
+/// A line, and its words.
+type Line = (&'static [u8], &'static [Word<'static>]);
+
+static LINES: [Line; 30] = [
     (b"", &[]),
     (b" \t! nothing", &[]),
     (b"GOTO 10", &[Word::Key(Keyword::Goto), Word::Number(10)]),
@@ -215,6 +218,10 @@ static LINES: [(&[u8], &[Word<'static>]); 30] = [
     ),
 ];
 
+fn lines() -> &'static [Line] {
+    &LINES
+}
+
 /// The two are one word.
 fn is_same(word: Word<'_>, wanted: Word<'_>) -> bool {
     match (word, wanted) {
@@ -257,18 +264,18 @@ fn has_words(alloc: Global, line: &[u8], wanted: &[Word<'_>]) -> bool {
     }
 }
 
-fn first_wrong_line(alloc: Global) -> Option<usize> {
-    for (place, (line, wanted)) in LINES.iter().enumerate() {
-        if !has_words(alloc, line, wanted) {
-            return Some(place);
-        }
+/// Fails with the first line that has other words.
+fn expect_words(alloc: Global, rows: &[Line]) -> Result<(), Fail> {
+    for place in 0..rows.len() {
+        let (line, wanted) = rows[place];
+        expect_row("the lines", place, has_words(alloc, line, wanted))?;
     }
-    None
+    Ok(())
 }
 
 #[test]
 fn lines_have_their_words(rt: HostRuntime) -> Result<(), Fail> {
-    expect_none(rt.alloc(), first_wrong_line(rt.alloc()))
+    expect_words(rt.alloc(), lines())
 }
 
 // Expressions
@@ -308,8 +315,11 @@ fn refused(refusal: Refusal) -> Answer {
     }
 }
 
+/// A line, what is wanted at its front, and what that is answered.
+type Row = (&'static [u8], Want, Answer);
+
 /// The longest run of tokens is taken, and what stands behind it is left.
-static EXPRESSIONS: [(&[u8], Want, Answer); 24] = [
+static EXPRESSIONS: [Row; 24] = [
     (b"1%", Want::Number, Answer::Read(1)),
     (b"A%(1%,2%)^-3%)", Want::Number, Answer::Read(9)),
     (b"A%(1%,2%)^-3%)", Want::Text, Answer::Syntax(0)),
@@ -336,40 +346,43 @@ static EXPRESSIONS: [(&[u8], Want, Answer); 24] = [
     (b"AND", Want::Either, Answer::Syntax(0)),
 ];
 
-fn first_wrong_expression(alloc: Global) -> Option<usize> {
-    for (place, (line, want, answer)) in EXPRESSIONS.iter().enumerate() {
-        if parsed(alloc, line, *want) != *answer {
-            return Some(place);
-        }
+fn expressions() -> &'static [Row] {
+    &EXPRESSIONS
+}
+
+fn expect_answers(alloc: Global, rows: &[Row]) -> Result<(), Fail> {
+    for place in 0..rows.len() {
+        let (line, want, answer) = rows[place];
+        expect_row(
+            "the expressions",
+            place,
+            parsed(alloc, line, want) == answer,
+        )?;
     }
-    None
+    Ok(())
 }
 
 #[test]
 fn expressions_are_read_or_refused(rt: HostRuntime) -> Result<(), Fail> {
-    expect_none(rt.alloc(), first_wrong_expression(rt.alloc()))
-}
-
-/// The answer to a number behind so many signs.
-fn behind_signs(alloc: Global, count: usize) -> Result<Answer, Fail> {
-    let mut line = vec![in alloc; b'-'; count]?;
-    line.push(b'1')?;
-    Ok(parsed(alloc, &line, Want::Number))
+    expect_answers(rt.alloc(), expressions())
 }
 
 /// How many signs, and what the number behind them is answered.
 static SIGNS: [(usize, Answer); 2] = [(64, Answer::Read(65)), (65, Answer::TooDeep(64))];
 
-fn first_wrong_level(alloc: Global) -> Result<Option<usize>, Fail> {
-    for (place, (count, answer)) in SIGNS.iter().enumerate() {
-        if behind_signs(alloc, *count)? != *answer {
-            return Ok(Some(place));
-        }
+/// Fails unless a number behind so many signs is answered so, of a line with more of them.
+fn expect_levels(alloc: Global, line: &[u8]) -> Result<(), Fail> {
+    for (count, answer) in &SIGNS {
+        let front = line.len().saturating_sub(*count).saturating_sub(1);
+        let found = parsed(alloc, &line[front..], Want::Number);
+        expect_row("the signs", *count, found == *answer)?;
     }
-    Ok(None)
+    Ok(())
 }
 
 #[test]
 fn the_65th_level_is_refused(rt: HostRuntime) -> Result<(), Fail> {
-    expect_none(rt.alloc(), first_wrong_level(rt.alloc())?)
+    let signs = [b'-'; 65];
+    let line = [signs.as_slice(), b"1"].concat(rt.alloc())?;
+    expect_levels(rt.alloc(), line.as_slice())
 }

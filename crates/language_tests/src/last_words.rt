@@ -1,12 +1,12 @@
 //! PRINT USING and MAT: the trees of lines, and each token at which a line is refused.
 //! The helpers have no clause: a row compares what really came.
 
-use crate::expects::{expect_none, expect_none_of};
-use crate::trees::line_told;
+use crate::expects::expect_row;
+use crate::trees::is_told;
 use basic_line::read_line;
 use basic_tree::Cause;
 use basic_values::Trouble;
-use std::alloc::{AllocError, Global};
+use std::alloc::Global;
 use std::test::Fail;
 
 /// A line, and its tree as `trees` writes it.
@@ -14,6 +14,9 @@ type Tree = (&'static [u8], &'static str);
 
 /// A line, and the place of the token that is refused as a syntax error.
 type Wrong = (&'static [u8], u16);
+
+/// A line, and the byte at which it is refused, and why.
+type Old = (&'static [u8], u16, Cause);
 
 static TREES: [Tree; 39] = [
     (b"PRINT USING '##',1%", ":PRINT USING |##| 1"),
@@ -83,6 +86,10 @@ static TREES: [Tree; 39] = [
     ),
     (b"mata%=trn(b%)", ":MAT A%=TRN B%"),
 ];
+
+fn trees() -> &'static [Tree] {
+    &TREES
+}
 
 static WRONG: [Wrong; 79] = [
     (b"PRINT USING", 2),
@@ -166,22 +173,26 @@ static WRONG: [Wrong; 79] = [
     (b"FOR MAT A%=1%", 1),
 ];
 
+fn wrong() -> &'static [Wrong] {
+    &WRONG
+}
+
 /// Lines whose first letters are a keyword now: the byte that is refused, and why.
-static OLD: [(&[u8], u16, Cause); 4] = [
+static OLD: [Old; 4] = [
     (b"MATCH%=1", 3, Cause::FloatingName),
     (b"CON%=1", 3, Cause::StrayByte),
     (b"FORMAT%=1", 6, Cause::StrayByte),
     (b"FNMAT%=1", 0, Cause::FloatingName),
 ];
 
-/// The tree of a line, as `trees` writes it; nothing where the line is refused.
-fn tree_of(alloc: Global, line: &[u8]) -> Result<String, Fail> {
+/// Whether a line has this tree, as `trees` writes it.
+fn has_tree(alloc: Global, line: &[u8], tree: &'static str) -> bool {
     if line.len() > 255 {
-        return Ok(String::new(alloc));
+        return false;
     }
     match read_line(alloc, line) {
-        Ok(line) => line_told(alloc, &line),
-        Err(_) => Ok(String::new(alloc)),
+        Ok(line) => is_told(&line, tree),
+        Err(_) => false,
     }
 }
 
@@ -196,18 +207,18 @@ fn refusal_of(alloc: Global, line: &[u8]) -> Option<(u16, Cause)> {
     }
 }
 
-fn first_wrong_tree(alloc: Global) -> Result<Option<usize>, Fail> {
-    for (row, (line, tree)) in TREES.iter().enumerate() {
-        if tree_of(alloc, line)?.as_str() != *tree {
-            return Ok(Some(row));
-        }
+/// Fails with the first line that has another tree.
+fn expect_trees(alloc: Global, rows: &[Tree]) -> Result<(), Fail> {
+    for place in 0..rows.len() {
+        let (line, tree) = rows[place];
+        expect_row("the lines", place, has_tree(alloc, line, tree))?;
     }
-    Ok(None)
+    Ok(())
 }
 
 #[test]
 fn last_words_have_their_trees(rt: HostRuntime) -> Result<(), Fail> {
-    expect_none(rt.alloc(), first_wrong_tree(rt.alloc())?)
+    expect_trees(rt.alloc(), trees())
 }
 
 /// Whether a line is refused there, and so.
@@ -218,74 +229,62 @@ fn is_refused(alloc: Global, line: &[u8], place: u16, cause: Cause) -> bool {
     }
 }
 
-fn first_not_refused(alloc: Global) -> Option<usize> {
-    for (row, (line, place)) in WRONG.iter().enumerate() {
-        if !is_refused(alloc, line, *place, Cause::Syntax) {
-            return Some(row);
-        }
-    }
-    None
-}
-
-fn first_old_wrong(alloc: Global) -> Option<usize> {
-    for (row, (line, place, cause)) in OLD.iter().enumerate() {
-        if !is_refused(alloc, line, *place, *cause) {
-            return Some(row);
-        }
-    }
-    None
-}
-
-#[test]
-fn last_words_are_refused_at_each_token(rt: HostRuntime) -> Result<(), Fail> {
-    expect_none_of(rt.alloc(), "the wrong lines", first_not_refused(rt.alloc()))?;
-    expect_none_of(rt.alloc(), "the old lines", first_old_wrong(rt.alloc()))
-}
-
-fn push_times(line: &mut Vec<u8>, byte: u8, times: usize) -> Result<(), AllocError> {
-    for _ in 0..times {
-        line.push(byte)?;
+fn expect_wrong(alloc: Global, rows: &[Wrong]) -> Result<(), Fail> {
+    for row in 0..rows.len() {
+        let (line, place) = rows[row];
+        let is_so = is_refused(alloc, line, place, Cause::Syntax);
+        expect_row("the wrong lines", row, is_so)?;
     }
     Ok(())
 }
 
-/// A number in so many parentheses, and the array that it is a factor of.
-fn push_product(line: &mut Vec<u8>, levels: usize) -> Result<(), AllocError> {
-    push_times(line, b'(', levels)?;
-    line.push(b'1')?;
-    push_times(line, b')', levels)?;
-    line.extend_from_slice(b"*B%")
+fn expect_old(alloc: Global, rows: &[Old]) -> Result<(), Fail> {
+    for row in 0..rows.len() {
+        let (line, place, cause) = rows[row];
+        expect_row("the old lines", row, is_refused(alloc, line, place, cause))?;
+    }
+    Ok(())
 }
 
-/// MAT with a number in so many parentheses.
-fn in_parentheses(alloc: Global, levels: usize) -> Result<Vec<u8>, AllocError> {
-    let mut line = Vec::from_slice(alloc, b"MAT A%=")?;
-    push_product(&mut line, levels)?;
-    Ok(line)
+#[test]
+fn last_words_are_refused_at_each_token(rt: HostRuntime) -> Result<(), Fail> {
+    expect_wrong(rt.alloc(), wrong())?;
+    expect_old(rt.alloc(), &OLD)
 }
 
 /// How many parentheses, and where the line is refused as too deep.
 static LEVELS: [(usize, Option<u16>); 2] = [(64, None), (65, Some(67))];
 
-/// Whether so many parentheses are refused there as too deep, or nowhere.
-fn is_level(alloc: Global, levels: usize, place: Option<u16>) -> Result<bool, Fail> {
-    let line = in_parentheses(alloc, levels)?;
-    Ok(match place {
-        Some(place) => is_refused(alloc, &line, place, Cause::TooDeep),
-        None => refusal_of(alloc, &line).is_none(),
-    })
+/// Whether MAT with a number in these parentheses is refused there as too deep, or nowhere.
+fn is_level(alloc: Global, opening: &[u8], closing: &[u8], place: Option<u16>) -> bool {
+    match [b"MAT A%=".as_slice(), opening, b"1", closing, b"*B%"].concat(alloc) {
+        Ok(line) => is_so_deep(alloc, line.as_slice(), place),
+        Err(_) => false,
+    }
 }
 
-fn first_wrong_level(alloc: Global) -> Result<Option<usize>, Fail> {
-    for (row, (levels, place)) in LEVELS.iter().enumerate() {
-        if !is_level(alloc, *levels, *place)? {
-            return Ok(Some(row));
-        }
+fn is_so_deep(alloc: Global, line: &[u8], place: Option<u16>) -> bool {
+    match place {
+        Some(place) => is_refused(alloc, line, place, Cause::TooDeep),
+        None => refusal_of(alloc, line).is_none(),
     }
-    Ok(None)
+}
+
+/// Fails with the first row that is refused elsewhere, or not, with as many of these parentheses.
+fn expect_levels(alloc: Global, opening: &[u8], closing: &[u8]) -> Result<(), Fail> {
+    for (levels, place) in &LEVELS {
+        let opening = &opening[..opening.len().min(*levels)];
+        let closing = &closing[..closing.len().min(*levels)];
+        expect_row(
+            "the levels",
+            *levels,
+            is_level(alloc, opening, closing, *place),
+        )?;
+    }
+    Ok(())
 }
 
 #[test]
 fn a_factor_opens_levels(rt: HostRuntime) -> Result<(), Fail> {
-    expect_none(rt.alloc(), first_wrong_level(rt.alloc())?)
+    expect_levels(rt.alloc(), &[b'('; 65], &[b')'; 65])
 }

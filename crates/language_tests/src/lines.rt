@@ -1,6 +1,6 @@
 //! Lines that have a tree, and lines that are refused with the token at which they are.
 
-use crate::expects::{expect, expect_none, expect_none_of};
+use crate::expects::{expect, expect_row};
 use basic_line::parse_line;
 use basic_scanner::scan;
 use basic_tree::{Cause, Line, Refusal};
@@ -50,14 +50,13 @@ fn parsed(answer: Result<Line, Trouble<Refusal>>) -> Answer {
     }
 }
 
-/// The place of the first row that is answered otherwise.
-fn first_wrong(alloc: Global, rows: &[Row]) -> Option<usize> {
-    for (place, (line, answer)) in rows.iter().enumerate() {
-        if answer_of(alloc, line) != *answer {
-            return Some(place);
-        }
+/// Fails with the first row that is answered otherwise.
+fn expect_answers(alloc: Global, table: &str, rows: &[Row]) -> Result<(), Fail> {
+    for place in 0..rows.len() {
+        let (line, answer) = rows[place];
+        expect_row(table, place, answer_of(alloc, line) == answer)?;
     }
-    None
+    Ok(())
 }
 
 static ASSIGNMENTS: [Row; 21] = [
@@ -83,6 +82,10 @@ static ASSIGNMENTS: [Row; 21] = [
     (b"FNA$=1%", Answer::Syntax(2)),
     (b"FNA%", Answer::Syntax(1)),
 ];
+
+fn assignments() -> &'static [Row] {
+    &ASSIGNMENTS
+}
 
 static PRINTING: [Row; 40] = [
     (b"PRINT", Answer::Tree),
@@ -126,6 +129,10 @@ static PRINTING: [Row; 40] = [
     (b"DATA", Answer::Tree),
     (b"DATA 1,'A,B'", Answer::Tree),
 ];
+
+fn printing() -> &'static [Row] {
+    &PRINTING
+}
 
 static JUMPS: [Row; 47] = [
     (b"GOTO 10", Answer::Tree),
@@ -177,6 +184,10 @@ static JUMPS: [Row; 47] = [
     (b"SLEEP", Answer::Syntax(1)),
 ];
 
+fn jumps() -> &'static [Row] {
+    &JUMPS
+}
+
 static FILES: [Row; 40] = [
     (b"OPEN 'A' AS FILE 1%", Answer::Tree),
     (
@@ -226,6 +237,10 @@ static FILES: [Row; 40] = [
     (b"NAME 'A' 'B'", Answer::Syntax(2)),
 ];
 
+fn files() -> &'static [Row] {
+    &FILES
+}
+
 static HEADS: [Row; 33] = [
     (b"FOR I%=1% TO 3%", Answer::Tree),
     (b"FOR I%=1% TO 3% STEP -1%", Answer::Tree),
@@ -261,6 +276,10 @@ static HEADS: [Row; 33] = [
     (b"DEF A%", Answer::Syntax(1)),
     (b"DEF FNA%(A%(1%))", Answer::Syntax(4)),
 ];
+
+fn heads() -> &'static [Row] {
+    &HEADS
+}
 
 static CHOICES: [Row; 38] = [
     (b"IF A% THEN 10", Answer::Tree),
@@ -306,6 +325,10 @@ static CHOICES: [Row; 38] = [
     (b"TO", Answer::Syntax(0)),
 ];
 
+fn choices() -> &'static [Row] {
+    &CHOICES
+}
+
 static EXPRESSIONS: [Row; 33] = [
     (b"PRINT 1%+", Answer::Syntax(3)),
     (b"PRINT A%^-B%", Answer::Tree),
@@ -342,6 +365,10 @@ static EXPRESSIONS: [Row; 33] = [
     (b"PRINT A% AND", Answer::Syntax(3)),
 ];
 
+fn expressions() -> &'static [Row] {
+    &EXPRESSIONS
+}
+
 /// Rows that a user meets first.
 static MET_FIRST: [Row; 6] = [
     (b"PRINT A", Answer::Unscanned(6)),
@@ -354,20 +381,15 @@ static MET_FIRST: [Row; 6] = [
 
 #[test]
 fn lines_have_a_tree_or_are_refused(rt: HostRuntime) -> Result<(), Fail> {
-    let tables: [(&str, &[Row]); 8] = [
-        ("the lines met first", &MET_FIRST),
-        ("the assignments", &ASSIGNMENTS),
-        ("the lines that print and read", &PRINTING),
-        ("the jumps", &JUMPS),
-        ("the lines of files", &FILES),
-        ("the heads", &HEADS),
-        ("the choices", &CHOICES),
-        ("the expressions", &EXPRESSIONS),
-    ];
-    for (table, rows) in tables {
-        expect_none_of(rt.alloc(), table, first_wrong(rt.alloc(), rows))?;
-    }
-    Ok(())
+    let alloc = rt.alloc();
+    expect_answers(alloc, "the lines met first", &MET_FIRST)?;
+    expect_answers(alloc, "the assignments", assignments())?;
+    expect_answers(alloc, "the lines that print and read", printing())?;
+    expect_answers(alloc, "the jumps", jumps())?;
+    expect_answers(alloc, "the lines of files", files())?;
+    expect_answers(alloc, "the heads", heads())?;
+    expect_answers(alloc, "the choices", choices())?;
+    expect_answers(alloc, "the expressions", expressions())
 }
 
 /// Every word of the language but those that may stand behind a value.
@@ -443,42 +465,42 @@ static WORDS: [&[u8]; 69] = [
     b"XLATE",
 ];
 
+fn words() -> &'static [&'static [u8]] {
+    &WORDS
+}
+
 /// The operators and the words of modifiers, behind which something is missing.
 static GOING_ON: [&[u8]; 10] = [
     b"AND", b"OR", b"XOR", b"IMP", b"EQV", b"IF", b"UNLESS", b"WHILE", b"UNTIL", b"FOR",
 ];
 
-fn joined(alloc: Global, parts: &[&[u8]]) -> Result<Vec<u8>, AllocError> {
-    let mut bytes = Vec::new(alloc);
-    for part in parts {
-        bytes.extend_from_slice(part)?;
+/// Whether a line with this word behind a value is answered so.
+fn is_answered_behind(alloc: Global, word: &[u8], answer: Answer) -> bool {
+    match [b"PRINT 1% ".as_slice(), word].concat(alloc) {
+        Ok(line) => answer_of(alloc, line.as_slice()) == answer,
+        Err(_) => false,
     }
-    Ok(bytes)
 }
 
-/// The place of the first word that is answered otherwise behind a value.
-fn first_wrong_word(
-    alloc: Global,
-    words: &[&[u8]],
-    answer: Answer,
-) -> Result<Option<usize>, AllocError> {
-    for (place, word) in words.iter().enumerate() {
-        let line = joined(alloc, &[b"PRINT 1% ".as_slice(), *word])?;
-        if answer_of(alloc, &line) != answer {
-            return Ok(Some(place));
-        }
+/// Fails with the first word that is answered otherwise behind a value.
+fn expect_words(alloc: Global, table: &str, words: &[&[u8]], answer: Answer) -> Result<(), Fail> {
+    for place in 0..words.len() {
+        let is_so = is_answered_behind(alloc, words[place], answer);
+        expect_row(table, place, is_so)?;
     }
-    Ok(None)
+    Ok(())
 }
 
 #[test]
 fn words_stand_behind_a_value_or_not(rt: HostRuntime) -> Result<(), Fail> {
-    let alloc = rt.alloc();
-    let wrong = first_wrong_word(alloc, &WORDS, Answer::Syntax(2))?;
-    expect_none_of(alloc, "the words", wrong)?;
-    let wrong = first_wrong_word(alloc, &GOING_ON, Answer::Syntax(3))?;
-    expect_none_of(alloc, "the words that go on", wrong)?;
-    let remark = answer_of(alloc, b"PRINT 1% REM STOP");
+    expect_words(rt.alloc(), "the words", words(), Answer::Syntax(2))?;
+    expect_words(
+        rt.alloc(),
+        "the words that go on",
+        &GOING_ON,
+        Answer::Syntax(3),
+    )?;
+    let remark = answer_of(rt.alloc(), b"PRINT 1% REM STOP");
     expect(remark == Answer::Tree, "a remark behind a value")
 }
 
@@ -525,36 +547,35 @@ static NESTS: [Nest; 15] = [
     (b"PRINT 1 1", b"(", b"1", b")", 65, Answer::Syntax(2)),
 ];
 
-fn push_times(bytes: &mut Vec<u8>, part: &[u8], times: usize) -> Result<(), AllocError> {
+/// Puts a part behind a line so many times.
+fn push_times(line: &mut Vec<u8>, part: &[u8], times: usize) -> Result<(), AllocError> {
     for _ in 0..times {
-        bytes.extend_from_slice(part)?;
+        line.extend_from_slice(part)?;
     }
     Ok(())
 }
 
-/// So many times the part, the middle, and so many times the end.
-fn push_levels(bytes: &mut Vec<u8>, nest: &Nest) -> Result<(), AllocError> {
-    push_times(bytes, nest.1, nest.4)?;
-    bytes.extend_from_slice(nest.2)?;
-    push_times(bytes, nest.3, nest.4)
+/// The front, so many times the part, the middle, and so many times the end.
+fn push_nest(line: &mut Vec<u8>, nest: &Nest) -> Result<(), AllocError> {
+    line.extend_from_slice(nest.0)?;
+    push_times(line, nest.1, nest.4)?;
+    line.extend_from_slice(nest.2)?;
+    push_times(line, nest.3, nest.4)
 }
 
-fn nest_answer(alloc: Global, nest: &Nest) -> Result<Answer, AllocError> {
-    let mut line = Vec::from_slice(alloc, nest.0)?;
-    push_levels(&mut line, nest)?;
-    Ok(answer_of(alloc, &line))
+fn is_nest(alloc: Global, nest: &Nest) -> bool {
+    let mut line = Vec::new(alloc);
+    push_nest(&mut line, nest).is_ok() && answer_of(alloc, line.as_slice()) == nest.5
 }
 
-fn first_wrong_nest(alloc: Global) -> Result<Option<usize>, AllocError> {
-    for (place, nest) in NESTS.iter().enumerate() {
-        if nest_answer(alloc, nest)? != nest.5 {
-            return Ok(Some(place));
-        }
+fn expect_nests(alloc: Global, nests: &[Nest]) -> Result<(), Fail> {
+    for place in 0..nests.len() {
+        expect_row("the nests", place, is_nest(alloc, &nests[place]))?;
     }
-    Ok(None)
+    Ok(())
 }
 
 #[test]
 fn the_65th_level_is_refused(rt: HostRuntime) -> Result<(), Fail> {
-    expect_none(rt.alloc(), first_wrong_nest(rt.alloc())?)
+    expect_nests(rt.alloc(), &NESTS)
 }

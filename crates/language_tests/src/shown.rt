@@ -1,7 +1,7 @@
 //! The trees of lines: one row at least for each form of a statement.
 
-use crate::expects::expect_none_of;
-use crate::trees::line_told;
+use crate::expects::expect_row;
+use crate::trees::is_told;
 use basic_line::read_line;
 use std::alloc::Global;
 use std::test::Fail;
@@ -46,6 +46,10 @@ static EXPRESSIONS: [Row; 16] = [
     ),
 ];
 
+fn expressions() -> &'static [Row] {
+    &EXPRESSIONS
+}
+
 static JUMPS: [Row; 20] = [
     (b"FOR I%=1 TO 3", ":FOR I%=1 TO 3"),
     (b"FOR I%=1 TO 3 STEP -1", ":FOR I%=1 TO 3 STEP [-1]"),
@@ -68,6 +72,10 @@ static JUMPS: [Row; 20] = [
     (b"CHAIN A$(5) (6)", ":CHAIN A$[5] (6)"),
     (b"SLEEP 5", ":SLEEP 5"),
 ];
+
+fn jumps() -> &'static [Row] {
+    &JUMPS
+}
 
 static FILES: [Row; 18] = [
     (b"OPEN 'A' AS FILE 1", ":OPEN |A| AS FILE 1"),
@@ -98,6 +106,10 @@ static FILES: [Row; 18] = [
     (b"KILL 'A'", ":KILL |A|"),
     (b"NAME 'A' AS 'B'", ":NAME |A| AS |B|"),
 ];
+
+fn files() -> &'static [Row] {
+    &FILES
+}
 
 static VALUES: [Row; 28] = [
     (
@@ -133,6 +145,10 @@ static VALUES: [Row; 28] = [
     (b"RESTORE", ":RESTORE"),
 ];
 
+fn values() -> &'static [Row] {
+    &VALUES
+}
+
 static CHOICES: [Row; 12] = [
     (b"IF 1 THEN 10", ":IF 1 THEN {10}"),
     (b"IF 1 THEN 10 ELSE 20", ":IF 1 THEN {10} ELSE {20}"),
@@ -157,38 +173,36 @@ static CHOICES: [Row; 12] = [
     ),
 ];
 
-/// The tree of a line, as `trees` writes it.
-fn shown(alloc: Global, bytes: &[u8]) -> Result<String, Fail> {
+fn choices() -> &'static [Row] {
+    &CHOICES
+}
+
+/// Whether a line has this tree, as `trees` writes it.
+fn is_shown(alloc: Global, bytes: &[u8], tree: &'static str) -> Result<bool, Fail> {
     if bytes.len() > 255 {
-        return Err("a line is too long")?;
+        return Err(Fail::new("a line is too long"));
     }
     match read_line(alloc, bytes) {
-        Ok(line) => line_told(alloc, &line),
-        Err(_) => Err("a line has no tree")?,
+        Ok(line) => Ok(is_told(&line, tree)),
+        Err(_) => Err(Fail::new("a line has no tree")),
     }
 }
 
-fn first_wrong(alloc: Global, rows: &[Row]) -> Result<Option<usize>, Fail> {
-    for (place, (bytes, tree)) in rows.iter().enumerate() {
-        if shown(alloc, bytes)?.as_str() != *tree {
-            return Ok(Some(place));
-        }
+/// Fails with the first line that has another tree.
+fn expect_shown(alloc: Global, table: &str, rows: &[Row]) -> Result<(), Fail> {
+    for place in 0..rows.len() {
+        let (bytes, tree) = rows[place];
+        expect_row(table, place, is_shown(alloc, bytes, tree)?)?;
     }
-    Ok(None)
+    Ok(())
 }
 
 #[test]
 fn trees_are_those_of_the_lines(rt: HostRuntime) -> Result<(), Fail> {
-    let tables: [(&str, &[Row]); 6] = [
-        ("the lines", &LINES),
-        ("the expressions", &EXPRESSIONS),
-        ("the jumps", &JUMPS),
-        ("the lines of files", &FILES),
-        ("the lines of values", &VALUES),
-        ("the choices", &CHOICES),
-    ];
-    for (table, rows) in tables {
-        expect_none_of(rt.alloc(), table, first_wrong(rt.alloc(), rows)?)?;
-    }
-    Ok(())
+    expect_shown(rt.alloc(), "the lines", &LINES)?;
+    expect_shown(rt.alloc(), "the expressions", expressions())?;
+    expect_shown(rt.alloc(), "the jumps", jumps())?;
+    expect_shown(rt.alloc(), "the lines of files", files())?;
+    expect_shown(rt.alloc(), "the lines of values", values())?;
+    expect_shown(rt.alloc(), "the choices", choices())
 }

@@ -1,12 +1,12 @@
 //! The string functions.
 
-use crate::expects::{expect, expect_none, expect_none_of};
+use crate::expects::{expect, expect_row};
 use basic_strings::{
     Cut, abs, ascii, chr, digits, instr, item_number, left, left_cut, len, mid, mid_cut, num, num1,
     number_of, right, right_cut, sgn, space, string, text_of, val, xlate,
 };
 use basic_values::{Fault, Halt, Int, Text, Trouble};
-use std::alloc::{AllocError, Global};
+use std::alloc::Global;
 use std::test::Fail;
 
 /// A function that gives a text, with its arguments.
@@ -60,13 +60,13 @@ fn is_too_long(alloc: Global, call: Made<'_>) -> bool {
 /// A call, and the text that it gives.
 type Row = (Made<'static>, &'static [u8]);
 
-fn first_wrong(alloc: Global, rows: &[Row]) -> Option<usize> {
-    for (place, (call, bytes)) in rows.iter().enumerate() {
-        if !gives(alloc, *call, bytes) {
-            return Some(place);
-        }
+/// Fails with the first call that gives another text.
+fn expect_given(alloc: Global, table: &str, rows: &[Row]) -> Result<(), Fail> {
+    for place in 0..rows.len() {
+        let (call, bytes) = rows[place];
+        expect_row(table, place, gives(alloc, call, bytes))?;
     }
-    None
+    Ok(())
 }
 
 /// The text of which a call gives a part, and that part.
@@ -91,13 +91,13 @@ fn leaves(alloc: Global, call: Made<'_>, bytes: &[u8]) -> bool {
     text.as_bytes() == bytes
 }
 
-fn first_wrong_cut(alloc: Global, rows: &[Row]) -> Option<usize> {
-    for (place, (call, bytes)) in rows.iter().enumerate() {
-        if !leaves(alloc, *call, bytes) {
-            return Some(place);
-        }
+/// Fails with the first call whose text is cut to another one.
+fn expect_cut(alloc: Global, rows: &[Row]) -> Result<(), Fail> {
+    for place in 0..rows.len() {
+        let (call, bytes) = rows[place];
+        expect_row("the cuts", place, leaves(alloc, call, bytes))?;
     }
-    None
+    Ok(())
 }
 
 const LOW: i16 = -32768;
@@ -151,15 +151,16 @@ static PARTS: [Row; 46] = [
     (Right(b"", 32767), b""),
 ];
 
-/// The parts as texts of their own, and cut in their place.
-fn expect_parts(alloc: Global, rows: &[Row]) -> Result<(), Fail> {
-    expect_none_of(alloc, "the parts", first_wrong(alloc, rows))?;
-    expect_none_of(alloc, "the cuts", first_wrong_cut(alloc, rows))
+fn parts() -> &'static [Row] {
+    &PARTS
 }
 
+/// The parts as texts of their own, and cut in their place.
 #[test]
 fn parts_by_length_and_place(rt: HostRuntime) -> Result<(), Fail> {
-    expect_parts(rt.alloc(), &PARTS)
+    let rows = parts();
+    expect_given(rt.alloc(), "the parts", rows)?;
+    expect_cut(rt.alloc(), rows)
 }
 
 /// From where on a text is searched, the text, what is sought, and its place.
@@ -188,18 +189,14 @@ fn place_in(from: i16, a: &[u8], b: &[u8]) -> Option<i16> {
     Some(instr(Int::new(from), a, b).value())
 }
 
-fn first_wrong_place() -> Option<usize> {
-    for (place, (from, a, b, found)) in PLACES.iter().enumerate() {
-        if place_in(*from, a, b) != Some(*found) {
-            return Some(place);
-        }
-    }
-    None
-}
-
 #[test]
-fn places_of_texts(rt: HostRuntime) -> Result<(), Fail> {
-    expect_none(rt.alloc(), first_wrong_place())
+fn places_of_texts(_rt: HostRuntime) -> Result<(), Fail> {
+    let rows = &PLACES;
+    for place in 0..rows.len() {
+        let (from, a, b, found) = rows[place];
+        expect_row("the places", place, place_in(from, a, b) == Some(found))?;
+    }
+    Ok(())
 }
 
 static NUMBERS: [Row; 15] = [
@@ -219,6 +216,10 @@ static NUMBERS: [Row; 15] = [
     (Pair(32767), &[127, 255]),
     (Pair(LOW), &[128, 0]),
 ];
+
+fn numbers() -> &'static [Row] {
+    &NUMBERS
+}
 
 /// A number as its shortest text, as it is printed and as two bytes, its size and its sign.
 type Back = (i16, &'static [u8], &'static [u8], [u8; 2], i16, i16);
@@ -244,32 +245,33 @@ fn has_size(row: &Back) -> bool {
     has_digits && abs(number).value() == row.4 && sgn(number).value() == row.5
 }
 
-fn first_wrong_back() -> Option<usize> {
-    for (place, row) in BACK.iter().enumerate() {
-        if !gives_back(row) || !has_size(row) {
-            return Some(place);
-        }
+fn expect_back(rows: &[Back]) -> Result<(), Fail> {
+    for place in 0..rows.len() {
+        let row = &rows[place];
+        expect_row("the ways back", place, gives_back(row) && has_size(row))?;
     }
-    None
+    Ok(())
 }
 
-/// Bytes of another length than two, and their number.
-static OTHER_PAIRS: [(&[u8], i16); 3] = [(b"", 0), (b"\x01", 256), (b"\x01\x02\x03", 258)];
+/// Bytes, and the number that comes of them.
+type Numbered = (&'static [u8], i16);
 
-fn first_wrong_pair() -> Option<usize> {
-    for (place, (bytes, number)) in OTHER_PAIRS.iter().enumerate() {
-        if number_of(bytes).value() != *number {
-            return Some(place);
-        }
+/// Bytes of another length than two, and their number.
+static OTHER_PAIRS: [Numbered; 3] = [(b"", 0), (b"\x01", 256), (b"\x01\x02\x03", 258)];
+
+fn expect_pairs(rows: &[Numbered]) -> Result<(), Fail> {
+    for place in 0..rows.len() {
+        let (bytes, number) = rows[place];
+        expect_row("the other pairs", place, number_of(bytes).value() == number)?;
     }
-    None
+    Ok(())
 }
 
 #[test]
 fn numbers_as_texts_and_back(rt: HostRuntime) -> Result<(), Fail> {
-    expect_none_of(rt.alloc(), "the numbers", first_wrong(rt.alloc(), &NUMBERS))?;
-    expect_none_of(rt.alloc(), "the ways back", first_wrong_back())?;
-    expect_none_of(rt.alloc(), "the other pairs", first_wrong_pair())
+    expect_given(rt.alloc(), "the numbers", numbers())?;
+    expect_back(&BACK)?;
+    expect_pairs(&OTHER_PAIRS)
 }
 
 /// A number, or the number of the error.
@@ -293,7 +295,9 @@ fn item(bytes: &[u8]) -> Value {
 }
 
 /// A text, what VAL makes of it, and what READ and INPUT do.
-static SPELLED: [(&[u8], Value, Value); 21] = [
+type Spelled = (&'static [u8], Value, Value);
+
+static SPELLED: [Spelled; 21] = [
     (b"12", Ok(12), Ok(12)),
     (b"+12", Ok(12), Ok(12)),
     (b"-0", Ok(0), Ok(0)),
@@ -317,18 +321,19 @@ static SPELLED: [(&[u8], Value, Value); 21] = [
     (b"99999999999999999999X", Err(52), Err(50)),
 ];
 
-fn first_wrong_spelling() -> Option<usize> {
-    for (place, (bytes, as_value, as_item)) in SPELLED.iter().enumerate() {
-        if value(bytes) != *as_value || item(bytes) != *as_item {
-            return Some(place);
-        }
-    }
-    None
+fn spelled() -> &'static [Spelled] {
+    &SPELLED
 }
 
 #[test]
-fn texts_that_spell_numbers(rt: HostRuntime) -> Result<(), Fail> {
-    expect_none(rt.alloc(), first_wrong_spelling())
+fn texts_that_spell_numbers(_rt: HostRuntime) -> Result<(), Fail> {
+    let rows = spelled();
+    for place in 0..rows.len() {
+        let (bytes, as_value, as_item) = rows[place];
+        let is_so = value(bytes) == as_value && item(bytes) == as_item;
+        expect_row("the texts", place, is_so)?;
+    }
+    Ok(())
 }
 
 static BYTES: [Row; 28] = [
@@ -362,27 +367,25 @@ static BYTES: [Row; 28] = [
     (Xlate(b"\x00\x01\x02\x04\xff", b""), b""),
 ];
 
-/// A text, and the number of its first byte.
-static FIRSTS: [(&[u8], i16); 3] = [(b"", 0), (b"A", 65), (b"\xffA", 255)];
+fn rows_of_bytes() -> &'static [Row] {
+    &BYTES
+}
 
-fn first_wrong_first() -> Option<usize> {
-    for (place, (bytes, first)) in FIRSTS.iter().enumerate() {
-        if ascii(bytes).value() != *first {
-            return Some(place);
-        }
+/// A text, and the number of its first byte.
+static FIRSTS: [Numbered; 3] = [(b"", 0), (b"A", 65), (b"\xffA", 255)];
+
+fn expect_firsts(rows: &[Numbered]) -> Result<(), Fail> {
+    for place in 0..rows.len() {
+        let (bytes, first) = rows[place];
+        expect_row("the first bytes", place, ascii(bytes).value() == first)?;
     }
-    None
+    Ok(())
 }
 
 #[test]
 fn bytes_once_and_many_times(rt: HostRuntime) -> Result<(), Fail> {
-    expect_none_of(rt.alloc(), "the bytes", first_wrong(rt.alloc(), &BYTES))?;
-    expect_none_of(rt.alloc(), "the first bytes", first_wrong_first())
-}
-
-/// So many times a byte.
-fn times(alloc: Global, byte: u8, count: usize) -> Result<Vec<u8>, AllocError> {
-    vec![in alloc; byte; count]
+    expect_given(rt.alloc(), "the bytes", rows_of_bytes())?;
+    expect_firsts(&FIRSTS)
 }
 
 /// Whether a text of so many letters A is given whole by each function that can.
@@ -404,42 +407,52 @@ fn length_and_end(text: &[u8], count: i16) -> Option<(i16, i16)> {
     Some((len(text).value(), end))
 }
 
-fn is_whole(alloc: Global, length: usize, count: i16) -> Result<bool, Fail> {
-    let text = times(alloc, b'A', length)?;
-    let spaces = times(alloc, b' ', length)?;
+/// The same of the functions that give its length, its end, and as many spaces.
+fn is_whole(alloc: Global, text: &[u8], spaces: &[u8], count: i16) -> bool {
     let end = if count == 0 { 1 } else { count };
-    Ok(
-        gives_whole(alloc, &text, count)
-            && gives(alloc, Space(count), &spaces)
-            && length_and_end(&text, count) == Some((count, end)),
-    )
+    gives_whole(alloc, text, count)
+        && gives(alloc, Space(count), spaces)
+        && length_and_end(text, count) == Some((count, end))
 }
 
 /// A text of 32,768 bytes is none, and may be cut to one.
-fn is_beyond(alloc: Global) -> Result<bool, Fail> {
-    let long = times(alloc, b'A', 32768)?;
-    let text = long.as_slice();
-    Ok(
-        is_too_long(alloc, Right(text, 1))
-            && is_too_long(alloc, Xlate(text, text))
-            && gives(alloc, Right(text, 32767), b"AA"),
-    )
+fn is_beyond(alloc: Global, text: &[u8]) -> bool {
+    is_too_long(alloc, Right(text, 1))
+        && is_too_long(alloc, Xlate(text, text))
+        && gives(alloc, Right(text, 32767), b"AA")
 }
 
 /// Lengths of texts, and the same as numbers of the language.
 static LENGTHS: [(usize, i16); 4] = [(0, 0), (1, 1), (32766, 32766), (32767, 32767)];
 
-fn first_wrong_length(alloc: Global) -> Result<Option<usize>, Fail> {
-    for (place, (length, count)) in LENGTHS.iter().enumerate() {
-        if !is_whole(alloc, *length, *count)? {
-            return Ok(Some(place));
-        }
+/// Whether the first letters and spaces of so many are whole texts.
+fn are_whole(alloc: Global, letters: &[u8], spaces: &[u8], length: usize, count: i16) -> bool {
+    if length > letters.len() || length > spaces.len() {
+        return false;
     }
-    Ok(None)
+    is_whole(alloc, &letters[..length], &spaces[..length], count)
+}
+
+fn expect_whole(alloc: Global, letters: &[u8], spaces: &[u8]) -> Result<(), Fail> {
+    for (length, count) in &LENGTHS {
+        let is_so = are_whole(alloc, letters, spaces, *length, *count);
+        expect_row("the lengths", *length, is_so)?;
+    }
+    Ok(())
+}
+
+/// Fails unless all lengths are right, with 32,768 letters and as many spaces.
+fn expect_lengths(alloc: Global, letters: &[u8]) -> Result<(), Fail> {
+    let spaces = vec![in alloc; b' '; 32768]?;
+    expect_whole(alloc, letters, spaces.as_slice())
 }
 
 #[test]
 fn texts_of_every_length(rt: HostRuntime) -> Result<(), Fail> {
-    expect_none_of(rt.alloc(), "the lengths", first_wrong_length(rt.alloc())?)?;
-    expect(is_beyond(rt.alloc())?, "a text of 32,768 bytes")
+    let letters = vec![in rt.alloc(); b'A'; 32768]?;
+    expect_lengths(rt.alloc(), letters.as_slice())?;
+    expect(
+        is_beyond(rt.alloc(), letters.as_slice()),
+        "a text of 32,768 bytes",
+    )
 }

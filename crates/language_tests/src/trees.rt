@@ -1,4 +1,4 @@
-//! A tree as a text: one arm for each form of the grammar.
+//! A tree told in words: one arm for each form of the grammar.
 
 use basic_tree::{
     ChainLine, Clause, CloseChannel, Expr, FieldPart, FileShape, Function, Line, MatrixValue,
@@ -6,67 +6,69 @@ use basic_tree::{
     Separator, Shape, Statement, Target, UsingItem,
 };
 use basic_values::Text;
-use std::alloc::{AllocError, Global};
-use std::test::Fail;
 
-/// A text that grows, until memory runs out: whoever puts something there need not ask each time.
-#[derive(Drop)]
+/// What is left of the words that a tree is to be told by. Whoever puts a word there need not ask
+/// each time whether it was the next one.
 struct Told {
-    text: String,
-    is_cut: bool,
+    rest: &'static [u8],
+    is_other: bool,
 }
 
 impl Told {
-    fn new(alloc: Global) -> Told {
-        Told {
-            text: String::new(alloc),
-            is_cut: false,
-        }
-    }
-
-    /// The text, where it is whole.
-    fn text(self) -> Result<String, Fail> {
-        if self.is_cut {
-            return Err("no memory".into());
-        }
-        Ok(self.text)
-    }
-
     fn put(&mut self, word: &str) {
-        let done = self.text.push_str(word);
-        self.note(done);
+        self.bytes(word.as_bytes())
     }
 
-    fn sign(&mut self, sign: char) {
-        let done = self.text.push(sign);
-        self.note(done);
+    fn bytes(&mut self, bytes: &[u8]) {
+        if self.rest.starts_with(bytes) {
+            self.rest = &self.rest[bytes.len()..];
+        } else {
+            self.is_other = true;
+        }
     }
 
-    fn note(&mut self, done: Result<(), AllocError>) {
-        self.is_cut = self.is_cut || done.is_err();
+    fn byte(&mut self, byte: u8) {
+        match self.rest.split_first() {
+            Some((first, rest)) if *first == byte => self.rest = rest,
+            _ => self.is_other = true,
+        }
+    }
+
+    /// The last digit of a number.
+    fn digit(&mut self, number: u16) {
+        self.byte(b'0' + (number % 10) as u8)
     }
 }
 
 /// The bytes of a text, between bars.
 fn put_bytes(out: &mut Told, bytes: &[u8]) {
-    out.put("|");
-    for byte in bytes {
-        out.sign(*byte as char);
-    }
-    out.put("|")
+    out.byte(b'|');
+    out.bytes(bytes);
+    out.byte(b'|')
 }
 
 fn put_name(out: &mut Told, name: &Name) {
-    out.sign(name.letter as char);
+    out.byte(name.letter);
     if let Some(digit) = name.digit {
-        out.sign(digit as char);
+        out.byte(digit);
     }
     out.put(if name.text { "$" } else { "%" })
 }
 
 fn put_number(out: &mut Told, number: u16) {
-    let done = write!(out.text, "{number}");
-    out.note(done);
+    if number > 9999 {
+        out.digit(number / 10000);
+    }
+    if number > 999 {
+        out.digit(number / 1000);
+    }
+    if number > 99 {
+        out.digit(number / 100);
+    }
+    if number > 9 {
+        out.digit(number / 10);
+    }
+    out.digit(number)
 }
 
 /// A word, and a name behind it.
@@ -88,19 +90,59 @@ fn put_behind(out: &mut Told, word: &str, tree: &Option<Expr>) {
     }
 }
 
-fn put_function(out: &mut Told, function: Function) {
-    let done = write!(out.text, "{function:?}");
-    out.note(done);
+fn function_word(function: Function) -> &'static str {
+    match function {
+        Function::Len => "Len",
+        Function::Ascii => "Ascii",
+        Function::Left => "Left",
+        Function::Right => "Right",
+        Function::Mid => "Mid",
+        Function::Instr => "Instr",
+        Function::Chr => "Chr",
+        Function::Space => "Space",
+        Function::StringOf => "StringOf",
+        Function::Num1 => "Num1",
+        Function::Num => "Num",
+        Function::Val => "Val",
+        Function::CvtToText => "CvtToText",
+        Function::CvtToNumber => "CvtToNumber",
+        Function::Swap => "Swap",
+        Function::Abs => "Abs",
+        Function::Sgn => "Sgn",
+        Function::Xlate => "Xlate",
+        Function::Pos => "Pos",
+        Function::Err => "Err",
+        Function::Erl => "Erl",
+        Function::Recount => "Recount",
+        Function::Sys => "Sys",
+    }
 }
 
-fn put_operator(out: &mut Told, operator: Operator) {
-    let done = write!(out.text, " {operator:?} ");
-    out.note(done);
+fn operator_word(operator: Operator) -> &'static str {
+    match operator {
+        Operator::Power => " Power ",
+        Operator::Times => " Times ",
+        Operator::Divided => " Divided ",
+        Operator::Plus => " Plus ",
+        Operator::Minus => " Minus ",
+        Operator::And => " And ",
+        Operator::Or => " Or ",
+        Operator::Xor => " Xor ",
+        Operator::Imp => " Imp ",
+        Operator::Eqv => " Eqv ",
+    }
 }
 
-fn put_relation(out: &mut Told, relation: Relation) {
-    let done = write!(out.text, " {relation:?} ");
-    out.note(done);
+fn relation_word(relation: Relation) -> &'static str {
+    match relation {
+        Relation::Equal => " Equal ",
+        Relation::Same => " Same ",
+        Relation::Less => " Less ",
+        Relation::Greater => " Greater ",
+        Relation::LessOrEqual => " LessOrEqual ",
+        Relation::GreaterOrEqual => " GreaterOrEqual ",
+        Relation::Different => " Different ",
+    }
 }
 
 /// An expression, with brackets round each operation.
@@ -126,7 +168,7 @@ fn put_expr(out: &mut Told, tree: &Expr) {
             function,
             arguments,
         } => {
-            put_function(out, *function);
+            out.put(function_word(*function));
             put_arguments(out, arguments.as_slice())
         }
         Expr::Call { name, arguments } => {
@@ -142,8 +184,7 @@ fn put_expr(out: &mut Told, tree: &Expr) {
             operator,
             right,
         } => {
-            put_between(out, "[", left, "");
-            put_operator(out, *operator);
+            put_between(out, "[", left, operator_word(*operator));
             put_between(out, "", right, "]")
         }
         Expr::Relation {
@@ -151,8 +192,7 @@ fn put_expr(out: &mut Told, tree: &Expr) {
             relation,
             right,
         } => {
-            put_between(out, "[", left, "");
-            put_relation(out, *relation);
+            put_between(out, "[", left, relation_word(*relation));
             put_between(out, "", right, "]")
         }
     }
@@ -545,9 +585,9 @@ fn put_using(
 }
 
 /// Two arrays with a sign between them.
-fn put_pair(out: &mut Told, left: &Name, sign: char, right: &Name) {
+fn put_pair(out: &mut Told, left: &Name, sign: u8, right: &Name) {
     put_name(out, left);
-    out.sign(sign);
+    out.byte(sign);
     put_name(out, right)
 }
 
@@ -557,9 +597,9 @@ fn put_matrix(out: &mut Told, value: &MatrixValue) {
         MatrixValue::One => out.put("CON"),
         MatrixValue::Identity => out.put("IDN"),
         MatrixValue::Copy(name) => put_name(out, name),
-        MatrixValue::Sum(left, right) => put_pair(out, left, '+', right),
-        MatrixValue::Difference(left, right) => put_pair(out, left, '-', right),
-        MatrixValue::Product(left, right) => put_pair(out, left, '*', right),
+        MatrixValue::Sum(left, right) => put_pair(out, left, b'+', right),
+        MatrixValue::Difference(left, right) => put_pair(out, left, b'-', right),
+        MatrixValue::Product(left, right) => put_pair(out, left, b'*', right),
         MatrixValue::Scaled { factor, matrix } => {
             put_worded(out, "(", factor);
             put_named(out, ")*", matrix)
@@ -662,12 +702,16 @@ fn put_statement(out: &mut Told, statement: &Statement) {
     }
 }
 
-/// The statements of a line, each behind a colon.
-pub(crate) fn line_told(alloc: Global, line: &Line) -> Result<String, Fail> {
-    let mut out = Told::new(alloc);
+/// Whether the statements of a line, each behind a colon, are told by these words.
+pub(crate) fn is_told(line: &Line, words: &'static str) -> bool {
+    let mut out = Told {
+        rest: words.as_bytes(),
+        is_other: false,
+    };
     for statement in line.statements.as_slice() {
-        out.put(":");
+        out.byte(b':');
         put_statement(&mut out, statement);
     }
-    out.text()
+    let Told { rest, is_other } = out;
+    rest.is_empty() && !is_other
 }

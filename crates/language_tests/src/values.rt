@@ -1,12 +1,12 @@
 //! Whole numbers, texts, failures, and numbers that stand in a text.
 
-use crate::expects::{expect, expect_bytes, expect_none, expect_none_of};
+use crate::expects::{expect, expect_bytes, expect_row};
 use basic_values::{
     Fault, Halt, Int, KeyLine, Series, Text, Trouble, blanks_at_end, blanks_in_front, compare,
     concat, digits_in_front, identical, letters_in_front, number_between, without_end_blanks,
     without_front_blanks,
 };
-use std::alloc::{AllocError, Global};
+use std::alloc::Global;
 use std::cmp::Ordering;
 use std::test::Fail;
 
@@ -23,18 +23,14 @@ fn has_sum(a: i16, b: i16, sum: i16, text: &[u8]) -> bool {
     result.value() == sum && result.printed().as_slice() == text
 }
 
-fn first_wrong_sum() -> Option<usize> {
-    for (place, (a, b, sum, text)) in SUMS.iter().enumerate() {
-        if !has_sum(*a, *b, *sum, text) {
-            return Some(place);
-        }
-    }
-    None
-}
-
 #[test]
-fn sums_wrap_and_are_printed(rt: HostRuntime) -> Result<(), Fail> {
-    expect_none(rt.alloc(), first_wrong_sum())
+fn sums_wrap_and_are_printed(_rt: HostRuntime) -> Result<(), Fail> {
+    let rows = &SUMS;
+    for place in 0..rows.len() {
+        let (a, b, sum, text) = rows[place];
+        expect_row("the sums", place, has_sum(a, b, sum, text))?;
+    }
+    Ok(())
 }
 
 const LOW: i16 = -32768;
@@ -81,7 +77,9 @@ fn quotient(left: Int, right: Int) -> Option<i16> {
 }
 
 /// An operator, two numbers, and the value.
-static OPERATIONS: [(Operator, i16, i16, Option<i16>); 66] = [
+type Operation = (Operator, i16, i16, Option<i16>);
+
+static OPERATIONS: [Operation; 66] = [
     (Minus, HIGH, 2, Some(32765)),
     (Minus, LOW, -1, Some(-32767)),
     (Minus, LOW, LOW, Some(0)),
@@ -150,13 +148,16 @@ static OPERATIONS: [(Operator, i16, i16, Option<i16>); 66] = [
     (Imp, LOW, HIGH, Some(HIGH)),
 ];
 
-fn first_wrong_operation() -> Option<usize> {
-    for (place, (operator, a, b, value)) in OPERATIONS.iter().enumerate() {
-        if value_of(*operator, *a, *b) != *value {
-            return Some(place);
-        }
+fn operations() -> &'static [Operation] {
+    &OPERATIONS
+}
+
+fn expect_operations(rows: &[Operation]) -> Result<(), Fail> {
+    for place in 0..rows.len() {
+        let (operator, a, b, value) = rows[place];
+        expect_row("the operations", place, value_of(operator, a, b) == value)?;
     }
-    None
+    Ok(())
 }
 
 /// A number, and what NEG, NOT and SWAP make of it.
@@ -168,22 +169,21 @@ static TURNED: [(i16, i16, i16, i16); 5] = [
     (-2, 2, 1, -257),
 ];
 
-fn turned(a: i16) -> (i16, i16, i16) {
-    let number = Int::new(a);
-    (
+fn is_turned(row: (i16, i16, i16, i16)) -> bool {
+    let number = Int::new(row.0);
+    let turned = (
         number.neg().value(),
         number.not().value(),
         number.swap().value(),
-    )
+    );
+    turned == (row.1, row.2, row.3)
 }
 
-fn first_wrong_turn() -> Option<usize> {
-    for (place, (a, neg, not, swap)) in TURNED.iter().enumerate() {
-        if turned(*a) != (*neg, *not, *swap) {
-            return Some(place);
-        }
+fn expect_turns(rows: &[(i16, i16, i16, i16)]) -> Result<(), Fail> {
+    for place in 0..rows.len() {
+        expect_row("the turned numbers", place, is_turned(rows[place]))?;
     }
-    None
+    Ok(())
 }
 
 /// Whether a division by 0 is refused with its own error.
@@ -195,9 +195,9 @@ fn is_refused_at_zero() -> bool {
 }
 
 #[test]
-fn operators_at_the_ends_of_their_range(rt: HostRuntime) -> Result<(), Fail> {
-    expect_none_of(rt.alloc(), "the operations", first_wrong_operation())?;
-    expect_none_of(rt.alloc(), "the turned numbers", first_wrong_turn())?;
+fn operators_at_the_ends_of_their_range(_rt: HostRuntime) -> Result<(), Fail> {
+    expect_operations(operations())?;
+    expect_turns(&TURNED)?;
     expect(is_refused_at_zero(), "a division by 0")
 }
 
@@ -216,23 +216,14 @@ fn is_order(a: &[u8], b: &[u8], order: Ordering, same: bool) -> bool {
     compare(a, b) == order && compare(b, a) == order.reverse() && identical(a, b) == same
 }
 
-fn first_wrong_order() -> Option<usize> {
-    for (place, (a, b, order, same)) in COMPARED.iter().enumerate() {
-        if !is_order(a, b, *order, *same) {
-            return Some(place);
-        }
-    }
-    None
-}
-
 #[test]
-fn texts_are_compared(rt: HostRuntime) -> Result<(), Fail> {
-    expect_none(rt.alloc(), first_wrong_order())
-}
-
-/// So many spaces.
-fn spaces(alloc: Global, count: usize) -> Result<Vec<u8>, AllocError> {
-    vec![in alloc; b' '; count]
+fn texts_are_compared(_rt: HostRuntime) -> Result<(), Fail> {
+    let rows = &COMPARED;
+    for place in 0..rows.len() {
+        let (a, b, order, same) = rows[place];
+        expect_row("the texts", place, is_order(a, b, order, same))?;
+    }
+    Ok(())
 }
 
 /// The lengths of two texts, and that of both as one; none where it is too long.
@@ -249,56 +240,64 @@ static LENGTHS: [Lengths; 8] = [
     (32768, 0, None),
 ];
 
-/// The length of two texts as one; none where it is refused as too long.
-fn length_of_both(alloc: Global, first: usize, second: usize) -> Result<Option<usize>, Fail> {
-    let (a, b) = (spaces(alloc, first)?, spaces(alloc, second)?);
-    match concat(alloc, &a, &b) {
-        Ok(text) => Ok(Some(text.as_bytes().len())),
-        Err(Trouble::Refused(Halt::TooLong)) => Ok(None),
-        Err(_) => Err("another answer")?,
+/// Whether two texts as one have that length, or are refused as too long.
+fn is_as_long(alloc: Global, a: &[u8], b: &[u8], length: Option<usize>) -> bool {
+    match concat(alloc, a, b) {
+        Ok(text) => length == Some(text.as_bytes().len()),
+        Err(Trouble::Refused(Halt::TooLong)) => length == None,
+        Err(_) => false,
     }
 }
 
 /// The same where the second is put behind the first in its place. One that is refused leaves the first as it was.
-fn length_in_place(alloc: Global, first: usize, second: usize) -> Result<Option<usize>, Fail> {
-    let (a, b) = (spaces(alloc, first)?, spaces(alloc, second)?);
-    let Ok(mut text) = Text::of(alloc, &a) else {
-        return Ok(None);
-    };
-    match text.append(&b) {
-        Ok(()) => Ok(Some(text.as_bytes().len())),
-        Err(Trouble::Refused(Halt::TooLong)) if text.as_bytes().len() == first => Ok(None),
-        Err(_) => Err("another answer")?,
+fn grows_as_long(text: &mut Text, first: usize, b: &[u8], length: Option<usize>) -> bool {
+    match text.append(b) {
+        Ok(()) => length == Some(text.as_bytes().len()),
+        Err(Trouble::Refused(Halt::TooLong)) => length == None && text.as_bytes().len() == first,
+        Err(_) => false,
     }
 }
 
-/// Whether two texts have that length as one, either way.
-fn have_length(alloc: Global, row: &Lengths) -> Result<bool, Fail> {
-    let both = length_of_both(alloc, row.0, row.1)?;
-    let in_place = length_in_place(alloc, row.0, row.1)?;
-    Ok(both == row.2 && in_place == row.2)
+/// The same where the first is no text by itself, and no text as one then.
+fn is_as_long_in_place(alloc: Global, a: &[u8], b: &[u8], length: Option<usize>) -> bool {
+    match Text::of(alloc, a) {
+        Ok(mut text) => grows_as_long(&mut text, a.len(), b, length),
+        Err(_) => length == None,
+    }
 }
 
-fn first_wrong_length(alloc: Global) -> Result<Option<usize>, Fail> {
-    for (place, row) in LENGTHS.iter().enumerate() {
-        if !have_length(alloc, row)? {
-            return Ok(Some(place));
-        }
+/// Whether the first texts of two of so many spaces have that length as one, either way.
+fn have_length(alloc: Global, spaces: &[u8], row: &Lengths) -> bool {
+    if row.0 > spaces.len() || row.1 > spaces.len() {
+        return false;
     }
-    Ok(None)
+    let (a, b) = (&spaces[..row.0], &spaces[..row.1]);
+    is_as_long(alloc, a, b, row.2) && is_as_long_in_place(alloc, a, b, row.2)
+}
+
+fn expect_lengths(alloc: Global, spaces: &[u8], rows: &[Lengths]) -> Result<(), Fail> {
+    for place in 0..rows.len() {
+        expect_row(
+            "the lengths",
+            place,
+            have_length(alloc, spaces, &rows[place]),
+        )?;
+    }
+    Ok(())
 }
 
 /// Fails unless a text has the bytes that it is made of.
 fn expect_text(alloc: Global, bytes: &[u8]) -> Result<(), Fail> {
     match Text::of(alloc, bytes) {
-        Ok(text) => expect_bytes(alloc, text.as_bytes(), bytes),
-        Err(_) => Err("no text")?,
+        Ok(text) => expect_bytes(text.as_bytes(), bytes),
+        Err(_) => Err(Fail::new("no text")),
     }
 }
 
 #[test]
 fn texts_end_at_their_greatest_length(rt: HostRuntime) -> Result<(), Fail> {
-    expect_none(rt.alloc(), first_wrong_length(rt.alloc())?)?;
+    let spaces = vec![in rt.alloc(); b' '; 32768]?;
+    expect_lengths(rt.alloc(), spaces.as_slice(), &LENGTHS)?;
     expect_text(rt.alloc(), b"AB")
 }
 
@@ -325,28 +324,26 @@ static HALTS: [(Halt, &[u8]); 5] = [
     (Halt::TooLong, b"String too long"),
 ];
 
-fn first_wrong_fault() -> Option<usize> {
-    for (place, (number, text)) in FAULTS.iter().enumerate() {
-        if Fault::new(*number).text() != *text {
-            return Some(place);
-        }
+fn expect_faults(rows: &[(u8, &[u8])]) -> Result<(), Fail> {
+    for place in 0..rows.len() {
+        let (number, text) = rows[place];
+        expect_row("the errors", place, Fault::new(number).text() == text)?;
     }
-    None
+    Ok(())
 }
 
-fn first_wrong_halt() -> Option<usize> {
-    for (place, (halt, text)) in HALTS.iter().enumerate() {
-        if halt.text() != *text {
-            return Some(place);
-        }
+fn expect_halts(rows: &[(Halt, &[u8])]) -> Result<(), Fail> {
+    for place in 0..rows.len() {
+        let (halt, text) = rows[place];
+        expect_row("the halts", place, halt.text() == text)?;
     }
-    None
+    Ok(())
 }
 
 #[test]
-fn failures_have_their_words(rt: HostRuntime) -> Result<(), Fail> {
-    expect_none_of(rt.alloc(), "the errors", first_wrong_fault())?;
-    expect_none_of(rt.alloc(), "the halts", first_wrong_halt())
+fn failures_have_their_words(_rt: HostRuntime) -> Result<(), Fail> {
+    expect_faults(&FAULTS)?;
+    expect_halts(&HALTS)
 }
 
 /// The least and the greatest number, a text, and the number that it is.
@@ -370,18 +367,18 @@ static NUMBERS: [(u32, u32, &[u8], Option<u32>); 17] = [
     (3, 4294967295, b"4294967295", Some(4294967295)),
 ];
 
-fn first_wrong_number() -> Option<usize> {
-    for (place, (least, most, text, number)) in NUMBERS.iter().enumerate() {
-        if number_between(*least, *most, text) != *number {
-            return Some(place);
-        }
-    }
-    None
-}
-
 #[test]
-fn numbers_stand_in_their_range(rt: HostRuntime) -> Result<(), Fail> {
-    expect_none(rt.alloc(), first_wrong_number())
+fn numbers_stand_in_their_range(_rt: HostRuntime) -> Result<(), Fail> {
+    let rows = &NUMBERS;
+    for place in 0..rows.len() {
+        let (least, most, text, number) = rows[place];
+        expect_row(
+            "the numbers",
+            place,
+            number_between(least, most, text) == number,
+        )?;
+    }
+    Ok(())
 }
 
 /// A text, the blanks, letters and digits in front of it, and the blanks at its end.
@@ -415,37 +412,36 @@ fn cut_off(text: &[u8]) -> (usize, usize) {
     )
 }
 
-fn first_wrong_run() -> Option<usize> {
-    for (place, (text, runs)) in RUNS.iter().enumerate() {
-        if runs_of(text) != *runs || cut_off(text) != (runs[0], runs[3]) {
-            return Some(place);
-        }
-    }
-    None
-}
-
 #[test]
-fn texts_begin_and_end_with_runs(rt: HostRuntime) -> Result<(), Fail> {
-    expect_none(rt.alloc(), first_wrong_run())
+fn texts_begin_and_end_with_runs(_rt: HostRuntime) -> Result<(), Fail> {
+    let rows = &RUNS;
+    for place in 0..rows.len() {
+        let (text, runs) = rows[place];
+        let is_cut = cut_off(text) == (runs[0], runs[3]);
+        expect_row("the runs", place, runs_of(text) == runs && is_cut)?;
+    }
+    Ok(())
 }
 
 /// Whether a list has the numbers that it is made of.
-fn gives_back(alloc: Global, numbers: &[u16]) -> Result<bool, Fail> {
-    let series = Series::from_vec(Vec::from_slice(alloc, numbers)?);
-    Ok(series.as_slice() == numbers)
+fn gives_back(alloc: Global, numbers: &[u16]) -> bool {
+    match Vec::from_slice(alloc, numbers) {
+        Ok(list) => Series::from_vec(list).as_slice() == numbers,
+        Err(_) => false,
+    }
 }
 
 /// Fails unless a line of keys has the bytes that it is made of.
 fn expect_keys(alloc: Global, bytes: &[u8]) -> Result<(), Fail> {
     if bytes.len() > 255 {
-        return Err("the bytes are no key line".into());
+        return Err(Fail::new("the bytes are no key line"));
     }
     let line = KeyLine::of(alloc, bytes)?;
-    expect_bytes(alloc, line.as_bytes(), bytes)
+    expect_bytes(line.as_bytes(), bytes)
 }
 
 #[test]
 fn lists_are_given_back_in_order(rt: HostRuntime) -> Result<(), Fail> {
-    expect(gives_back(rt.alloc(), &[20, 10, 20])?, "a list")?;
+    expect(gives_back(rt.alloc(), &[20, 10, 20]), "a list")?;
     expect_keys(rt.alloc(), b"PRINT 1")
 }
