@@ -17,89 +17,70 @@ const KEYS: &str = ">HELLO 100,5;DEMO\n>10 ON ERROR GOTO 100\n\
 >90 CLOSE 1% : GOTO 130\n>100 IF ERR<>19% THEN ON ERROR GOTO 0\n\
 >110 K%=0% : K%=K%+1% WHILE K%<1000%\n>120 SLEEP 1% : RESUME\n>130 END\n>RUNNH\n>BYE\n";
 
-/// Whether two decks have the same disk, accounts, files and terminals.
-fn is_same(a: &Deck, b: &Deck) -> bool {
-    a.volume.blocks == b.volume.blocks
-        && are_same_accounts(a.volume.accounts.as_slice(), b.volume.accounts.as_slice())
-        && are_same_files(a.volume.files.as_slice(), b.volume.files.as_slice())
-        && are_same_terminals(a.terminals.as_slice(), b.terminals.as_slice())
+/// What decks are compared by, part by part.
+trait Same {
+    fn is_same(&self, other: &Self) -> bool;
 }
 
-fn is_same_account(a: &AccountEntry, b: &AccountEntry) -> bool {
-    a.account == b.account
-        && a.limit == b.limit
-        && a.quota == b.quota
-        && a.password.as_bytes() == b.password.as_bytes()
-}
-
-fn are_same_accounts(a: &[AccountEntry], b: &[AccountEntry]) -> bool {
+/// Whether two lists have as many parts, and each is the same as the other's.
+fn are_same<T: Same>(a: &[T], b: &[T]) -> bool {
     if a.len() != b.len() {
         return false;
     }
     for place in 0..a.len() {
-        if !is_same_account(&a[place], &b[place]) {
+        if !a[place].is_same(&b[place]) {
             return false;
         }
     }
     true
 }
 
-fn are_same_pages(a: &[Page], b: &[Page]) -> bool {
-    if a.len() != b.len() {
-        return false;
+impl Same for AccountEntry {
+    fn is_same(&self, other: &AccountEntry) -> bool {
+        self.account == other.account
+            && self.limit == other.limit
+            && self.quota == other.quota
+            && self.password.as_bytes() == other.password.as_bytes()
     }
-    for place in 0..a.len() {
-        if a[place].as_bytes() != b[place].as_bytes() {
-            return false;
-        }
-    }
-    true
 }
 
-fn is_same_file(a: &FileEntry, b: &FileEntry) -> bool {
-    a.code == b.code
-        && a.name.is_same(&b.name)
-        && are_same_pages(a.pages.as_slice(), b.pages.as_slice())
+impl Same for Page {
+    fn is_same(&self, other: &Page) -> bool {
+        self.as_bytes() == other.as_bytes()
+    }
 }
 
-fn are_same_files(a: &[FileEntry], b: &[FileEntry]) -> bool {
-    if a.len() != b.len() {
-        return false;
+impl Same for FileEntry {
+    fn is_same(&self, other: &FileEntry) -> bool {
+        self.code == other.code
+            && self.name.is_same(&other.name)
+            && are_same(self.pages.as_slice(), other.pages.as_slice())
     }
-    for place in 0..a.len() {
-        if !is_same_file(&a[place], &b[place]) {
-            return false;
-        }
-    }
-    true
 }
 
-fn are_same_keys(a: &[KeyLine], b: &[KeyLine]) -> bool {
-    if a.len() != b.len() {
-        return false;
+impl Same for KeyLine {
+    fn is_same(&self, other: &KeyLine) -> bool {
+        self.as_bytes() == other.as_bytes()
     }
-    for place in 0..a.len() {
-        if a[place].as_bytes() != b[place].as_bytes() {
-            return false;
-        }
-    }
-    true
 }
 
-fn is_same_terminal(a: &Terminal, b: &Terminal) -> bool {
-    a.name.as_bytes() == b.name.as_bytes() && are_same_keys(a.keys.as_slice(), b.keys.as_slice())
+impl Same for Terminal {
+    fn is_same(&self, other: &Terminal) -> bool {
+        self.name.as_bytes() == other.name.as_bytes()
+            && are_same(self.keys.as_slice(), other.keys.as_slice())
+    }
 }
 
-fn are_same_terminals(a: &[Terminal], b: &[Terminal]) -> bool {
-    if a.len() != b.len() {
-        return false;
+impl Same for Deck {
+    fn is_same(&self, other: &Deck) -> bool {
+        self.volume.blocks == other.volume.blocks
+            && are_same(
+                self.volume.accounts.as_slice(),
+                other.volume.accounts.as_slice(),
+            )
+            && are_same(self.volume.files.as_slice(), other.volume.files.as_slice())
+            && are_same(self.terminals.as_slice(), other.terminals.as_slice())
     }
-    for place in 0..a.len() {
-        if !is_same_terminal(&a[place], &b[place]) {
-            return false;
-        }
-    }
-    true
 }
 
 /// The text of the deck of so many terminals.
@@ -123,7 +104,7 @@ fn is_spelled(alloc: Global, text: &[u8], deck: &Deck) -> bool {
         return false;
     }
     match read_deck(alloc, text) {
-        Ok(read) => is_same(&read, deck),
+        Ok(read) => read.is_same(deck),
         Err(_) => false,
     }
 }

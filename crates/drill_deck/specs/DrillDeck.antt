@@ -1,6 +1,7 @@
 -- The deck of the drill: terminals at which one program counts in the first block of one file.
 use Rattle.std.specs.Prelude.{ℕ, zero, suc, List, [], ◌∷◌, ◌++◌, codes}
 use Rattle.std.specs.Fmt.{decimal}
+use Rattle.basic_values.specs.declared.limits.TheConstants.{MOST_CALLS}
 use Rattle.monitor_calls.specs.declared.names.Account.{Account}
 use Rattle.monitor_calls.specs.declared.volumes.AccountEntry.{AccountEntry}
 use Rattle.deck_model.specs.Deck.{Deck, Terminal}
@@ -11,7 +12,7 @@ drill_account = record { project = 100; programmer = 5 }
 
 -- ACCOUNT 100,5 DEMO 16384, whose quota is the whole disk
 abbrev pub drill_entry : AccountEntry
-drill_entry = record { account = drill_account; password = codes "DEMO"; limit = 16384; quota = 8 }
+drill_entry = record { account = drill_account; password = codes "DEMO"; limit = MOST_CALLS; quota = 8 }
 
 -- FILE [100,5]COUNT.DAT<60> 1, without text
 abbrev pub drill_file : File

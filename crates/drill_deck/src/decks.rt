@@ -11,6 +11,7 @@ ghost use Rattle.deck_reader.specs.Seen.{deck_of, terminal_of};
 ghost use Rattle.drill_deck.specs.DrillDeck.{drill_deck, drill_entry, drill_terminal, drill_terminals};
 
 use arrayvec::ArrayVec;
+use basic_values::limits::MOST_CALLS;
 use basic_values::{KeyLine, NoMemory, Series};
 use deck_reader::{Deck, Terminal};
 use itoa::Buffer;
@@ -71,7 +72,7 @@ fn entry() -> AccountEntry
     AccountEntry {
         account: OWNER,
         password: Short::of(b"DEMO").unwrap(),
-        limit: 16_384,
+        limit: MOST_CALLS,
         quota: 8,
     }
 }

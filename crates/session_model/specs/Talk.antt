@@ -4,7 +4,7 @@
 use Rattle.std.specs.Prelude.{◌≡◌, ℕ, zero, suc, Bool, true, false, if◌then◌else◌, List, [], ◌∷◌, ◌++◌, length, map, replicate, Option, Some, None, Result, Ok, Err, codes}
 use Rattle.std.specs.Option.{unwrap_or}
 use Rattle.basic_values.specs.declared.errors.TheConstants.{DATA_FORMAT_ERROR}
-use Rattle.basic_values.specs.declared.limits.TheConstants.{LAST_CHANNEL}
+use Rattle.basic_values.specs.declared.limits.TheConstants.{BLOCK_BYTES, LAST_CHANNEL}
 use Rattle.monitor_calls.specs.declared.names.Account.{Account}
 use Rattle.monitor_calls.specs.declared.files.OpenKind.{OpenKind}
 use Rattle.monitor_calls.specs.declared.calls.Request.{Request}
@@ -474,7 +474,7 @@ new_job keys = record {
   channels = replicate LAST_CHANNEL closed_channel;
   recount = 0;
   common = [];
-  buffers = replicate 12 (replicate 512 0);
+  buffers = replicate LAST_CHANNEL (replicate BLOCK_BYTES 0);
   screen = [];
   keys = keys;
   trap = untouched;

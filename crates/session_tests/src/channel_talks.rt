@@ -1,9 +1,7 @@
 //! Fields, text on channels, arrays in files, formats and SYS: what they show and ask of a port.
 
-use crate::talks::{Answer, Row, Talk, expect_of_ready, expect_talks};
+use crate::talks::{Answer, READY, Row, Talk, expect_of_ready, expect_talks};
 use std::test::Fail;
-
-const READY: &str = "Ready\n";
 
 /// Parts of a buffer that overlap, an own text, and a variable that was never stored.
 const FIELDS: Talk = (

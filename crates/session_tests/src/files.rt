@@ -1,14 +1,12 @@
 //! The commands on files: what they ask of the monitor, and what they show.
 
 use crate::talks::{
-    Answer, Expiring, ILLEGAL_COMMAND, ILLEGAL_NAME, Row, Talk, expect_all_expiring,
+    Answer, Expiring, ILLEGAL_COMMAND, ILLEGAL_NAME, READY, Row, Talk, expect_all_expiring,
     expect_of_files, expect_of_user, expect_talks,
 };
 use crate::told::{Told, joined};
 use std::alloc::Global;
 use std::test::Fail;
-
-const READY: &str = "Ready\n";
 
 const NO_DEVICE: &str = "?Device not available\nReady\n";
 

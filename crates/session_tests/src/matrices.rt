@@ -1,11 +1,9 @@
 //! MAT: what its statements read, store, refuse and write.
 
-use crate::talks::{Answer, Row, expect_of_files, expect_of_lines};
+use crate::talks::{Answer, READY, Row, expect_of_files, expect_of_lines};
 use crate::told::joined;
 use std::alloc::Global;
 use std::test::Fail;
-
-const READY: &str = "Ready\n";
 
 const OUT_OF_RANGE: &str = "?Subscript out of range\nReady\n";
 

@@ -1,14 +1,12 @@
 //! The commands on the printer: what they ask of the monitor, and what they show.
 
 use crate::talks::{
-    Answer, Expiring, ILLEGAL_COMMAND, Talk, expect_all_expiring, expect_of_each, expect_of_files,
-    expect_talks,
+    Answer, Expiring, ILLEGAL_COMMAND, READY, Talk, expect_all_expiring, expect_of_each,
+    expect_of_files, expect_talks,
 };
 use crate::told::Told;
 use std::alloc::Global;
 use std::test::Fail;
-
-const READY: &str = "Ready\n";
 
 const NO_PRINTER: &str = "?Device not available\nReady\n";
 

@@ -1,16 +1,15 @@
 //! Programs that run, STOP and CONT, and lines of immediate mode beside them.
 
-use crate::talks::{Answer, HELLO, NOTHING_BETWEEN, Row, SYNTAX, expect_of_lines, expect_talk};
+use crate::talks::{
+    Answer, HELLO, ILLEGAL_COMMAND, NOTHING_BETWEEN, READY, Row, SYNTAX, expect_of_lines,
+    expect_talk,
+};
 use std::alloc::Global;
 use std::test::Fail;
-
-const READY: &str = "Ready\n";
 
 const CANT: &str = "?Can't continue\nReady\n";
 
 const STOPPED: &str = "Stop at line 10\nReady\n";
-
-const ILLEGAL_COMMAND: &str = "?Illegal command\nReady\n";
 
 static TAILS: [Row; 11] = [
     ("RUN", "NONAME\nReady\n"),

@@ -1,9 +1,7 @@
 //! Statements on files: what they ask, what they refuse before, and when channels are closed.
 
-use crate::talks::{Answer, Row, Talk, expect_of_ready, expect_talks};
+use crate::talks::{Answer, READY, Row, Talk, expect_of_ready, expect_talks};
 use std::test::Fail;
-
-const READY: &str = "Ready\n";
 
 const BY_BLOCKS: Talk = (
     &[

@@ -9,6 +9,8 @@ use std::test::Fail;
 
 pub(crate) const HELLO: &str = "HELLO 100,5;DEMO";
 
+pub(crate) const READY: &str = "Ready\n";
+
 pub(crate) const ILLEGAL_COMMAND: &str = "?Illegal command\nReady\n";
 
 pub(crate) const ILLEGAL_NAME: &str = "?Illegal file name\nReady\n";

@@ -1,9 +1,9 @@
 //! The text of a program: what is typed, and what is listed of it.
 
-use crate::talks::{ILLEGAL_COMMAND, ILLEGAL_NAME, ILLEGAL_NUMBER, Row, SYNTAX, expect_of_lines};
+use crate::talks::{
+    ILLEGAL_COMMAND, ILLEGAL_NAME, ILLEGAL_NUMBER, READY, Row, SYNTAX, expect_of_lines,
+};
 use std::test::Fail;
-
-const READY: &str = "Ready\n";
 
 static STORED: [Row; 8] = [
     ("30 PRINT 3%", ""),
