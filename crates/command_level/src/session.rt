@@ -68,16 +68,16 @@ pub(crate) struct Session {
     pub(crate) stop: Option<Stop>,
 }
 
-/// The session of a terminal with these keys: what it shows when it has ended. It asks the port for
-/// what it wants of the monitor.
-pub fn serve<P: Port>(alloc: Global, keys: &[KeyLine], port: &mut P) -> Result<Screen, NoMemory>
+/// The session of a terminal with these keys, which it takes over: what it shows when it has ended.
+/// It asks the port for what it wants of the monitor.
+pub fn serve<P: Port>(alloc: Global, keys: Vec<KeyLine>, port: &mut P) -> Result<Screen, NoMemory>
     // The requests and the screen are those of the talk, whose lines the grammar judges.
     ensures talk { IfOk result (λ screen. (pairs : List Pair)
         × Grew P.who P.log port.old port.new pairs
-        × IsTalk keys.now (replies pairs) (requests pairs) screen) }
+        × IsTalk keys.items (replies pairs) (requests pairs) screen) }
     // What was asked begins what the talk asks.
     ensures memory { OnErr result ((pairs : List Pair) × Grew P.who P.log port.old port.new pairs
-        × BeginsTalk keys.now (replies pairs) (requests pairs)) }
+        × BeginsTalk keys.items (replies pairs) (requests pairs)) }
 {
     let mut session = begin(alloc, keys)?;
     let mut clock = Clock::new();
@@ -96,8 +96,8 @@ pub fn serve<P: Port>(alloc: Global, keys: &[KeyLine], port: &mut P) -> Result<S
 }
 
 /// A session that nobody has logged in to, with these keys.
-fn begin(alloc: Global, keys: &[KeyLine]) -> Result<Session, NoMemory>
-    ensures { IfOk result (λ session. seen session ≡ talk.opening keys.now) }
+fn begin(alloc: Global, keys: Vec<KeyLine>) -> Result<Session, NoMemory>
+    ensures { IfOk result (λ session. seen session ≡ talk.opening keys.items) }
 {
     let running = at_rest(alloc, keys)?;
     Ok(Session {
@@ -110,10 +110,10 @@ fn begin(alloc: Global, keys: &[KeyLine]) -> Result<Session, NoMemory>
 }
 
 /// A job that has run nothing, with these keys.
-fn at_rest(alloc: Global, keys: &[KeyLine]) -> Result<Running, NoMemory>
-    ensures { IfOk result (λ running. acting.seen running ≡ new_job keys.now) }
+fn at_rest(alloc: Global, keys: Vec<KeyLine>) -> Result<Running, NoMemory>
+    ensures { IfOk result (λ running. acting.seen running ≡ new_job keys.items) }
 {
-    let keys = Keys::new(alloc, keys)?;
+    let keys = Keys::new(keys);
     let buffers = Buffers::new(alloc)?;
     Ok(Running {
         alloc,

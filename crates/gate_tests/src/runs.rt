@@ -29,11 +29,10 @@ struct InAndOut {
 }
 
 impl JobBody for InAndOut {
-    ghost does = { λ body job pairs screen.
+    ghost does = { λ body pairs screen.
         requests pairs ≡ Login body.account body.password ∷ Logout ∷ [] };
 
-    fn run<P: Port>(&self, alloc: Global, job: u32, port: &mut P) -> Result<Screen2, NoMemory> {
-        let _ = job;
+    fn run<P: Port>(self, alloc: Global, port: &mut P) -> Result<Screen2, NoMemory> {
         port.ask(
             alloc,
             Request::Login {
@@ -44,6 +43,18 @@ impl JobBody for InAndOut {
         port.ask(alloc, Request::Logout)?;
         Ok(Screen2::from_vec(Vec::new(alloc)))
     }
+}
+
+/// A body for each of so many jobs.
+fn bodies_for(alloc: Global, jobs: u32) -> Result<Vec<InAndOut>, Fail> {
+    let mut bodies = Vec::new(alloc);
+    for _ in 0..jobs {
+        bodies.push(InAndOut {
+            account: DEMO,
+            password: password()?,
+        })?;
+    }
+    Ok(bodies)
 }
 
 /// How often the pacer was called for a job.
@@ -165,11 +176,13 @@ fn ran<R: Threads + Wait + Clock + Sync>(
     rt: &R,
     alloc: Global,
     monitor: Monitor,
-    body: &InAndOut,
     pacer: &Together<'_, R>,
 ) -> Result<RunEnd, Fail> {
-    let jobs = monitor.job_count();
-    Ok(run_jobs(rt, alloc, monitor, body, jobs, pacer)?)
+    let bodies = bodies_for(alloc, monitor.job_count())?;
+    if bodies.len() != monitor.job_count() as usize {
+        return Err("there is not a body for each job")?;
+    }
+    Ok(run_jobs(rt, alloc, monitor, bodies, pacer)?)
 }
 
 /// Runs so many jobs, of which none makes its second call before each has made its first.
@@ -180,13 +193,9 @@ fn run_together<R: Threads + Wait + Clock + Sync>(
 ) -> Result<(), Fail>
     requires { jobs ≤ 63 }
 {
-    let body = InAndOut {
-        account: DEMO,
-        password: password()?,
-    };
     let pacer = Together::new(rt, alloc, jobs)?;
     let monitor = opened(alloc, jobs)?;
-    let end = ran(rt, alloc, monitor, &body, &pacer)?;
+    let end = ran(rt, alloc, monitor, &pacer)?;
     expect_held(&pacer, &end, jobs)
 }
 

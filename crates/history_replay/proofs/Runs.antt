@@ -1,12 +1,13 @@
 -- Jobs that did their parts, one behind another, and the first that departs.
-use Rattle.std.proofs.Common.{◌≡◌, ℕ, zero, suc, ◌+◌, ◌<◌, List, [], ◌∷◌, ◌++◌, length, Err, sym, ap, ◌∙◌, subst, arith}
+use Rattle.std.proofs.Common.{◌≡◌, ℕ, zero, suc, ◌+◌, ◌<◌, List, [], ◌∷◌, ◌++◌, length, Ok, Err, Some, refl, sym, ap, ◌∙◌, subst, arith}
+use Rattle.std.specs.Prelude.{slice_get, Option, Result, IfSome}
 use Rattle.std.proofs.lemmas.List.{length_push}
 use Rattle.basic_values.specs.declared.failures.Trouble.{Trouble}
 use Rattle.basic_values.specs.declared.failures.Trouble.TheVariants as trouble
 use Rattle.monitor_calls.specs.declared.calls.Entry.{Entry}
 use Rattle.monitor_calls.specs.Pairs.{Pair}
 use Rattle.monitor_model.specs.History.{part_of}
-use Rattle.terminal_runner.specs.Runs.{AllDid}
+use Rattle.terminal_runner.specs.Runs.{does_at, AllDid}
 use Rattle.history_replay.specs.declared.disputes.Dispute.{Dispute}
 use Rattle.history_replay.specs.declared.disputes.Dispute.TheVariants as dispute
 use Rattle.history_replay.specs.Disputes.{entry_position, Departs}
@@ -42,3 +43,29 @@ module _ (does : ℕ → List Pair → List ℕ → Type 0) (history : List Entr
     position_is = here.position_is ∙ ap (λ j. entry_position j place history) (sym here.job_is);
   }
   ran_err jobs job screens trouble.NoMemory below ran here = tt
+
+module _ {B : Type 0} (does : B → List Pair → List ℕ → Type 0) (history : List Entry) where
+  pub body_here : (before behind : List B) (body : B) → slice_get (before ++ body ∷ behind) (length before) ≡ Some body
+  body_here [] behind body = refl
+  body_here (first ∷ before) behind body = body_here before behind body
+
+  -- what a job did or where it departed, by its own body, is so by the body at its place
+  pub ran_at : (bodies : List B) (body : B) (job : ℕ) (result : Result (List ℕ) (Trouble Dispute)) → slice_get bodies job ≡ Some body → JobRan (λ own. does body) job history result → JobRan (does_at does bodies) job history result
+  ran_at bodies body job (Ok screen) at ran = subst (λ (o : Option B). IfSome o (λ b. does b (part_of job history) screen)) (sym at) ran
+  ran_at bodies body job (Err (trouble.Refused (dispute.Reply entry))) at ran = ran
+  ran_at bodies body job (Err (trouble.Refused (dispute.Meaning which place position))) at ran =
+      let gone = ran.departs in
+      record {
+        job_is = ran.job_is;
+        departs = record {
+          pairs = gone.pairs;
+          screen = gone.screen;
+          done = subst (λ (o : Option B). IfSome o (λ b. does b gone.pairs gone.screen)) (sym at) gone.done;
+          common = gone.common;
+          within_pairs = gone.within_pairs;
+          within_part = gone.within_part;
+          differs = gone.differs;
+        };
+        position_is = ran.position_is;
+      }
+  ran_at bodies body job (Err trouble.NoMemory) at ran = tt

@@ -1,6 +1,7 @@
 //! A replay of entries over a monitor and a body.
 
-ghost use Rattle.std.specs.Prelude.{◌≡◌, length};
+ghost use Rattle.std.specs.Prelude.{◌≡◌, ◌<◌, ◌^◌, length, vec_len};
+ghost use Rattle.terminal_runner.specs.Runs.{does_at};
 ghost use Rattle.history_replay.specs.Disputes.{Replays};
 
 use crate::answers::check_replies;
@@ -13,23 +14,22 @@ use monitor_core::Monitor;
 use std::alloc::Global;
 use terminal_runner::JobBody;
 
-/// Whether the entries are a history of a run of these jobs, each of which does what the body does,
-/// over this newly opened monitor: then what each job's terminal was given, in the order of the
-/// jobs.
+/// Whether the entries are a history of a run over this newly opened monitor, of whose jobs each
+/// does what its body does: then what each job's terminal was given, in the order of the jobs.
 ///
 /// The first entry whose reply is not the monitor's is the refusal `Reply`. Where there is none, the
 /// least job that does other things than its entries say is the refusal `Meaning`.
-pub fn replay<B: JobBody>(
+pub fn replay<B: JobBody + Drop>(
     alloc: Global,
     monitor: Monitor,
-    body: &B,
-    jobs: u32,
+    bodies: Vec<B>,
     history: &[Entry],
 ) -> Result<Vec<Screen2>, Trouble<Dispute>>
-    requires { jobs ≡ length monitor.jobs }
-    ensures { Replays (B.does body.now) monitor jobs history.now result }
+    requires { vec_len bodies ≡ length monitor.jobs }
+    ensures { Replays (does_at B.does bodies.items) monitor (vec_len bodies) history.now result }
 {
+    let jobs = monitor.job_count();
     check_replies(alloc, monitor, history)?;
     let index = index_of(alloc, history, jobs)?;
-    run_all(alloc, body, jobs, history, &index)
+    run_all(alloc, bodies, history, &index)
 }

@@ -18,7 +18,7 @@ fn keys(alloc: Global, lines: &[&[u8]]) -> Result<Keys, Fail> {
     for line in lines {
         typed.push(key_line(alloc, line)?)?;
     }
-    Ok(Keys::new(alloc, &typed)?)
+    Ok(Keys::new(typed))
 }
 
 /// What the next key is: a line, CTRL Z or the end, and its bytes behind it.

@@ -18,7 +18,7 @@ const ACCOUNT: Account = Account {
 
 /// The state of a job before its program runs.
 pub(crate) fn at_rest(alloc: Global) -> Result<Running, Fail> {
-    let keys = Keys::new(alloc, &[])?;
+    let keys = Keys::new(Vec::new(alloc));
     let buffers = Buffers::new(alloc)?;
     Ok(resting(alloc, keys, buffers))
 }

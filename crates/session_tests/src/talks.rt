@@ -313,7 +313,7 @@ fn expect_shown(alloc: Global, bytes: &[u8], wanted: &str) -> Result<(), Fail> {
 /// Fails with what the session of these keys shows, unless it is this.
 fn expect_screen(
     alloc: Global,
-    keys: &[KeyLine],
+    keys: Vec<KeyLine>,
     port: &mut ScriptPort,
     wanted: &str,
 ) -> Result<(), Fail> {
@@ -324,7 +324,7 @@ fn expect_screen(
 /// Fails with what was shown or asked, unless the session of these keys shows and asks this.
 fn expect_session(
     alloc: Global,
-    keys: &[KeyLine],
+    keys: Vec<KeyLine>,
     port: &mut ScriptPort,
     screen: &str,
     log: &str,
@@ -358,7 +358,7 @@ pub(crate) fn expect_talk(
 ) -> Result<(), Fail> {
     let keys = key_lines(alloc, keys)?;
     let mut port = port_of(alloc, false, answers)?;
-    expect_session(alloc, keys.as_slice(), &mut port, screen, log)
+    expect_session(alloc, keys, &mut port, screen, log)
 }
 
 /// Fails unless a user's line is the last of a job that expires at one of these answers.
@@ -446,7 +446,7 @@ pub(crate) fn expect_of_files(
     let mut port = port_of(alloc, true, answers)?;
     let screen = user_screen(alloc, lines);
     let log = user_log(alloc, asked);
-    expect_session(alloc, keys.as_slice(), &mut port, screen.text(), log.text())
+    expect_session(alloc, keys, &mut port, screen.text(), log.text())
 }
 
 /// The same for each of these.

@@ -1,10 +1,9 @@
 //! The keys that are typed at a terminal.
 
-ghost use Rattle.std.specs.Prelude.{◌≡◌, IfOk, drop};
+ghost use Rattle.std.specs.Prelude.{◌≡◌, drop};
 ghost use Rattle.terminal_line.specs.Keys.{key_of, next_line, next_key};
 
-use basic_values::{KeyLine, NoMemory};
-use std::alloc::Global;
+use basic_values::KeyLine;
 use std::collections::VecDeque;
 use std::marker::Model;
 
@@ -34,15 +33,13 @@ impl Model for Keys {
 }
 
 impl Keys {
-    /// The keys of these lines, in order.
-    pub fn new(alloc: Global, lines: &[KeyLine]) -> Result<Keys, NoMemory>
-        ensures { IfOk result (λ keys. keys ≡ lines.now) }
+    /// The keys of these lines, in order. It takes them over.
+    pub fn new(lines: Vec<KeyLine>) -> Keys
+        ensures { result ≡ lines.items }
     {
-        let mut copies = VecDeque::new(alloc);
-        for line in lines {
-            copies.push_back(KeyLine::of(alloc, line.as_bytes())?)?;
+        Keys {
+            lines: VecDeque::from(lines),
         }
-        Ok(Keys { lines: copies })
     }
 
     /// The next key line as it was typed, which is no longer left. It takes no memory.

@@ -1,5 +1,5 @@
 -- Seats that go into threads and come back with screens. No public promise needs it.
-use Rattle.std.specs.Prelude.{◌≡◌, ℕ, ◌<◌, List, [], ◌++◌, map, length, slice_index_or, Result, Ok, IfOk}
+use Rattle.std.specs.Prelude.{◌≡◌, ℕ, suc, ◌<◌, List, [], ◌∷◌, ◌++◌, map, length, slice_index_or, Result, Ok, IfOk}
 use Rattle.atomic_table.specs.Seated.{TableId}
 use Rattle.basic_values.specs.declared.failures.NoMemory.{NoMemory}
 use Rattle.monitor_calls.specs.Pairs.{Pair}
@@ -32,20 +32,23 @@ asked seat = seat.pass.mine
 abbrev pub seat_at : GateValue → ℕ → SeatValue
 seat_at gate job = seat_value gate.gate (split_off (pass_at gate.opening job))
 
--- these are the seats of the first jobs, none of which has asked
-abbrev pub AllFresh : GateValue → List SeatValue → Type 0
-AllFresh gate seats = (job : ℕ) (other : SeatValue) → job < length seats → slice_index_or seats job other ≡ seat_at gate job
+-- the bodies from this job on, each beside its job's seat, which has not asked
+abbrev pub seated_from : {B : Type 0} → GateValue → ℕ → List B → List (SeatValue × B)
+seated_from gate job [] = []
+seated_from gate job (body ∷ bodies) = (seat_at gate job, body) ∷ seated_from gate (suc job) bodies
 
-module _ (does : ℕ → List Pair → List ℕ → Type 0) where
-  -- it is the same seat, and its job did what the body does
-  pub record CameBack (seat : SeatValue) (back : Back) : Type 0 where
-    pub gate : back.0.gate ≡ seat.gate
-    pub job : back.0.pass.job ≡ seat.pass.job
-    pub did : does seat.pass.job back.0.pass.mine back.1
+abbrev pub seated_bodies : {B : Type 0} → List (SeatValue × B) → List B
+seated_bodies {B} seated = map (λ (one : SeatValue × B). one.1) seated
 
-  -- where there was memory, each seat came back
-  abbrev pub AllCameBack : GateValue → List Answer → Type 0
-  AllCameBack gate answers = (job : ℕ) (other : Answer) → job < length answers → IfOk (slice_index_or answers job other) (CameBack (seat_at gate job))
+-- it is the same seat, and its job did what its body does
+pub record CameBack (does : List Pair → List ℕ → Type 0) (seat : SeatValue) (back : Back) : Type 0 where
+  pub gate : back.0.gate ≡ seat.gate
+  pub job : back.0.pass.job ≡ seat.pass.job
+  pub did : does back.0.pass.mine back.1
+
+-- where there was memory, each seat came back
+abbrev pub AllCameBack : (ℕ → List Pair → List ℕ → Type 0) → GateValue → List Answer → Type 0
+AllCameBack does gate answers = (job : ℕ) (other : Answer) → job < length answers → IfOk (slice_index_or answers job other) (CameBack (does job) (seat_at gate job))
 
 abbrev pub IsAtGate : TableId → Back → Type 0
 IsAtGate gate back = back.0.gate ≡ gate

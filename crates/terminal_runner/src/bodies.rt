@@ -7,16 +7,16 @@ use basic_values::NoMemory;
 use monitor_calls::{Port, Screen2};
 use std::alloc::Global;
 
-/// What each job of a run does, over whatever port it is given.
+/// What a job of a run does, over whatever port it is given.
 pub trait JobBody {
-    /// Which pairs of requests and replies a job may have behind it when it ends, and which bytes
+    /// Which pairs of requests and replies the job may have behind it when it ends, and which bytes
     /// its terminal was given then.
-    ghost does: { Self → ℕ → List Pair → List ℕ → Type 0 };
+    ghost does: { Self → List Pair → List ℕ → Type 0 };
 
-    /// Runs a job to its end, and gives what its terminal was given. Where memory runs out the job
+    /// Runs the job to its end, and gives what its terminal was given. Where memory runs out the job
     /// is over.
-    fn run<P: Port>(&self, alloc: Global, job: u32, port: &mut P) -> Result<Screen2, NoMemory>
+    fn run<P: Port>(self, alloc: Global, port: &mut P) -> Result<Screen2, NoMemory>
         ensures { IfOk result (λ screen. (pairs : List Pair)
             × Grew P.who P.log port.old port.new pairs
-            × does self.now job pairs screen) };
+            × does self pairs screen) };
 }

@@ -3,8 +3,8 @@
 ghost use Rattle.std.specs.Prelude.{◌≡◌, ◌≤◌, ℕ, [], IfOk, length, vec_len};
 ghost use Rattle.monitor_gate.specs.Passes.{spare_value, first_pass};
 ghost use Rattle.terminal_runner.specs.Paced.{WasTold};
-ghost use Rattle.terminal_runner.specs.Runs.{IsRun};
-ghost use Rattle.terminal_runner.specs.Seats.{CameBack, pass_at, AllFresh, AllAtGate, AllCameBack, Joined};
+ghost use Rattle.terminal_runner.specs.Runs.{does_at, IsRun};
+ghost use Rattle.terminal_runner.specs.Seats.{CameBack, pass_at, seated_from, seated_bodies, AllAtGate, AllCameBack, Joined};
 
 use crate::bodies::JobBody;
 use crate::pacers::Pacer;
@@ -26,48 +26,46 @@ pub struct RunEnd {
     pub run: RunRecord,
 }
 
-/// Runs each job of the monitor in a thread of its own, to its end. A job whose thread can't be
-/// started runs in the caller's.
-pub fn run_jobs<R: Threads + Wait + Sync, B: JobBody + Sync, P: Pacer + Sync>(
+/// Runs each job of the monitor in a thread of its own, to its end, of whose bodies there is one for
+/// each. A job whose thread can't be started runs in the caller's.
+pub fn run_jobs<R: Threads + Wait + Sync, B: JobBody + Send + Drop, P: Pacer + Sync>(
     rt: &R,
     alloc: Global,
     monitor: Monitor,
-    body: &B,
-    jobs: u32,
+    bodies: Vec<B>,
     pacer: &P,
 ) -> Result<RunEnd, NoMemory>
-    requires { jobs ≡ length monitor.jobs }
-    ensures { IfOk result (λ end. IsRun (B.does body.now) monitor jobs end.screens.items end.run) }
+    requires { vec_len bodies ≡ length monitor.jobs }
+    ensures { IfOk result (λ end. IsRun (does_at B.does bodies.items) monitor (vec_len bodies) end.screens.items end.run) }
 {
     let (gate, mut spare) = Gate::new(alloc, monitor)?;
-    let seats = split_all(alloc, &gate, &mut spare, jobs)?;
-    let backs = run_all(rt, alloc, &gate, body, pacer, seats)?;
+    let seated = split_all(alloc, &gate, &mut spare, bodies)?;
+    let backs = run_all(rt, alloc, &gate, pacer, seated)?;
     let screens = join_all(alloc, &gate, &mut spare, backs)?;
     let run = gate.close(spare);
     Ok(RunEnd { screens, run })
 }
 
-/// The seats of the first jobs of a new gate.
-fn split_all(
+/// The bodies, each beside the seat of its job at a new gate.
+fn split_all<B: Drop>(
     alloc: Global,
     gate: &Gate,
     spare: &mut Spare,
-    jobs: u32,
-) -> Result<Vec<JobSeat>, NoMemory>
+    bodies: Vec<B>,
+) -> Result<Vec<(JobSeat, B)>, NoMemory>
     requires own { spare.old ≡ spare_value gate.now.gate (first_pass gate.now.opening) }
-    requires room { jobs ≤ length gate.now.opening.jobs }
-    ensures count { IfOk result (λ seats. vec_len seats ≡ jobs) }
-    ensures seats { IfOk result (λ seats. AllFresh gate.now seats.items) }
-    ensures spare { IfOk result (λ seats.
-        spare.new ≡ spare_value gate.now.gate (pass_at gate.now.opening jobs)) }
+    requires room { vec_len bodies ≤ length gate.now.opening.jobs }
+    ensures seats { IfOk result (λ seated. seated.items ≡ seated_from gate.now 0 bodies.items) }
+    ensures spare { IfOk result (λ seated.
+        spare.new ≡ spare_value gate.now.gate (pass_at gate.now.opening (vec_len bodies))) }
 {
-    let mut seats = Vec::new(alloc);
-    for _ in 0..jobs {
-        seats.reserve(1)?;
+    let mut seated = Vec::new(alloc);
+    for body in bodies {
+        seated.reserve(1)?;
         let seat = gate.split(spare);
-        seats.push_reserved(seat);
+        seated.push_reserved((seat, body));
     }
-    Ok(seats)
+    Ok(seated)
 }
 
 /// Runs a job to its end, and hands back what its pacer was told.
@@ -75,19 +73,18 @@ fn run_paced<R: Wait, B: JobBody, P: Pacer>(
     rt: &R,
     alloc: Global,
     gate: &Gate,
-    body: &B,
     pacer: &P,
     seat: JobSeat,
+    body: B,
 ) -> Result<((JobSeat, Screen2), P::Kept), NoMemory>
     requires own { seat.gate ≡ gate.now.gate }
     requires fresh { seat.pass.mine ≡ [] }
-    ensures back { IfOk result (λ end. CameBack (B.does body.now) seat end.0) }
+    ensures back { IfOk result (λ end. CameBack (B.does body) seat end.0) }
     ensures told { IfOk result (λ end.
         (last : ℕ) × ∥ WasTold seat.pass.job (length end.0.0.pass.mine) last (P.tellings end.1) ∥₁) }
 {
-    let job = seat.job();
     let mut port = SeatPort::new(rt, gate, pacer, seat);
-    let screen = body.run(alloc, job, &mut port)?;
+    let screen = body.run(alloc, &mut port)?;
     let (seat, told) = port.into_parts();
     Ok(((seat, screen), told))
 }
@@ -97,39 +94,42 @@ fn run_one<R: Wait, B: JobBody, P: Pacer>(
     rt: &R,
     alloc: Global,
     gate: &Gate,
-    body: &B,
     pacer: &P,
     seat: JobSeat,
+    body: B,
 ) -> Result<(JobSeat, Screen2), NoMemory>
     requires own { seat.gate ≡ gate.now.gate }
     requires fresh { seat.pass.mine ≡ [] }
-    ensures { IfOk result (λ back. CameBack (B.does body.now) seat back) }
+    ensures { IfOk result (λ back. CameBack (B.does body) seat back) }
 {
-    let (back, _told) = run_paced(rt, alloc, gate, body, pacer, seat)?;
+    let (back, _told) = run_paced(rt, alloc, gate, pacer, seat, body)?;
     Ok(back)
 }
 
 /// Runs the jobs of these seats, each in a thread of its own.
-fn run_all<R: Threads + Wait + Sync, B: JobBody + Sync, P: Pacer + Sync>(
+fn run_all<R: Threads + Wait + Sync, B: JobBody + Send + Drop, P: Pacer + Sync>(
     rt: &R,
     alloc: Global,
     gate: &Gate,
-    body: &B,
     pacer: &P,
-    seats: Vec<JobSeat>,
+    seated: Vec<(JobSeat, B)>,
 ) -> Result<Vec<Result<(JobSeat, Screen2), NoMemory>>, NoMemory>
-    requires { AllFresh gate.now seats.items }
-    ensures count { IfOk result (λ backs. vec_len backs ≡ vec_len seats) }
-    ensures backs { IfOk result (λ backs. AllCameBack (B.does body.now) gate.now backs.items) }
+    requires { seated.items ≡ seated_from gate.now 0 (seated_bodies seated.items) }
+    ensures count { IfOk result (λ backs. vec_len backs ≡ vec_len seated) }
+    ensures backs { IfOk result (λ backs.
+        AllCameBack (does_at B.does (seated_bodies seated.items)) gate.now backs.items) }
 {
     let backs = thread::map_vec(
         rt,
-        seats,
-        &|seat: JobSeat| -> Result<(JobSeat, Screen2), NoMemory>
-            requires own { seat.gate ≡ gate.now.gate }
-            requires fresh { seat.pass.mine ≡ [] }
-            ensures { IfOk result (λ back. CameBack (B.does body.entry.now) seat back) }
-        { run_one(rt, alloc, gate, body, pacer, seat) },
+        seated,
+        &|one: (JobSeat, B)| -> Result<(JobSeat, Screen2), NoMemory>
+            requires own { one.0.gate ≡ gate.now.gate }
+            requires fresh { one.0.pass.mine ≡ [] }
+            ensures { IfOk result (λ back. CameBack (B.does one.1) one.0 back) }
+        {
+            let (seat, body) = one;
+            run_one(rt, alloc, gate, pacer, seat, body)
+        },
     )?;
     Ok(backs)
 }

@@ -1,8 +1,7 @@
 -- What a replay of the entries of a text says of the text.
-use Rattle.std.proofs.Common.{◌≡◌, ℕ, suc, ◌<◌, ◌≤◌, Bool, true, false, eqb, List, [], ◌∷◌, ◌++◌, length, map, Ok, Err, codes, refl, ap, subst, ◌∙◌, arith}
-use Rattle.std.specs.Prelude.{Result, if◌then◌else◌}
+use Rattle.std.proofs.Common.{◌≡◌, ℕ, suc, ◌<◌, ◌≤◌, Bool, true, false, eqb, List, [], ◌∷◌, ◌++◌, length, map, Err, codes, refl, ap, subst, ◌∙◌, arith}
+use Rattle.std.specs.Prelude.{if◌then◌else◌}
 use Rattle.std.specs.Fmt.{decimal}
-use Rattle.std.specs.Global.{Vec}
 use Rattle.std.proofs.lemmas.List.{length-append}
 use Rattle.basic_values.specs.declared.failures.Trouble.{Trouble}
 use Rattle.basic_values.specs.declared.failures.Trouble.TheVariants as trouble
@@ -10,27 +9,26 @@ use Rattle.monitor_calls.specs.declared.calls.Entry.{Entry}
 use Rattle.monitor_calls.specs.Pairs.{Pair}
 use Rattle.monitor_model.specs.State as monitor
 use Rattle.monitor_model.specs.History.{Legal, part_of}
+use Rattle.terminal_runner.specs.Runs.{does_at}
 use Rattle.deck_model.specs.Deck as model
 use Rattle.deck_model.specs.Histories.{request_text, reply_text, entry_line, entry_lines, history_text}
 use Rattle.deck_model.specs.Report.{report}
 use Rattle.deck_reader.specs.declared.decks.Deck.{Deck}
-use Rattle.deck_reader.specs.declared.decks.Terminal.{Terminal}
 use Rattle.deck_reader.specs.Seen.{deck_of, terminal_of}
 use Rattle.history_reader.specs.EndedLines.{onto_line, ended_lines}
 use Rattle.history_reader.specs.HistoryReading.{TellsHistory, WrongAt}
-use Rattle.history_replay.specs.Disputes.{WrongReply, WrongMeaning, Replays}
+use Rattle.history_replay.specs.Disputes.{WrongReply, WrongMeaning, IsReplay, Replays}
 use Rattle.history_replay.specs.declared.disputes.Dispute.{Dispute}
 use Rattle.history_replay.specs.declared.disputes.Dispute.TheVariants as dispute
 use Rattle.history_replay.proofs.Positions.{position-le}
-use Rattle.report_texts.specs.Names.{names_of}
-use Rattle.time_sharing.specs.Decks.{keys_at}
+use Rattle.time_sharing.specs.Sessions.{session_keys, typed_keys}
+use Rattle.time_sharing.specs.declared.runs.TerminalSession.{TerminalSession}
 use Rattle.time_sharing.specs.Disputes.{WrongRequest, Disputes}
 use Rattle.time_sharing.specs.InputEnds.{IsRetold, IsDisputed, RetoldBy, entry_of, fault_of}
 use Rattle.time_sharing.specs.Replays.{Retells}
-use Rattle.time_sharing.specs.Runs.{Talks, opening_of}
+use Rattle.time_sharing.specs.Runs.{opening_of, names_in}
 use Rattle.time_sharing.proofs.DisputeLemmas.{some_at}
-use Rattle.time_sharing.proofs.RunLemmas.{as_many, did_talk, all_talk, opening_is}
-use Rattle.time_sharing.proofs.SystemLemmas.{names_are}
+use Rattle.time_sharing.proofs.RunLemmas.{as_many, as_many_sessions, session_does, did_talk, all_talk, opening_is}
 use Rattle.time_sharing.proofs.TalkLemmas.{departs_talk}
 
 -- BOUNDS
@@ -83,17 +81,17 @@ disputed_within deck history (dispute.Meaning job place entry) wrong =
 
 -- DISPUTES
 
-module _ (deck : Deck) (terminals : List Terminal) (opening : monitor.State) (jobs : ℕ) (are : terminals ≡ deck.terminals.items)
-    (opened : opening ≡ monitor.opening deck.volume.accounts.items deck.volume.blocks deck.volume.files.items jobs) (count : jobs ≡ length deck.terminals.items) where
+module _ (deck : Deck) (sessions : List TerminalSession) (opening : monitor.State) (jobs made : ℕ) (are : map session_keys sessions ≡ map typed_keys deck.terminals.items)
+    (opened : opening ≡ monitor.opening deck.volume.accounts.items deck.volume.blocks deck.volume.files.items jobs) (count : jobs ≡ length deck.terminals.items) (many : made ≡ length sessions) where
   abbrev does : ℕ → List Pair → List ℕ → Type 0
-  does job pairs screen = Talks (keys_at terminals job) pairs screen
+  does job pairs screen = does_at session_does sessions job pairs screen
 
   state : opening ≡ opening_of (deck_of deck)
   state = opening_is deck opening jobs opened count
 
-  wrong_request : (history : List Entry) (job place position : ℕ) → Legal opening history → WrongMeaning does history jobs job place position → WrongRequest (deck_of deck) history position
+  wrong_request : (history : List Entry) (job place position : ℕ) → Legal opening history → WrongMeaning does history made job place position → WrongRequest (deck_of deck) history position
   wrong_request history job place position legal wrong =
-      let within : job < length (map terminal_of deck.terminals.items) = let less = wrong.is_job in let many = as_many deck.terminals.items in omega arith in
+      let within : job < length (map terminal_of deck.terminals.items) = let less = wrong.is_job in let all = as_many deck.terminals.items in let each = as_many_sessions deck sessions are in omega (arith, many) in
       let terminal = some_at (map terminal_of deck.terminals.items) job within in
       let departs = wrong.departs in
       record {
@@ -101,21 +99,26 @@ module _ (deck : Deck) (terminals : List Terminal) (opening : monitor.State) (jo
         job = job;
         terminal = terminal.0;
         is_terminal = terminal.1;
-        earlier = λ j other less is. let did = wrong.earlier j less in (did.0, did_talk deck terminals are j other (part_of j history) did.0 is did.1);
+        earlier = λ j other less is. let did = wrong.earlier j less in (did.0, did_talk deck sessions are j other (part_of j history) did.0 is did.1);
         place = place;
-        otherwise = departs_talk terminal.0.keys departs.pairs (part_of job history) departs.screen place (did_talk deck terminals are job terminal.0 departs.pairs departs.screen terminal.1 departs.done) departs.common departs.within_pairs departs.differs;
+        otherwise = departs_talk terminal.0.keys departs.pairs (part_of job history) departs.screen place (did_talk deck sessions are job terminal.0 departs.pairs departs.screen terminal.1 departs.done) departs.common departs.within_pairs departs.differs;
         entry_is = wrong.position_is;
       }
 
   -- what is answered of entries, in the words of the deck
-  pub retold_by : (history : List Entry) (result : Result (Vec (List ℕ)) (Trouble Dispute)) → Replays does opening jobs history result → RetoldBy (deck_of deck) history result
-  retold_by history (Ok screens) replayed = record {
+  pub retold : (history : List Entry) (screens : List (List ℕ)) → IsReplay does opening history made screens → IsRetold (deck_of deck) history screens
+  retold history screens replayed = record {
     legal = subst (λ (m : monitor.State). Legal m history) state replayed.legal;
-    talks = all_talk deck terminals are history screens.items (replayed.one_each ∙ count) replayed.all_did;
+    talks = all_talk deck sessions are history screens (replayed.one_each ∙ many ∙ as_many_sessions deck sessions are) replayed.all_did;
   }
-  retold_by history (Err (trouble.Refused (dispute.Reply entry))) wrong = subst (λ (m : monitor.State). WrongReply m history entry) state wrong
-  retold_by history (Err (trouble.Refused (dispute.Meaning job place entry))) wrong = wrong_request history job place entry wrong.0 wrong.1
-  retold_by history (Err trouble.NoMemory) free = tt
+
+  pub disputed : (history : List Entry) (why : Dispute) → Replays does opening made history (Err (trouble.Refused why)) → IsDisputed (deck_of deck) history why
+  disputed history (dispute.Reply entry) wrong = subst (λ (m : monitor.State). WrongReply m history entry) state wrong
+  disputed history (dispute.Meaning job place entry) wrong = wrong_request history job place entry wrong.0 wrong.1
+
+  pub undone : (history : List Entry) (error : Trouble Dispute) → Replays does opening made history (Err error) → RetoldBy (deck_of deck) history (Err error)
+  undone history (trouble.Refused why) gone = disputed history why gone
+  undone history trouble.NoMemory gone = tt
 
 -- the dispute over a text, by that over its entries
 pub disputes_by : (deck : model.Deck) (text : List ℕ) (first : ℕ) (history : List Entry) (why : Dispute) → TellsHistory text history → IsDisputed deck history why → Disputes (fault_of first why) deck text first
@@ -123,10 +126,10 @@ disputes_by deck text first history (dispute.Reply entry) tells wrong = record {
 disputes_by deck text first history (dispute.Meaning job place entry) tells wrong = record { history = history; tells = tells; entry = entry; is_so = wrong; line_is = refl }
 
 -- the run that a text tells, by that which its entries tell
-pub retells_by : (deck : Deck) (text : List ℕ) (history : List Entry) (screens : List (List ℕ)) (output : List ℕ) → TellsHistory text history → IsRetold (deck_of deck) history screens → output ≡ report (names_of deck.terminals.items) screens → Retells history output (deck_of deck) text
-retells_by deck text history screens output tells retold reported = record {
+pub retells_by : (deck : model.Deck) (text : List ℕ) (history : List Entry) (screens : List (List ℕ)) (output : List ℕ) → TellsHistory text history → IsRetold deck history screens → output ≡ report (names_in deck) screens → Retells history output deck text
+retells_by deck text history screens output tells told reported = record {
   tells = tells;
   screens = screens;
-  run = record { legal = retold.legal; proper = tells.proper; talks = retold.talks };
-  reported = reported ∙ ap (λ (names : List (List ℕ)). report names screens) (names_are deck.terminals.items);
+  run = record { legal = told.legal; proper = tells.proper; talks = told.talks };
+  reported = reported;
 }

@@ -1,11 +1,13 @@
 -- What reading and replaying an input comes to. Nobody has to believe this file.
-use Rattle.std.specs.Prelude.{ℕ, ◌+◌, List, Result, Ok, Err}
+use Rattle.std.specs.Prelude.{◌≡◌, ℕ, ◌+◌, List, Result, Ok, Err}
 use Rattle.std.specs.Global.{Vec}
 use Rattle.basic_values.specs.declared.failures.Trouble.{Trouble}
 use Rattle.basic_values.specs.declared.failures.Trouble.TheVariants as trouble
 use Rattle.monitor_calls.specs.declared.calls.Entry.{Entry}
 use Rattle.monitor_model.specs.History.{Legal}
 use Rattle.deck_model.specs.Deck.{Deck}
+use Rattle.deck_reader.specs.declared.decks.Terminal.{Terminal}
+use Rattle.report_texts.specs.Names.{names_of}
 use Rattle.history_replay.specs.Disputes.{WrongReply}
 use Rattle.history_replay.specs.declared.disputes.Dispute.{Dispute}
 use Rattle.history_replay.specs.declared.disputes.Dispute.TheVariants as dispute
@@ -17,7 +19,7 @@ use Rattle.time_sharing.specs.declared.outcomes.Outcome.{Outcome}
 use Rattle.time_sharing.specs.declared.outcomes.Outcome.TheVariants as outcome
 use Rattle.time_sharing.specs.Disputes.{Disputes, WrongRequest}
 use Rattle.time_sharing.specs.Replays.{Retells, TellsRun, TellsDispute, TellsNoDeck}
-use Rattle.time_sharing.specs.Runs.{opening_of, AllTalk}
+use Rattle.time_sharing.specs.Runs.{opening_of, AllTalk, names_in}
 
 -- the entries are those of a run, with these screens
 pub record IsRetold (deck : Deck) (history : List Entry) (screens : List (List ℕ)) : Type 0 where
@@ -28,9 +30,10 @@ abbrev pub IsDisputed : Deck → List Entry → Dispute → Type 0
 IsDisputed deck history (dispute.Reply entry) = WrongReply (opening_of deck) history entry
 IsDisputed deck history (dispute.Meaning job place entry) = WrongRequest deck history entry
 
--- what a replay of entries answers
-abbrev pub RetoldBy : Deck → List Entry → Result (Vec (List ℕ)) (Trouble Dispute) → Type 0
-RetoldBy deck history (Ok screens) = IsRetold deck history screens.items
+-- what a replay of entries answers, with the deck's terminals
+abbrev pub RetoldBy : Deck → List Entry → Result (Vec Terminal × Vec (List ℕ)) (Trouble Dispute) → Type 0
+RetoldBy deck history (Ok told) =
+    (names_of told.0.items ≡ names_in deck) × IsRetold deck history told.1.items
 RetoldBy deck history (Err (trouble.Refused why)) = IsDisputed deck history why
 RetoldBy deck history (Err trouble.NoMemory) = Unit {0}
 

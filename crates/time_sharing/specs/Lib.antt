@@ -1,4 +1,3 @@
-pub mod Decks
 pub mod Disputes
 pub mod Headline
 pub mod InputEnds
@@ -6,7 +5,9 @@ pub mod Inputs
 pub mod Outcomes
 pub mod Replays
 pub mod Runs
+pub mod Sessions
 pub mod SourceEnds
 pub mod Statuses
 pub mod Steps
 pub mod TwoEnds
+pub mod Written

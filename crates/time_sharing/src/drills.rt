@@ -47,7 +47,7 @@ fn drilled<R: Threads + Wait + Sync, P: Pacer + Sync>(
     ensures line { IfOk result (λ told. told.1.items ≡ line_of_drill told.0) }
 {
     let deck = drill_deck(alloc, jobs)?;
-    let ran = run_deck(rt, alloc, &deck, pacer)?;
+    let (_, ran) = run_deck(rt, alloc, deck, pacer)?;
     let tally = tally_of(ran.run.as_slice());
     let line = drill_line(alloc, jobs, tally)?;
     let drill = Drill {

@@ -72,7 +72,7 @@ fn run_told(alloc: Global, input: &[u8]) -> Result<(RunRecord, Vec<u8>), Trouble
         Err(Trouble::Refused(fault)) => return Err(Trouble::Refused(InputFault::Deck(fault))),
         Err(Trouble::NoMemory) => return Err(Trouble::NoMemory),
     };
-    match run_behind(alloc, &deck, cut.text, cut.lines + 1) {
+    match run_behind(alloc, deck, cut.text, cut.lines + 1) {
         Ok(told) => Ok(told),
         Err(Trouble::Refused(fault)) => Err(Trouble::Refused(InputFault::History(fault))),
         Err(Trouble::NoMemory) => Err(Trouble::NoMemory),
@@ -83,13 +83,13 @@ fn run_told(alloc: Global, input: &[u8]) -> Result<(RunRecord, Vec<u8>), Trouble
 /// line has this number.
 fn run_behind(
     alloc: Global,
-    deck: &Deck,
+    deck: Deck,
     text: &[u8],
     first: u32,
 ) -> Result<(RunRecord, Vec<u8>), Trouble<HistoryFault>>
-    requires deck { IsDeck (deck_of deck.now) }
+    requires deck { IsDeck (deck_of deck) }
     requires lines { first + 1 + length text.now < 2 ^ 32 }
-    ensures { RetellsBy (deck_of deck.now) text.now first result }
+    ensures { RetellsBy (deck_of deck) text.now first result }
 {
     let history = match read_history(alloc, text) {
         Ok(history) => history,
@@ -102,12 +102,12 @@ fn run_behind(
         }
         Err(Trouble::NoMemory) => return Err(Trouble::NoMemory),
     };
-    let screens = match replay_deck(alloc, deck, history.as_slice()) {
-        Ok(screens) => screens,
+    let (terminals, screens) = match replay_deck(alloc, deck, history.as_slice()) {
+        Ok(told) => told,
         Err(Trouble::Refused(why)) => return Err(Trouble::Refused(fault_of(first, why))),
         Err(Trouble::NoMemory) => return Err(Trouble::NoMemory),
     };
-    let output = report(alloc, deck.terminals.as_slice(), screens.as_slice())?;
+    let output = report(alloc, terminals.as_slice(), screens.as_slice())?;
     Ok((Series::from_vec(history), output))
 }
 

@@ -61,7 +61,7 @@ pub(crate) fn run_system<R: Threads + Wait + Sync, S: Source, K: Sink, P: Pacer 
         Ok(deck) => deck,
         Err(stopped) => return stopped.outcome(),
     };
-    let (record, output) = match run_and_report(rt, alloc, wanted, &deck, pacer) {
+    let (record, output) = match run_and_report(rt, alloc, wanted, deck, pacer) {
         Ok(ran) => ran,
         Err(NoMemory) => return Outcome::NoMemory,
     };
@@ -118,13 +118,13 @@ fn run_and_report<R: Threads + Wait + Sync, P: Pacer + Sync>(
     rt: &R,
     alloc: Global,
     wanted: Wanted,
-    deck: &Deck,
+    deck: Deck,
     pacer: &P,
 ) -> Result<(RunRecord, Vec<u8>), NoMemory>
-    requires { IsDeck (deck_of deck.now) }
-    ensures { IfOk result (λ ran. Reports wanted (deck_of deck.now) ran.0 ran.1.items) }
+    requires { IsDeck (deck_of deck) }
+    ensures { IfOk result (λ ran. Reports wanted (deck_of deck) ran.0 ran.1.items) }
 {
-    let ran = run_deck(rt, alloc, deck, pacer)?;
-    let output = written(alloc, wanted, deck, &ran)?;
+    let (terminals, ran) = run_deck(rt, alloc, deck, pacer)?;
+    let output = written(alloc, wanted, terminals.as_slice(), &ran)?;
     Ok((ran.run, output))
 }

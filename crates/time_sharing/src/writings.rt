@@ -1,15 +1,14 @@
 //! What is written of a run: its report, the text of its history, what the printer printed.
 
-ghost use Rattle.std.specs.Prelude.{◌≡◌, ◌++◌, IfOk, OnOk};
+ghost use Rattle.std.specs.Prelude.{◌≡◌, ◌++◌, length, IfOk, OnOk};
 ghost use Rattle.deck_model.specs.Histories.{history_text};
-ghost use Rattle.deck_reader.specs.Seen.{deck_of};
 ghost use Rattle.print_spool.specs.Printed.{AreNamed, printed_text};
 ghost use Rattle.report_texts.specs.Names.{names_of};
-ghost use Rattle.time_sharing.specs.Headline.{where_wanted, written_of};
-ghost use Rattle.time_sharing.specs.Runs.{IsRun};
+ghost use Rattle.time_sharing.specs.Headline.{where_wanted};
+ghost use Rattle.time_sharing.specs.Written.{output_by};
 
 use basic_values::NoMemory;
-use deck_reader::{Deck, Terminal};
+use deck_reader::Terminal;
 use monitor_calls::{Entry, TerminalName};
 use print_spool::printed;
 use program_words::Wanted;
@@ -17,18 +16,18 @@ use report_texts::{push_history, report};
 use std::alloc::Global;
 use terminal_runner::RunEnd;
 
-/// What is written of a run of the deck.
+/// What is written of a run of these terminals.
 pub(crate) fn written(
     alloc: Global,
     wanted: Wanted,
-    deck: &Deck,
+    terminals: &[Terminal],
     ran: &RunEnd,
 ) -> Result<Vec<u8>, NoMemory>
-    requires { IsRun (deck_of deck.now) ran.now.run ran.now.screens.items }
+    requires as_many { length ran.now.screens.items ≡ length terminals.now }
+    requires named { AreNamed (names_of terminals.now) ran.now.run }
     ensures { IfOk result (λ output. output.items
-        ≡ written_of wanted (deck_of deck.now) ran.now.run ran.now.screens.items) }
+        ≡ output_by wanted (names_of terminals.now) ran.now.run ran.now.screens.items) }
 {
-    let terminals = deck.terminals.as_slice();
     let history = ran.run.as_slice();
     let mut output = report(alloc, terminals, ran.screens.as_slice())?;
     push_wanted_history(&mut output, wanted.history, history)?;

@@ -1,7 +1,11 @@
-use Rattle.std.proofs.Common.{◌≡◌, vec_len}
+use Rattle.std.proofs.Common.{◌≡◌, ◌++◌, length}
+use Rattle.std.specs.Vec.Iter.{into_iter_items, into_iter_len}
 use Rattle.monitor_gate.specs.Passes.{spare_value}
-use Rattle.terminal_runner.specs.Seats.{pass_at, AllFresh}
+use Rattle.terminal_runner.specs.Seats.{pass_at, seated_from}
 use Rattle.terminal_runner.proofs.runs.split_all.Given as goal
 
-abbrev pub invariant-loop : goal.invariant-loop
-invariant-loop l = (l.spare ≡ spare_value l.gate.gate (pass_at l.gate.opening l.counter)) × (vec_len l.seats ≡ l.counter) × AllFresh l.gate l.seats.items
+abbrev pub invariant-loop-body : goal.invariant-loop-body
+invariant-loop-body g l = (l.yielded ++ into_iter_items l.body-iterator ≡ into_iter_items l.initial.body-iterator)
+    × (into_iter_len l.body-iterator ≡ length (into_iter_items l.body-iterator))
+    × (l.spare ≡ spare_value l.gate.gate (pass_at l.gate.opening (length l.yielded)))
+    × (l.seated.items ≡ seated_from l.gate 0 l.yielded)

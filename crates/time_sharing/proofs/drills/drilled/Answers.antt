@@ -12,7 +12,7 @@ returns-clause-drill g c =
     let ran = c.in_ok-ran.ran in
     record {
       screens = ran.screens.items;
-      run = subst (λ (deck : Deck). IsRun deck ran.run ran.screens.items) c.in_ok-deck.ensures.deck c.in_ok-ran.ensures;
+      run = subst (λ (deck : Deck). IsRun deck ran.run ran.screens.items) c.in_ok-deck.ensures.deck c.in_ok-ran.ensures.run;
       as_many = refl;
       puts = c.tally_of-tally.ensures.puts ∙ ap puts_in c.as_slice.ensures;
       sum = c.tally_of-tally.ensures.sum ∙ ap sum_in c.as_slice.ensures;

@@ -38,8 +38,8 @@ returns-in-Ok-give_all g c =
       answers = ran_answers c.in-Ok.deck before after c.in-Ok.ensures.must_stop c.in-Ok.ensures.must_refuse c.args.wanted c.in-Ok-run_and_report.ran.0;
     }
 
-pub returns : goal.returns
-returns g c =
+pub returns-in-Err-give_all : goal.returns-in-Err-give_all
+returns-in-Err-give_all g c =
     let before = ends (g.S.Source.state c.args.source.now) (g.K.Sink.state c.args.sink.now) in
     let after = ends (g.S.Source.state c.read_system.new.source) (g.K.Sink.state c.give_all.new.sink) in
     let output = c.in-Ok-run_and_report.ran.1.items in
