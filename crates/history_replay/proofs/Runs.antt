@@ -45,12 +45,12 @@ module _ (does : ℕ → List Pair → List ℕ → Type 0) (history : List Entr
   ran_err jobs job screens trouble.NoMemory below ran here = tt
 
 module _ {B : Type 0} (does : B → List Pair → List ℕ → Type 0) (history : List Entry) where
-  pub body_here : (before behind : List B) (body : B) → slice_get (before ++ body ∷ behind) (length before) ≡ Some body
+  body_here : (before behind : List B) (body : B) → slice_get (before ++ body ∷ behind) (length before) ≡ Some body
   body_here [] behind body = refl
   body_here (first ∷ before) behind body = body_here before behind body
 
   -- what a job did or where it departed, by its own body, is so by the body at its place
-  pub ran_at : (bodies : List B) (body : B) (job : ℕ) (result : Result (List ℕ) (Trouble Dispute)) → slice_get bodies job ≡ Some body → JobRan (λ own. does body) job history result → JobRan (does_at does bodies) job history result
+  ran_at : (bodies : List B) (body : B) (job : ℕ) (result : Result (List ℕ) (Trouble Dispute)) → slice_get bodies job ≡ Some body → JobRan (λ own. does body) job history result → JobRan (does_at does bodies) job history result
   ran_at bodies body job (Ok screen) at ran = subst (λ (o : Option B). IfSome o (λ b. does b (part_of job history) screen)) (sym at) ran
   ran_at bodies body job (Err (trouble.Refused (dispute.Reply entry))) at ran = ran
   ran_at bodies body job (Err (trouble.Refused (dispute.Meaning which place position))) at ran =
@@ -69,3 +69,9 @@ module _ {B : Type 0} (does : B → List Pair → List ℕ → Type 0) (history 
         position_is = ran.position_is;
       }
   ran_at bodies body job (Err trouble.NoMemory) at ran = tt
+
+  -- so it is of the next body of a loop over all of them, where those before it did their parts
+  pub next_ran : (all yielded rest left : List B) (body : B) (screens : List (List ℕ)) (job : ℕ) (result : Result (List ℕ) (Trouble Dispute)) → yielded ++ rest ≡ all → rest ≡ body ∷ left → FirstRan (does_at does all) (length yielded) history screens → job ≡ length screens → JobRan (λ own. does body) job history result → JobRan (does_at does all) (length yielded) history result
+  next_ran all yielded rest left body screens job result whole step ran count this =
+      let here : slice_get all (length yielded) ≡ Some body = subst (λ (l : List B). slice_get l (length yielded) ≡ Some body) (ap (λ (l : List B). yielded ++ l) (sym step) ∙ whole) (body_here yielded left body) in
+      ran_at all body (length yielded) result here (subst (λ j. JobRan (λ own. does body) j history result) (count ∙ ran.one_each) this)
