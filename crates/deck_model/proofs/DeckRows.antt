@@ -7,7 +7,7 @@ use Rattle.monitor_calls.specs.declared.volumes.AccountEntry.{AccountEntry}
 use Rattle.monitor_calls.specs.FileNames.{same_name}
 use Rattle.deck_model.specs.declared.faults.DeckCause.TheVariants.{Cut, Version, Shape, Range, Double, Owner, Space}
 use Rattle.deck_model.specs.Lines.{whole_lines, cut_line}
-use Rattle.deck_model.specs.Reading.{verdict, reading, Spells, Refuses, behind_line, behind_form, form_at, version_in, disk_in, account_in, texts_in, file_in, file_texts_in, groups_in, contents_in, session_in, terminal_in, keys_in, end_in}
+use Rattle.deck_model.specs.Reading.{verdict, reading, Yields, Refuses, behind_line, behind_form, form_at, version_in, disk_in, account_in, texts_in, file_in, file_texts_in, groups_in, contents_in, session_in, terminal_in, keys_in, end_in}
 
 abbrev front : List ℕ
 front = codes "RSTS-DECK 1\nDISK 2\nACCOUNT 100,5 DEMO 9\n"
@@ -20,7 +20,7 @@ entries = record { account = owner; password = codes "DEMO"; limit = 9; quota = 
 
 -- one file of two blocks with two lines, and a terminal with a line of keys
 a_deck : verdict (front ++ codes "FILE [100,5]A.B<60> 1\n>10 END\n>\nTERMINAL T1\n>BYE\nEND\n")
-    ≡ Spells (record {
+    ≡ Yields (record {
       blocks = 2;
       accounts = entries;
       files = record {
@@ -68,7 +68,7 @@ abbrev second : List ℕ
 second = codes "RSTS-DECK 2\nDISK 8\n"
 
 quotas_are_told : verdict (second ++ codes "ACCOUNT 100,5 DEMO 9 2\nACCOUNT 1,2 A 1 0\nEND\n")
-    ≡ Spells (record {
+    ≡ Yields (record {
       blocks = 8;
       accounts = entries ++ record {
         account = record { project = 1; programmer = 2 };

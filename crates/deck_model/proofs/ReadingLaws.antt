@@ -17,7 +17,7 @@ use Rattle.deck_model.specs.Forms.{LineForm, Heading, Disk, Account, File, Termi
 use Rattle.deck_model.specs.Spelling.{texts_of, account_line, file_texts, file_lines, key_line, terminal_lines, group_lines, deck_lines, IsQuota, Spelled}
 use Rattle.deck_model.specs.Fronts.{Front, Nothing, Versioned, InAccounts, InFile, InTerminal, Whole, with_file, with_terminal, front_lines, IsDeckIn, IsFront, May, new_file, new_terminal, adds}
 use Rattle.deck_model.specs.Refusals.{first_cause, file_causes, causes, StopsAt, Refused}
-use Rattle.deck_model.specs.Reading.{behind_line, DeckVerdict, Spells, Refuses, at_end, onwards, reading, verdict}
+use Rattle.deck_model.specs.Reading.{behind_line, DeckVerdict, Yields, Refuses, at_end, onwards, reading, verdict}
 use Rattle.basic_values.proofs.CutLaws.{and_right}
 use Rattle.deck_model.proofs.VolumeLaws.{GoodVolume, volume_parts, volume_whole, volume_front, volume_last, FitsAmong, terminals_front, terminals_last, all_front}
 use Rattle.deck_model.proofs.FileLaws.{files_parts, files_whole, files_front}
@@ -318,7 +318,7 @@ verdict_behind bytes front rest is e =
     ∙ (front_leads front is).reads 1 rest (cut_line bytes)
     ∙ ap (λ (n : ℕ). reading front n rest (cut_line bytes)) place
 
-pub spelled_told : (bytes : List ℕ) (deck : Deck) → Spelled bytes deck → verdict bytes ≡ Spells deck
+pub spelled_told : (bytes : List ℕ) (deck : Deck) → Spelled bytes deck → verdict bytes ≡ Yields deck
 unfolding reading
 spelled_told bytes deck s =
     let lines = deck_lines s.version deck in
@@ -354,7 +354,7 @@ record Stopped (all : List (List ℕ)) (cut : List ℕ) (line : ℕ) (why : Deck
   stops : StopsAt front rest cut why
 
 abbrev IsSo : List (List ℕ) → List ℕ → DeckVerdict → Type 0
-IsSo all cut (Spells deck) = (version : Version) × IsDeckIn version deck × (all ≡ deck_lines version deck) × (cut ≡ [])
+IsSo all cut (Yields deck) = (version : Version) × IsDeckIn version deck × (all ≡ deck_lines version deck) × (cut ≡ [])
 IsSo all cut (Refuses line why) = Stopped all cut line why
 
 module _ (all : List (List ℕ)) where
@@ -386,9 +386,9 @@ verdict_so : (bytes : List ℕ) (v : DeckVerdict) → verdict bytes ≡ v → Is
 unfolding verdict
 verdict_so bytes v e = subst (IsSo (whole_lines bytes) (cut_line bytes)) e (reading_so (whole_lines bytes) Nothing 1 (whole_lines bytes) (cut_line bytes) tt (omega arith) refl)
 
-pub told_spelled : (bytes : List ℕ) (deck : Deck) → verdict bytes ≡ Spells deck → Spelled bytes deck
+pub told_spelled : (bytes : List ℕ) (deck : Deck) → verdict bytes ≡ Yields deck → Spelled bytes deck
 told_spelled bytes deck e =
-    let so = verdict_so bytes (Spells deck) e in
+    let so = verdict_so bytes (Yields deck) e in
     record { version = so.0; is_deck = so.1.is_deck; quotas = so.1.quotas; lines_are = so.2; ends = so.3 }
 
 pub told_refused : (bytes : List ℕ) (line : ℕ) (why : DeckCause) → verdict bytes ≡ Refuses line why → Refused bytes line why

@@ -151,12 +151,12 @@ behind_line front line = behind_form front (form_at front line)
 
 -- bytes spell a deck, or are refused at a line, from 1, for a cause
 pub data DeckVerdict : Type 0 where
-  Spells : Deck → DeckVerdict
+  Yields : Deck → DeckVerdict
   Refuses : ℕ → DeckCause → DeckVerdict
 
 -- where the lines have ended
 abbrev pub at_end : Front → ℕ → List ℕ → DeckVerdict
-at_end (Whole version deck) line [] = Spells deck
+at_end (Whole version deck) line [] = Yields deck
 at_end front line cut = Refuses line cause.Cut
 
 -- on to the front behind a line, unless the line is refused

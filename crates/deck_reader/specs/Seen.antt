@@ -16,7 +16,7 @@ use Rattle.deck_model.specs.Deck as model
 use Rattle.deck_model.specs.Forms as forms
 use Rattle.deck_model.specs.Fronts as fronts
 use Rattle.deck_model.specs.Lines.{whole_lines, cut_line}
-use Rattle.deck_model.specs.Reading.{DeckVerdict, Spells, Refuses}
+use Rattle.deck_model.specs.Reading.{DeckVerdict, Yields, Refuses}
 use Rattle.deck_reader.specs.declared.decks.Deck.{Deck}
 use Rattle.deck_reader.specs.declared.decks.OpenFile.{OpenFile}
 use Rattle.deck_reader.specs.declared.decks.Terminal.{Terminal}
@@ -145,6 +145,6 @@ IfRefused answer P = Unit {0}
 
 -- what was answered is the verdict, unless memory ran out
 abbrev pub Tells : Result Deck (Trouble DeckFault) → DeckVerdict → Type 0
-Tells (Ok deck) v = v ≡ Spells (deck_of deck)
+Tells (Ok deck) v = v ≡ Yields (deck_of deck)
 Tells (Err (trouble.Refused fault)) v = v ≡ Refuses fault.line fault.cause
 Tells (Err trouble.NoMemory) v = ⊤

@@ -17,7 +17,7 @@ use Rattle.basic_tree.specs.GrammarTables.{operator_level, joins_texts, argument
 use Rattle.grammar_machine.specs.GrammarWords.{operator_of, relation_of, function_of, is_same_sign}
 use Rattle.grammar_machine.specs.MachineStack.{Values, top, Action, Symbol, Level, More, MoreRelations, Exponent, Expect, Opening, Close, Do, Subscripts, SecondSubscript, Arguments, MoreArguments}
 use Rattle.grammar_machine.specs.MachineStarts.{Start, behind, takes, more_expected, arguments_expected, function_start, atom, signed, negated, side, relations, Rank, Signs, Relations, Nots, Chain, rank_of, ranked, start}
-use Rattle.grammar_machine.specs.MachineMoves.{MachineMove, Takes, Skips, Closes, Refuses, begun, right_of, joined, more_of, no_relation, related, move}
+use Rattle.grammar_machine.specs.MachineMoves.{MachineMove, Shifts, Skips, Closes, Refuses, begun, right_of, joined, more_of, no_relation, related, move}
 use Rattle.grammar_machine.specs.MachineRun.{Turn, Next, Ended, Stuck, Deep, entered, moved, turn}
 
 -- ---- the symbols of expressions
@@ -110,7 +110,7 @@ start_in (suc l) w vs t = ranked_in (rank_of (suc l)) (suc l) w vs t (λ v. star
 -- ---- each move expects nothing else
 
 abbrev MovesIn : MachineMove → Type 0
-MovesIn (Takes opens vs more) = AllInExpressions more
+MovesIn (Shifts opens vs more) = AllInExpressions more
 MovesIn (Skips vs) = Unit {0}
 MovesIn (Closes vs) = Unit {0}
 MovesIn Refuses = Unit {0}
@@ -140,7 +140,7 @@ related_in : (o : Option Relation) (b x : Bool) (vs : Values) → MovesIn (relat
 related_in None b x vs = no_relation_in b x vs
 related_in (Some r) b x vs = (ALevel _ _, (ADo _, (AMoreRelations b, tt)))
 
-expect_in : (b : Bool) (vs : Values) → MovesIn (cond b (Takes false vs []) Refuses)
+expect_in : (b : Bool) (vs : Values) → MovesIn (cond b (Shifts false vs []) Refuses)
 expect_in true vs = tt
 expect_in false vs = tt
 
@@ -181,7 +181,7 @@ entered_in true zero vs k h = tt
 entered_in true (suc n) vs k h = h
 
 moved_in : (m : MachineMove) (n : ℕ) (k : List Symbol) (f : ℕ → Values → Turn) → MovesIn m → AllInExpressions k → ((i : ℕ) (vs : Values) → TurnsIn (f i vs)) → TurnsIn (moved m n k f)
-moved_in (Takes b vs more) n k f h g on = entered_in b n vs (more ++ k) (both_in more k h g)
+moved_in (Shifts b vs more) n k f h g on = entered_in b n vs (more ++ k) (both_in more k h g)
 moved_in (Skips vs) n k f h g on = on n vs
 moved_in (Closes vs) n k f h g on = on (suc n) vs
 moved_in Refuses n k f h g on = tt

@@ -18,7 +18,7 @@ use Rattle.basic_tree.specs.GrammarTables.{operator_level, operator_word, relati
 use Rattle.grammar_machine.specs.GrammarWords.{is_same_sign, keyword_number, is_same_keyword}
 use Rattle.grammar_machine.specs.MachineStack.{Value, Values, Limit, within, Form, ExprOf, ExprIf, TargetOf, NameIn, FnNameIn, Symbol, Subscripts, Go, Await, loosest}
 use Rattle.grammar_machine.specs.MachineStarts.{Start, takes, start}
-use Rattle.grammar_machine.specs.MachineMoves.{MachineMove, Takes, Skips, Refuses, begun, then_also, take_key, take_sign, expression, expression_if, target, name_in, fn_name_in, literal_in, quoted_if, item_in}
+use Rattle.grammar_machine.specs.MachineMoves.{MachineMove, Shifts, Skips, Refuses, begun, then_also, take_key, take_sign, expression, expression_if, target, name_in, fn_name_in, literal_in, quoted_if, item_in}
 use Rattle.grammar_machine.specs.MachineMoves.{Closes as Ends}
 use Rattle.grammar_machine.proofs.MachineReads.{taken, passes_first, Reads}
 use Rattle.grammar_machine.proofs.MachineSpelled.{Spelled}
@@ -45,8 +45,8 @@ same_key k l h = sym (numbered_key k) ∙ ap (λ n. keyword_from n all_keywords)
 
 -- where the other form is read, so is this one
 pub through_form : (f h : Form) (vs : Values) (o : Option Word) → ((p : List LevelStep) (v : Value) → Reads h p v → Reads f p v) → (m : MachineMove) → MoveBack (Go h) vs o m → MoveBack (Go f) vs o m
-through_form f h vs None sub (Takes b vs' ns) back = tt
-through_form f h vs (Some t) sub (Takes b vs' ns) back = λ k q u s. let x = back k q u s in (x.0, x.1, x.2, x.3, sub x.0 x.1 x.4, x.5)
+through_form f h vs None sub (Shifts b vs' ns) back = tt
+through_form f h vs (Some t) sub (Shifts b vs' ns) back = λ k q u s. let x = back k q u s in (x.0, x.1, x.2, x.3, sub x.0 x.1 x.4, x.5)
 through_form f h vs None sub (Skips vs') back = λ k q u s. let x = back k q u s in (x.0, x.1, x.2, x.3, sub x.0 x.1 x.4, x.5)
 through_form f h vs (Some t) sub (Skips vs') back = λ k q u s. let x = back k q u s in (x.0, x.1, x.2, x.3, sub x.0 x.1 x.4, x.5)
 through_form f h vs None sub (Ends vs') back = λ k q u s. let x = back k q u s in (x.0, x.1, x.2, x.3, sub x.0 x.1 x.4, x.5)
@@ -64,7 +64,7 @@ refuses_back s vs (Some t) = tt
 pub key_back : (s : Symbol) (opens : Bool) (k : Keyword) (vs : Values) (o : Option Word) (more : List Symbol) (m : MachineMove) → TakesBack opens s vs vs (Key k) more → MoveBack s vs o m → MoveBack s vs o (take_key opens k vs o more m)
 key_back s opens k vs None more m h e = e
 key_back s opens k vs (Some (Key l)) more m h e = go (is_same_keyword k l) refl where
-  go : (b : Bool) → is_same_keyword k l ≡ b → MoveBack s vs (Some (Key l)) (cond b (Takes opens vs more) m)
+  go : (b : Bool) → is_same_keyword k l ≡ b → MoveBack s vs (Some (Key l)) (cond b (Shifts opens vs more) m)
   go true same = subst (λ x. TakesBack opens s vs vs (Key x) more) (same_key k l same) h
   go false same = e
 key_back s opens k vs (Some t) more m h e = e
@@ -72,7 +72,7 @@ key_back s opens k vs (Some t) more m h e = e
 pub sign_back : (s : Symbol) (opens : Bool) (x : Sign) (vs : Values) (o : Option Word) (more : List Symbol) (m : MachineMove) → TakesBack opens s vs vs (Punctuation x) more → MoveBack s vs o m → MoveBack s vs o (take_sign opens x vs o more m)
 sign_back s opens x vs None more m h e = e
 sign_back s opens x vs (Some (Punctuation y)) more m h e = go (is_same_sign x y) refl where
-  go : (b : Bool) → is_same_sign x y ≡ b → MoveBack s vs (Some (Punctuation y)) (cond b (Takes opens vs more) m)
+  go : (b : Bool) → is_same_sign x y ≡ b → MoveBack s vs (Some (Punctuation y)) (cond b (Shifts opens vs more) m)
   go true same = subst (λ z. TakesBack opens s vs vs (Punctuation z) more) (same_sign x y same) h
   go false same = e
 sign_back s opens x vs (Some t) more m h e = e
@@ -166,7 +166,7 @@ led_target name g (Comparison a r b) e l = absurd (omega (arith, l))
 
 pub target_back : (w : Want) (g : Tree → Form) (vs : Values) (o : Option Word) → MoveBack (Go (TargetOf w g)) vs o (target w g vs o)
 target_back w g vs (Some (Named name)) = go (takes w name.text) refl where
-  go : (b : Bool) → takes w name.text ≡ b → MoveBack (Go (TargetOf w g)) vs (Some (Named name)) (cond b (Takes false vs (Subscripts name ∷ Await g ∷ [])) Refuses)
+  go : (b : Bool) → takes w name.text ≡ b → MoveBack (Go (TargetOf w g)) vs (Some (Named name)) (cond b (Shifts false vs (Subscripts name ∷ Await g ∷ [])) Refuses)
   go true e = λ k q u h.
       let y = h.5 in (
         steps_of h.0 ++ y.0,
@@ -182,7 +182,7 @@ target_back w g vs None = tt
 
 pub name_back : (w : Want) (g : Name → Form) (vs : Values) (o : Option Word) → MoveBack (Go (NameIn w g)) vs o (name_in w g vs o)
 name_back w g vs (Some (Named name)) = go (takes w name.text) refl where
-  go : (b : Bool) → takes w name.text ≡ b → MoveBack (Go (NameIn w g)) vs (Some (Named name)) (cond b (Takes false vs (Go (g name) ∷ [])) Refuses)
+  go : (b : Bool) → takes w name.text ≡ b → MoveBack (Go (NameIn w g)) vs (Some (Named name)) (cond b (Shifts false vs (Go (g name) ∷ [])) Refuses)
   go true e = behind_step (NameIn w g) (g name) vs false (Named name) (λ p v r. (name, p, refl, takes_fits w name.text (Variable name) refl e, r))
   go false e = tt
 name_back w g vs (Some t) = tt
@@ -195,7 +195,7 @@ fn_name_back g vs None = tt
 
 pub literal_back : (f : Form) (limit : Limit) (g : ℕ → Form) (vs : Values) (o : Option Word) (m : MachineMove) → ((n : ℕ) (p : List LevelStep) (v : Value) → within limit n ≡ true → Reads (g n) p v → Reads f (Plain (Number n) ∷ p) v) → MoveBack (Go f) vs o m → MoveBack (Go f) vs o (literal_in limit g vs o m)
 literal_back f limit g vs (Some (Number n)) m sub back = go (within limit n) refl where
-  go : (b : Bool) → within limit n ≡ b → MoveBack (Go f) vs (Some (Number n)) (cond b (Takes false vs (Go (g n) ∷ [])) m)
+  go : (b : Bool) → within limit n ≡ b → MoveBack (Go f) vs (Some (Number n)) (cond b (Shifts false vs (Go (g n) ∷ [])) m)
   go true e = behind_step f (g n) vs false (Number n) (λ p v r. sub n p v e r)
   go false e = back
 literal_back f limit g vs (Some t) m sub back = back

@@ -10,7 +10,7 @@ use Rattle.basic_tree.specs.Trees.{Tree, ClauseTree, StatementClause}
 use Rattle.basic_tree.specs.SpellingExpressions.{is_text}
 use Rattle.basic_tree.specs.Tokens.{Lexeme, Reading, tokens_of}
 use Rattle.grammar_machine.specs.MachineStack.{Values, parsed, top, stated, below, Form, IfKey, IfSign, ExprIf, LiteralIf, QuotedIf, MoreItems, MoreOf, ClauseIn, Symbol, Level, loosest, MoreRelations, Go, Await, AwaitClause}
-use Rattle.grammar_machine.specs.MachineMoves.{MachineMove, Takes, Skips, Refuses, no_relation, clause_move, form_move_with, move}
+use Rattle.grammar_machine.specs.MachineMoves.{MachineMove, Shifts, Skips, Refuses, no_relation, clause_move, form_move_with, move}
 use Rattle.grammar_machine.specs.MachineMoves.{Closes as Ends}
 use Rattle.grammar_machine.specs.MachineRun.{Turn, Next, Ended, Stuck, Deep, moved, turn, Wrong, TooDeep, MachineOutcome, turned, run}
 use Rattle.basic_tree.specs.LineVerdicts.{SpelledBy, RefusedBy, Verdict, HasTree, RefusedFor, IsJudged, Judges, LinesAreJudged}
@@ -27,7 +27,7 @@ use Rattle.grammar_machine.proofs.LineReads.{made_line, reads_lines, left_end}
 -- ---- at the end nothing is taken
 
 abbrev NoWord : MachineMove → Type 0
-NoWord (Takes opens vs more) = ⊥
+NoWord (Shifts opens vs more) = ⊥
 NoWord other = Unit {0}
 
 form_ends : (clause : (ClauseTree → Form) → Values → Option Word → MachineMove) → ((g : ClauseTree → Form) (vs : Values) → NoWord (clause g vs None)) → (f : Form) (vs : Values) → NoWord (form_move_with clause f vs None)
@@ -61,7 +61,7 @@ NotDeep Deep = ⊥
 NotDeep other = Unit {0}
 
 moved_ends : (m : MachineMove) (n : ℕ) (k : List Symbol) (f : ℕ → Values → Turn) → NoWord m → ((i : ℕ) (vs : Values) → NotDeep (f i vs)) → NotDeep (moved m n k f)
-moved_ends (Takes opens vs more) n k f e h = absurd e
+moved_ends (Shifts opens vs more) n k f e h = absurd e
 moved_ends (Skips vs) n k f e h = h n vs
 moved_ends (Ends vs) n k f e h = h (suc n) vs
 moved_ends Refuses n k f e h = tt

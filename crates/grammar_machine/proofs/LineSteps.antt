@@ -8,7 +8,7 @@ use Rattle.basic_tree.specs.Trees.{ClauseTree, LineClause, StatementClause, Stat
 use Rattle.grammar_machine.specs.MachineStack.{Values, Stated, Parsed, Modify, Symbol, Go, AwaitClause, Modifiers, OneStatement, MoreStatements, Close, Do, Form, TakeKey, TargetOf, FnNameIn, ClauseIn, LineNumber, within, with_statement}
 use Rattle.grammar_machine.specs.MachineStarts.{takes}
 use Rattle.grammar_machine.specs.MachineSentences.{Class, Choice, Head, Simple, Sentence, key_sentence, sentence_of, key_modifier, modifier_of}
-use Rattle.grammar_machine.specs.MachineMoves.{MachineMove, Takes, Skips, Closes, Refuses, then_also, form_move_with, form_move, no_clause, behind_clause, clause_sentence, clause_move, behind_class, modified}
+use Rattle.grammar_machine.specs.MachineMoves.{MachineMove, Shifts, Skips, Closes, Refuses, then_also, form_move_with, form_move, no_clause, behind_clause, clause_sentence, clause_move, behind_class, modified}
 use Rattle.grammar_machine.specs.MachineRun.{Turn, moved, turn, turned, run, Wrong}
 use Rattle.grammar_machine.proofs.MachineSteps.{run_close}
 
@@ -21,11 +21,11 @@ is_firm (FnNameIn g) = true
 is_firm other = false
 
 abbrev pub decides : MachineMove → Bool
-decides (Takes opens vs ks) = true
+decides (Shifts opens vs ks) = true
 decides Refuses = true
 decides other = false
 
-cond_decides : (b opens : Bool) (vs : Values) (ks : List Symbol) → decides (cond b (Takes opens vs ks) Refuses) ≡ true
+cond_decides : (b opens : Bool) (vs : Values) (ks : List Symbol) → decides (cond b (Shifts opens vs ks) Refuses) ≡ true
 cond_decides true opens vs ks = refl
 cond_decides false opens vs ks = refl
 
@@ -50,7 +50,7 @@ firm_same c d f vs o e = absurd cc
 
 -- what is expected behind what was taken is expected below it
 then_moved : (m : MachineMove) (more k : List Symbol) (n : ℕ) (f g : ℕ → Values → Turn) → decides m ≡ true → moved (then_also more m) n k f ≡ moved m n (more ++ k) g
-then_moved (Takes opens vs ks) more k n f g e = rw append_assoc refl
+then_moved (Shifts opens vs ks) more k n f g e = rw append_assoc refl
 then_moved (Skips vs) more k n f g e = absurd cc
 then_moved (Closes vs) more k n f g e = absurd cc
 then_moved Refuses more k n f g e = refl

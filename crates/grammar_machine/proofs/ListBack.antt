@@ -16,7 +16,7 @@ use Rattle.grammar_machine.specs.MachinePieces.{WordPiece, Fixed, Expression, pi
 use Rattle.grammar_machine.specs.MachineParts.{shape, element_size, printed, print_item, separator_piece, using_item, using_values}
 use Rattle.grammar_machine.specs.MachineStack.{Value, Stated, Values, Item, TargetItem, ShapeItem, FileItem, NameItem, LineItem, ChannelItem, FieldItem, Sequence, Targets, Shapes, FileShapes, Parameters, Arrays, Lines, Channels, FieldParts, Form, Made, TakeKey, TakeSign, TakeClosing, IfKey, IfSign, ExprOf, ExprIf, TargetOf, NameIn, FnNameIn, LiteralIn, LiteralIf, QuotedIf, ItemIn, MoreItems, MoreOf, MorePrinted, MoreUsing, ClauseIn, Close, Go}
 use Rattle.grammar_machine.specs.MachineForms.{begins_value, has_room, item_form, shape_form, size_form, printed_form, using_value_form}
-use Rattle.grammar_machine.specs.MachineMoves.{MachineMove, Takes, Skips, Refuses, expression, expression_if, more_of_list, tab_form, more_printed, more_using, form_move_with}
+use Rattle.grammar_machine.specs.MachineMoves.{MachineMove, Shifts, Skips, Refuses, expression, expression_if, more_of_list, tab_form, more_printed, more_using, form_move_with}
 use Rattle.grammar_machine.proofs.PieceLists.{steps_append, pieces_append}
 use Rattle.grammar_machine.proofs.MachineReads.{item_pieces, Belongs, items_steps, print_pieces, Reads}
 use Rattle.grammar_machine.proofs.MachineBack.{TakesBack, MoveBack}
@@ -110,7 +110,7 @@ no_item_more s items g p v h = ([], p, refl, tt, subst (λ x. Reads (g x) p v) (
 
 list_back : (s : Sequence) (items : List Item) (g : List Item → Form) (vs : Values) (o : Option Word) (m : MachineMove) → MoveBack (Go (g items)) vs o m → MoveBack (Go (MoreOf s items g)) vs o (more_of_list s items g vs o m)
 list_back s items g vs (Some (Punctuation sign.Comma)) m back = go (has_room s items) refl where
-  go : (b : Bool) → has_room s items ≡ b → MoveBack (Go (MoreOf s items g)) vs (Some (Punctuation sign.Comma)) (cond b (Takes false vs (Go (item_form s (λ item. MoreOf s (items ++ item ∷ []) g)) ∷ [])) m)
+  go : (b : Bool) → has_room s items ≡ b → MoveBack (Go (MoreOf s items g)) vs (Some (Punctuation sign.Comma)) (cond b (Shifts false vs (Go (item_form s (λ item. MoreOf s (items ++ item ∷ []) g)) ∷ [])) m)
   go true e = behind_step (MoreOf s items g) (item_form s (λ item. MoreOf s (items ++ item ∷ []) g)) vs false (Punctuation sign.Comma) (λ p v r. one_item_more s items g p v e r)
   go false e = through_form (MoreOf s items g) (g items) vs (Some (Punctuation sign.Comma)) (no_item_more s items g) m back
 list_back s items g vs (Some (Punctuation t)) m back = through_form (MoreOf s items g) (g items) vs (Some (Punctuation t)) (no_item_more s items g) m back

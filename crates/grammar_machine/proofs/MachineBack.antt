@@ -16,7 +16,7 @@ use Rattle.basic_tree.specs.SpellingExpressions.{mark, steps_of, list_steps, mor
 use Rattle.basic_tree.specs.GrammarTables.{sign_level, relation_level, not_level, operator_word, relation_sign, function_keyword, arguments_of, gives_text}
 use Rattle.grammar_machine.specs.GrammarWords.{operator_of, relation_of, function_of, sign_number, is_same_sign}
 use Rattle.grammar_machine.specs.MachineStack.{Term, Several, Values, with_last, made, others, Action, MakeFunction, MakeNegative, MakePositive, MakeNot, Symbol, Level, More, MoreRelations, Close, Do, Subscripts, Arguments}
-use Rattle.grammar_machine.specs.MachineMoves.{MachineMove, Takes, Skips, Refuses}
+use Rattle.grammar_machine.specs.MachineMoves.{MachineMove, Shifts, Skips, Refuses}
 use Rattle.grammar_machine.specs.MachineMoves.{Closes as Ends}
 use Rattle.grammar_machine.specs.MachineStarts.{Start, starts, behind, if_takes, more_expected, arguments_expected, function_start, atom, prefixed, signed, negated, side, relations, Rank, Signs, Relations, Nots, Chain, rank_of, ranked, start}
 use Rattle.grammar_machine.proofs.MachineSpelled.{Fine, Kept, joined_trees, Spelled}
@@ -230,8 +230,8 @@ start_back (suc l) w vs t = ranked_back (rank_of (suc l)) l (rank_fact (suc l)) 
 
 -- what a move of one symbol took, the symbol spells
 abbrev pub MoveBack : Symbol → Values → Option Word → MachineMove → Type 0
-MoveBack s vs None (Takes opens vs' ns) = Unit {0}
-MoveBack s vs (Some t) (Takes opens vs' ns) = TakesBack opens s vs vs' t ns
+MoveBack s vs None (Shifts opens vs' ns) = Unit {0}
+MoveBack s vs (Some t) (Shifts opens vs' ns) = TakesBack opens s vs vs' t ns
 MoveBack s vs o (Skips vs') = (k : List Symbol) (q : List LevelStep) (u : Values) → Spelled k vs' q u → Spelled (s ∷ k) vs q u
 MoveBack s vs o (Ends vs') = (k : List Symbol) (q : List LevelStep) (u : Values) → Spelled k vs' q u → Spelled (s ∷ k) vs (Closes ∷ q) u
 MoveBack s vs o Refuses = Unit {0}

@@ -17,7 +17,7 @@ use Rattle.grammar_machine.specs.GrammarWords.{operator_of, relation_of, is_same
 use Rattle.grammar_machine.specs.MachineStack.{Term, Several, Values, top, several, below, kept, kept_several, made, others, Action, MakeOperation, MakeComparison, Symbol, Level, More, MoreRelations, Exponent, Expect, Opening, Close, Do, Subscripts, SecondSubscript, Arguments, MoreArguments, Go, Await, AwaitClause, Modifiers, OneStatement, MoreStatements}
 use Rattle.grammar_machine.proofs.SentenceBack.{go_back, await_back, await_clause_back, modifiers_back, one_statement_back, more_statements_back}
 use Rattle.grammar_machine.specs.MachineStarts.{Start, atom, signed, start}
-use Rattle.grammar_machine.specs.MachineMoves.{Takes, Skips, Refuses, begun, right_of, joined, more_of, no_relation, related, expect, open_list, subscripts, second_subscript, arguments, more_arguments, move}
+use Rattle.grammar_machine.specs.MachineMoves.{Shifts, Skips, Refuses, begun, right_of, joined, more_of, no_relation, related, expect, open_list, subscripts, second_subscript, arguments, more_arguments, move}
 use Rattle.grammar_machine.specs.MachineStack.{with_last}
 use Rattle.grammar_machine.specs.MachineMoves.{Closes as Ends}
 use Rattle.grammar_machine.proofs.MachineSpelled.{IsSecond, joined_trees, Spelled, as_is}
@@ -152,7 +152,7 @@ exponent_back vs other = exponent_atom vs other (atom want.Number vs other) (ato
 
 -- ---- signs, and the ends of levels
 
-sign_back : (s t : Sign) (vs : Values) (b : Bool) → is_same_sign s t ≡ b → MoveBack (Expect s) vs (Some (Punctuation t)) (cond b (Takes false vs []) Refuses)
+sign_back : (s t : Sign) (vs : Values) (b : Bool) → is_same_sign s t ≡ b → MoveBack (Expect s) vs (Some (Punctuation t)) (cond b (Shifts false vs []) Refuses)
 sign_back s t vs true e = λ k q u h. (q, ap (λ x. mark x ∷ q) (sym (same_sign s t e)), h)
 sign_back s t vs false e = tt
 

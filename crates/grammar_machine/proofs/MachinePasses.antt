@@ -2,7 +2,7 @@
 use Rattle.std.proofs.Common.{◌≡◌, ℕ, zero, suc, ◌+◌, ◌≤◌, Bool, true, false, List, [], ◌∷◌, ◌++◌, length, Option, Some, None, Ok, Err, refl, sym, ap, ◌∙◌, subst, arith, length-append}
 use Rattle.basic_tree.specs.SpellingWords.{Word, LevelStep, Plain, Opens, Closes, words}
 use Rattle.grammar_machine.specs.MachineStack.{Values, Symbol}
-use Rattle.grammar_machine.specs.MachineMoves.{MachineMove, Takes, Skips, Refuses, move}
+use Rattle.grammar_machine.specs.MachineMoves.{MachineMove, Shifts, Skips, Refuses, move}
 use Rattle.grammar_machine.specs.MachineMoves.{Closes as Ends}
 use Rattle.grammar_machine.specs.MachineRun.{Turn, Next, Ended, Stuck, Deep, entered, moved, turn, Halt, Wrong, TooDeep, MachineOutcome, turned, run}
 use Rattle.grammar_machine.proofs.MachineSpelled.{Spelled}
@@ -47,7 +47,7 @@ entered_more true zero d vs k = tt
 entered_more true (suc n) d vs k = let e : suc n + d ≡ suc (n + d) = omega arith in rw e refl
 
 moved_more : (m : MachineMove) (n d : ℕ) (k : List Symbol) (f : ℕ → Values → Turn) → ((i : ℕ) (vs : Values) → Further d (f i vs) (f (i + d) vs)) → Further d (moved m n k f) (moved m (n + d) k f)
-moved_more (Takes b vs more) n d k f h = entered_more b n d vs (more ++ k)
+moved_more (Shifts b vs more) n d k f h = entered_more b n d vs (more ++ k)
 moved_more (Skips vs) n d k f h = h n vs
 moved_more (Ends vs) n d k f h = let e : suc n + d ≡ suc (n + d) = omega arith in rw (← e) (h (suc n) vs)
 moved_more Refuses n d k f h = refl

@@ -8,7 +8,7 @@ use Rattle.basic_tree.specs.SpellingExpressions.{is_text}
 use Rattle.basic_tree.specs.GrammarTables.{operator_level, joins_texts}
 use Rattle.grammar_machine.specs.GrammarWords.{operator_of, relation_of}
 use Rattle.grammar_machine.specs.MachineStack.{Values, top, kept, Symbol}
-use Rattle.grammar_machine.specs.MachineMoves.{MachineMove, Takes, Skips, Closes, Refuses, joined, more_of, no_relation, related, move}
+use Rattle.grammar_machine.specs.MachineMoves.{MachineMove, Shifts, Skips, Closes, Refuses, joined, more_of, no_relation, related, move}
 use Rattle.grammar_machine.specs.MachineRun.{Turn, Next, Ended, Stuck, Deep, entered, moved, turn, Wrong, turned, run}
 use Rattle.grammar_machine.proofs.MachinePasses.{left, left_short, Further, turn_more}
 use Rattle.grammar_machine.proofs.MachineStops.{TakesWhole}
@@ -17,8 +17,8 @@ use Rattle.grammar_machine.proofs.ExpressionSymbols.{InExpressions, ALevel, AMor
 -- ---- a symbol that is done where the words end is done before a word too, or takes the word
 
 abbrev GoesOn : MachineMove → MachineMove → Type 0
-GoesOn (Takes opens a b) y = Unit {0}
-GoesOn (Skips a) (Takes opens b d) = Unit {0}
+GoesOn (Shifts opens a b) y = Unit {0}
+GoesOn (Skips a) (Shifts opens b d) = Unit {0}
 GoesOn (Skips a) (Skips b) = b ≡ a
 GoesOn (Skips a) (Closes b) = ⊥
 GoesOn (Skips a) Refuses = ⊥
@@ -75,9 +75,9 @@ ends_not_stuck : (k : List Symbol) → AllInExpressions k → (n d : ℕ) (vs u 
 ends_not_stuck [] i n d vs u c e h = cc
 ends_not_stuck (s ∷ k) i n d vs u c e h = go (move s vs None) (move s vs (Some c)) (goes_on i.0 vs c) e h (λ m a. ends_not_stuck k i.1 m d a u c) where
   go : (a b : MachineMove) → GoesOn a b → moved a (n + d) k (λ m vs'. turn k m vs' None) ≡ Ended u → moved b n k (λ m vs'. turn k m vs' (Some c)) ≡ Stuck → ((m : ℕ) (a : Values) → turn k (m + d) a None ≡ Ended u → turn k m a (Some c) ≡ Stuck → ⊥) → ⊥
-  go (Takes o a b) y g e h on = entered_not_ended o (n + d) a u (b ++ k) e
+  go (Shifts o a b) y g e h on = entered_not_ended o (n + d) a u (b ++ k) e
   go Refuses y g e h on = cc
-  go (Skips a) (Takes o b w) g e h on = entered_not_stuck o n b (w ++ k) h
+  go (Skips a) (Shifts o b w) g e h on = entered_not_stuck o n b (w ++ k) h
   go (Skips a) (Skips b) g e h on = on n a e (subst (λ (x : Values). turn k n x (Some c) ≡ Stuck) g h)
   go (Skips a) (Closes b) g e h on = absurd g
   go (Skips a) Refuses g e h on = absurd g

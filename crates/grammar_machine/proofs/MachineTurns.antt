@@ -2,7 +2,7 @@
 use Rattle.std.proofs.Common.{◌≡◌, ◌+◌, ℕ, zero, suc, Bool, true, false, List, [], ◌∷◌, ◌++◌, Option, Some, None, refl, arith}
 use Rattle.basic_tree.specs.SpellingWords.{Word, LevelStep, Opens, Closes}
 use Rattle.grammar_machine.specs.MachineStack.{Values, Symbol}
-use Rattle.grammar_machine.specs.MachineMoves.{MachineMove, Takes, Skips, Refuses, move}
+use Rattle.grammar_machine.specs.MachineMoves.{MachineMove, Shifts, Skips, Refuses, move}
 use Rattle.grammar_machine.specs.MachineMoves.{Closes as Ends}
 use Rattle.grammar_machine.specs.MachineRun.{Turn, Next, Ended, Stuck, Deep, entered, moved, turn}
 use Rattle.grammar_machine.proofs.MachineSpelled.{Spelled}
@@ -63,13 +63,13 @@ enter_end true s k zero vs vs' ns = tt
 enter_end true s k (suc n) vs vs' ns = tt
 
 through_end : (s : Symbol) (k : List Symbol) (n : ℕ) (vs : Values) (m : MachineMove) → MoveBack s vs None m → ((i : ℕ) (vs' : Values) → TurnBack k i vs' None (turn k i vs' None)) → TurnBack (s ∷ k) n vs None (moved m n k (λ i vs'. turn k i vs' None))
-through_end s k n vs (Takes b vs' ns) h on = enter_end b s k n vs vs' ns
+through_end s k n vs (Shifts b vs' ns) h on = enter_end b s k n vs vs' ns
 through_end s k n vs (Skips vs') h on = skip_on s k n vs vs' None (h k) (turn k n vs' None) (on n vs')
 through_end s k n vs (Ends vs') h on = close_on s k n vs vs' None (h k) (turn k (suc n) vs' None) (on (suc n) vs')
 through_end s k n vs Refuses h on = tt
 
 through : (s : Symbol) (k : List Symbol) (n : ℕ) (vs : Values) (t : Word) (m : MachineMove) → MoveBack s vs (Some t) m → ((i : ℕ) (vs' : Values) → TurnBack k i vs' (Some t) (turn k i vs' (Some t))) → TurnBack (s ∷ k) n vs (Some t) (moved m n k (λ i vs'. turn k i vs' (Some t)))
-through s k n vs t (Takes b vs' ns) h on = enter b s k n vs vs' t ns h
+through s k n vs t (Shifts b vs' ns) h on = enter b s k n vs vs' t ns h
 through s k n vs t (Skips vs') h on = skip_on s k n vs vs' (Some t) (h k) (turn k n vs' (Some t)) (on n vs')
 through s k n vs t (Ends vs') h on = close_on s k n vs vs' (Some t) (h k) (turn k (suc n) vs' (Some t)) (on (suc n) vs')
 through s k n vs t Refuses h on = tt

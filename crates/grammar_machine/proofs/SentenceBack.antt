@@ -12,7 +12,7 @@ use Rattle.grammar_machine.specs.MachineParts.{modifier}
 use Rattle.grammar_machine.specs.MachineStatements.{closings, pieces_of, statement_pieces}
 use Rattle.grammar_machine.specs.MachineStack.{Value, Stated, Modifying, Parsed, Values, top, stated, parsed, below, kept_stated, kept_parsed, with_statement, LineNumber, within, Form, ClauseIn, AddStatement, Modify, Symbol, Close, Do, Go, Await, AwaitClause, Modifiers, OneStatement, MoreStatements}
 use Rattle.grammar_machine.specs.MachineSentences.{Class, Choice, Head, Simple, Sentence, sentence_of, modifier_of}
-use Rattle.grammar_machine.specs.MachineMoves.{MachineMove, Takes, Skips, Refuses, then_also, no_clause, behind_clause, clause_sentence, clause_move, form_move_with, form_move, behind_class, statement_move, one_statement, modified, modifiers, more_statements}
+use Rattle.grammar_machine.specs.MachineMoves.{MachineMove, Shifts, Skips, Refuses, then_also, no_clause, behind_clause, clause_sentence, clause_move, form_move_with, form_move, behind_class, statement_move, one_statement, modified, modifiers, more_statements}
 use Rattle.grammar_machine.specs.MachineMoves.{Closes as Ends}
 use Rattle.grammar_machine.proofs.MachineReads.{taken, Reads, modifiers_steps, AreModifiers, modified_by, place_pieces, separated}
 use Rattle.grammar_machine.proofs.FormLeads.{Says, Modifies}
@@ -27,7 +27,7 @@ use Rattle.grammar_machine.proofs.SoundSentences.{sentence_sound, modifier_sound
 
 -- what a form and the symbols behind it spell, another symbol spells
 pub then_back : (s : Symbol) (f : Form) (more : List Symbol) (vs : Values) (t : Word) → ((k : List Symbol) (q : List LevelStep) (u : Values) → Spelled (Go f ∷ (more ++ k)) vs q u → Spelled (s ∷ k) vs q u) → (m : MachineMove) → MoveBack (Go f) vs (Some t) m → MoveBack s vs (Some t) (then_also more m)
-then_back s f more vs t sub (Takes b vs' ns) back = λ k q u h. sub k (taken b t ∷ q) u (back (more ++ k) q u (subst (λ x. Spelled x vs' q u) (append_assoc ns more k) h))
+then_back s f more vs t sub (Shifts b vs' ns) back = λ k q u h. sub k (taken b t ∷ q) u (back (more ++ k) q u (subst (λ x. Spelled x vs' q u) (append_assoc ns more k) h))
 then_back s f more vs t sub (Skips vs') back = tt
 then_back s f more vs t sub (Ends vs') back = tt
 then_back s f more vs t sub Refuses back = tt
@@ -118,7 +118,7 @@ clause_sentence_back : (g : ClauseTree → Form) (vs : Values) (t : Word) (o : O
 clause_sentence_back g vs t None e = tt
 clause_sentence_back g vs t (Some s) e = class_back g vs t s.class s.form (λ p v r. sentence_sound t s e p v r)
 
-line_clause : (g : ClauseTree → Form) (vs : Values) (n : ℕ) (b : Bool) → within LineNumber n ≡ b → MoveBack (Go (ClauseIn g)) vs (Some (Number n)) (cond b (Takes false vs (Close ∷ Go (g (LineClause n)) ∷ [])) Refuses)
+line_clause : (g : ClauseTree → Form) (vs : Values) (n : ℕ) (b : Bool) → within LineNumber n ≡ b → MoveBack (Go (ClauseIn g)) vs (Some (Number n)) (cond b (Shifts false vs (Close ∷ Go (g (LineClause n)) ∷ [])) Refuses)
 line_clause g vs n false e = tt
 line_clause g vs n true e = λ k q u h.
     let x = h.2 in
@@ -136,8 +136,8 @@ go_back f vs o = form_back clause_move clause_back f vs o
 
 -- what a form spells from the values below, a waiting symbol spells
 await_through : (s : Symbol) (f : Form) (vs vs' : Values) (o : Option Word) → ((k : List Symbol) (q : List LevelStep) (u : Values) → Spelled (Go f ∷ k) vs' q u → Spelled (s ∷ k) vs q u) → (m : MachineMove) → MoveBack (Go f) vs' o m → MoveBack s vs o m
-await_through s f vs vs' None sub (Takes b ws ns) h = tt
-await_through s f vs vs' (Some t) sub (Takes b ws ns) h = λ k q u x. sub k (taken b t ∷ q) u (h k q u x)
+await_through s f vs vs' None sub (Shifts b ws ns) h = tt
+await_through s f vs vs' (Some t) sub (Shifts b ws ns) h = λ k q u x. sub k (taken b t ∷ q) u (h k q u x)
 await_through s f vs vs' None sub (Skips ws) h = λ k q u x. sub k q u (h k q u x)
 await_through s f vs vs' (Some t) sub (Skips ws) h = λ k q u x. sub k q u (h k q u x)
 await_through s f vs vs' None sub (Ends ws) h = λ k q u x. sub k (Closes ∷ q) u (h k q u x)

@@ -25,7 +25,7 @@ use Rattle.grammar_machine.specs.MachineStarts.{Start, takes, atom, signed, star
 
 pub data MachineMove : Type 0 where
   -- it takes the word, which opens a level or does not
-  Takes : Bool → Values → List Symbol → MachineMove
+  Shifts : Bool → Values → List Symbol → MachineMove
   Skips : Values → MachineMove
   -- a level ends
   Closes : Values → MachineMove
@@ -33,7 +33,7 @@ pub data MachineMove : Type 0 where
 
 abbrev pub begun : Option Start → MachineMove
 begun None = Refuses
-begun (Some s) = Takes s.opens s.values s.expected
+begun (Some s) = Shifts s.opens s.values s.expected
 
 abbrev pub begin : ℕ → Want → Values → Option Word → MachineMove
 begin l w vs None = Refuses
@@ -53,7 +53,7 @@ right_of operator.Imp is_textual = Level 9 (want_of is_textual)
 right_of operator.Eqv is_textual = Level 10 (want_of is_textual)
 
 abbrev pub joined : Bool → ℕ → Operator → Bool → Values → MachineMove
-joined true l o is_textual vs = Takes false vs (right_of o is_textual ∷ Do (MakeOperation o) ∷ More l ∷ [])
+joined true l o is_textual vs = Shifts false vs (right_of o is_textual ∷ Do (MakeOperation o) ∷ More l ∷ [])
 joined false l o is_textual vs = Skips (kept vs)
 
 abbrev pub more_of : ℕ → Option Operator → Bool → Values → MachineMove
@@ -69,51 +69,51 @@ no_relation must_be_number is_textual vs = Skips (kept vs)
 
 abbrev pub related : Option Relation → Bool → Bool → Values → MachineMove
 related None must_be_number is_textual vs = no_relation must_be_number is_textual vs
-related (Some r) must_be_number is_textual vs = Takes false vs (Level 4 (want_of is_textual) ∷ Do (MakeComparison r) ∷ MoreRelations must_be_number ∷ [])
+related (Some r) must_be_number is_textual vs = Shifts false vs (Level 4 (want_of is_textual) ∷ Do (MakeComparison r) ∷ MoreRelations must_be_number ∷ [])
 
 abbrev pub exponent : Values → Option Word → MachineMove
 exponent vs None = Refuses
 exponent vs (Some t) = begun (signed want.Number vs Exponent t (atom want.Number vs t))
 
 abbrev pub expect : Sign → Values → Option Word → MachineMove
-expect s vs (Some (Punctuation t)) = cond (is_same_sign s t) (Takes false vs []) Refuses
+expect s vs (Some (Punctuation t)) = cond (is_same_sign s t) (Shifts false vs []) Refuses
 expect s vs other = Refuses
 
 abbrev pub open_list : Values → Option Word → MachineMove
-open_list vs (Some (Punctuation sign.Opening)) = Takes true vs []
+open_list vs (Some (Punctuation sign.Opening)) = Shifts true vs []
 open_list vs other = Refuses
 
 abbrev pub subscripts : Name → Values → Option Word → MachineMove
 subscripts name vs (Some (Punctuation sign.Opening)) =
-    Takes true (Several NoTrees ∷ vs) (Level loosest want.Number ∷ Do Collect ∷ SecondSubscript ∷ Expect sign.Closing ∷ Close ∷ Do (MakeElement name) ∷ [])
+    Shifts true (Several NoTrees ∷ vs) (Level loosest want.Number ∷ Do Collect ∷ SecondSubscript ∷ Expect sign.Closing ∷ Close ∷ Do (MakeElement name) ∷ [])
 subscripts name vs other = Skips (Term (Variable name) ∷ vs)
 
 abbrev pub second_subscript : Values → Option Word → MachineMove
-second_subscript vs (Some (Punctuation sign.Comma)) = Takes false vs (Level loosest want.Number ∷ Do Collect ∷ [])
+second_subscript vs (Some (Punctuation sign.Comma)) = Shifts false vs (Level loosest want.Number ∷ Do Collect ∷ [])
 second_subscript vs other = Skips (kept_several vs)
 
 abbrev pub arguments : Name → Values → Option Word → MachineMove
 arguments name vs (Some (Punctuation sign.Opening)) =
-    Takes true (Several NoTrees ∷ vs) (Level loosest want.Either ∷ Do Collect ∷ MoreArguments ∷ Expect sign.Closing ∷ Close ∷ Do (MakeCall name) ∷ [])
+    Shifts true (Several NoTrees ∷ vs) (Level loosest want.Either ∷ Do Collect ∷ MoreArguments ∷ Expect sign.Closing ∷ Close ∷ Do (MakeCall name) ∷ [])
 arguments name vs other = Skips (Term (Call name NoTrees) ∷ vs)
 
 abbrev pub more_arguments : Values → Option Word → MachineMove
-more_arguments vs (Some (Punctuation sign.Comma)) = Takes false vs (Level loosest want.Either ∷ Do Collect ∷ MoreArguments ∷ [])
+more_arguments vs (Some (Punctuation sign.Comma)) = Shifts false vs (Level loosest want.Either ∷ Do Collect ∷ MoreArguments ∷ [])
 more_arguments vs other = Skips (kept_several vs)
 
 -- ---- statements
 
 -- what is expected behind what was taken; nothing is skipped there
 abbrev pub then_also : List Symbol → MachineMove → MachineMove
-then_also more (Takes opens vs ks) = Takes opens vs (ks ++ more)
+then_also more (Shifts opens vs ks) = Shifts opens vs (ks ++ more)
 then_also more other = Refuses
 
 abbrev pub take_key : Bool → Keyword → Values → Option Word → List Symbol → MachineMove → MachineMove
-take_key opens k vs (Some (Key l)) more else_move = cond (is_same_keyword k l) (Takes opens vs more) else_move
+take_key opens k vs (Some (Key l)) more else_move = cond (is_same_keyword k l) (Shifts opens vs more) else_move
 take_key opens k vs other more else_move = else_move
 
 abbrev pub take_sign : Bool → Sign → Values → Option Word → List Symbol → MachineMove → MachineMove
-take_sign opens s vs (Some (Punctuation t)) more else_move = cond (is_same_sign s t) (Takes opens vs more) else_move
+take_sign opens s vs (Some (Punctuation t)) more else_move = cond (is_same_sign s t) (Shifts opens vs more) else_move
 take_sign opens s vs other more else_move = else_move
 
 abbrev pub expression : Want → (Tree → Form) → Values → Option Word → MachineMove
@@ -124,32 +124,32 @@ expression_if test w g vs None else_move = else_move
 expression_if test w g vs (Some t) else_move = cond (test t) (expression w g vs (Some t)) else_move
 
 abbrev pub target : Want → (Tree → Form) → Values → Option Word → MachineMove
-target w g vs (Some (Named name)) = cond (takes w name.text) (Takes false vs (Subscripts name ∷ Await g ∷ [])) Refuses
+target w g vs (Some (Named name)) = cond (takes w name.text) (Shifts false vs (Subscripts name ∷ Await g ∷ [])) Refuses
 target w g vs other = Refuses
 
 abbrev pub name_in : Want → (Name → Form) → Values → Option Word → MachineMove
-name_in w g vs (Some (Named name)) = cond (takes w name.text) (Takes false vs (Go (g name) ∷ [])) Refuses
+name_in w g vs (Some (Named name)) = cond (takes w name.text) (Shifts false vs (Go (g name) ∷ [])) Refuses
 name_in w g vs other = Refuses
 
 abbrev pub fn_name_in : (Name → Form) → Values → Option Word → MachineMove
-fn_name_in g vs (Some (FnNamed name)) = Takes false vs (Go (g name) ∷ [])
+fn_name_in g vs (Some (FnNamed name)) = Shifts false vs (Go (g name) ∷ [])
 fn_name_in g vs other = Refuses
 
 abbrev pub literal_in : Limit → (ℕ → Form) → Values → Option Word → MachineMove → MachineMove
-literal_in limit g vs (Some (Number n)) else_move = cond (within limit n) (Takes false vs (Go (g n) ∷ [])) else_move
+literal_in limit g vs (Some (Number n)) else_move = cond (within limit n) (Shifts false vs (Go (g n) ∷ [])) else_move
 literal_in limit g vs other else_move = else_move
 
 abbrev pub quoted_if : (List ℕ → Form) → Values → Option Word → MachineMove → MachineMove
-quoted_if g vs (Some (Quotation text)) else_move = Takes false vs (Go (g text) ∷ [])
+quoted_if g vs (Some (Quotation text)) else_move = Shifts false vs (Go (g text) ∷ [])
 quoted_if g vs other else_move = else_move
 
 abbrev pub item_in : (List ℕ → Form) → Values → Option Word → MachineMove → MachineMove
-item_in g vs (Some (ItemOf item)) else_move = Takes false vs (Go (g item) ∷ [])
+item_in g vs (Some (ItemOf item)) else_move = Shifts false vs (Go (g item) ∷ [])
 item_in g vs other else_move = else_move
 
 abbrev pub more_of_list : Sequence → List Item → (List Item → Form) → Values → Option Word → MachineMove → MachineMove
 more_of_list s items g vs (Some (Punctuation sign.Comma)) else_move =
-    cond (has_room s items) (Takes false vs (Go (item_form s (λ item. MoreOf s (items ++ item ∷ []) g)) ∷ [])) else_move
+    cond (has_room s items) (Shifts false vs (Go (item_form s (λ item. MoreOf s (items ++ item ∷ []) g)) ∷ [])) else_move
 more_of_list s items g vs other else_move = else_move
 
 -- behind TAB
@@ -204,7 +204,7 @@ clause_sentence g vs t (Some s) = behind_clause g s.class (form_move_with no_cla
 
 abbrev pub clause_move : (ClauseTree → Form) → Values → Option Word → MachineMove
 clause_move g vs None = Refuses
-clause_move g vs (Some (Number n)) = cond (within LineNumber n) (Takes false vs (Close ∷ Go (g (LineClause n)) ∷ [])) Refuses
+clause_move g vs (Some (Number n)) = cond (within LineNumber n) (Shifts false vs (Close ∷ Go (g (LineClause n)) ∷ [])) Refuses
 clause_move g vs (Some t) = clause_sentence g vs t (sentence_of t)
 
 abbrev pub form_move : Form → Values → Option Word → MachineMove

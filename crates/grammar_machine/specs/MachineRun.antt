@@ -2,7 +2,7 @@
 use Rattle.std.specs.Prelude.{ℕ, zero, suc, List, [], ◌∷◌, ◌++◌, Bool, true, false, Option, Some, None, Result, Ok, Err}
 use Rattle.basic_tree.specs.SpellingWords.{Word}
 use Rattle.grammar_machine.specs.MachineStack.{Values, Symbol}
-use Rattle.grammar_machine.specs.MachineMoves.{MachineMove, Takes, Skips, Closes, Refuses, move}
+use Rattle.grammar_machine.specs.MachineMoves.{MachineMove, Shifts, Skips, Closes, Refuses, move}
 
 -- a move of the topmost symbol, and of those below it until a word is taken
 pub data Turn : Type 0 where
@@ -18,7 +18,7 @@ entered true zero vs k = Deep
 entered true (suc n) vs k = Next n vs k
 
 abbrev pub moved : MachineMove → ℕ → List Symbol → (ℕ → Values → Turn) → Turn
-moved (Takes opens vs more) n k skip = entered opens n vs (more ++ k)
+moved (Shifts opens vs more) n k skip = entered opens n vs (more ++ k)
 moved (Skips vs) n k skip = skip n vs
 moved (Closes vs) n k skip = skip (suc n) vs
 moved Refuses n k skip = Stuck

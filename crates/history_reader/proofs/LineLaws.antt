@@ -11,7 +11,7 @@ use Rattle.deck_model.specs.Histories.{entry_line, history_text}
 use Rattle.history_reader.specs.Counts.{is_count}
 use Rattle.history_reader.specs.declared.failures.LineError.{LineError}
 use Rattle.history_reader.specs.declared.failures.LineError.TheVariants.{Wrong, Memory}
-use Rattle.history_reader.specs.LineFields.{Gives}
+use Rattle.history_reader.specs.LineFields.{ReadsAs}
 use Rattle.history_reader.specs.LineForms.{entry_read, taken_read}
 use Rattle.history_reader.specs.SoFar.{heading_text, SoFar, NoHeading, NoEntry, TakesEntry}
 use Rattle.history_reader.proofs.CountLaws.{any_decimal_lacks, shown_count, count_shown}
@@ -97,7 +97,7 @@ taken_is text line x e =
     some_is : {A : Type 0} (a b : A) → Some a ≡ Some b → a ≡ b
     some_is a b e = cc
 
-pub takes_entry : {X : Type 0} (view : X → Entry × List ℕ) (text line after : List ℕ) (r : Result X LineError) → cut 10 text ≡ Some (line, after) → Gives view r (taken_read line text) → IfOk r (λ x. IsProperEntry (view x).0) → TakesEntry view text r
+pub takes_entry : {X : Type 0} (view : X → Entry × List ℕ) (text line after : List ℕ) (r : Result X LineError) → cut 10 text ≡ Some (line, after) → ReadsAs view r (taken_read line text) → IfOk r (λ x. IsProperEntry (view x).0) → TakesEntry view text r
 takes_entry view text line after (Ok x) found read proper = (proper, taken_is text line (view x) read)
 takes_entry view text line after (Err Wrong) found read proper = λ e more good same. none_some (taken_read line text) (e, more) read (taken_again e text line after more found good same)
 takes_entry view text line after (Err Memory) found read proper = tt

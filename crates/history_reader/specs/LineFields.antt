@@ -17,10 +17,10 @@ use Rattle.history_reader.specs.declared.failures.LineError.{LineError}
 use Rattle.history_reader.specs.declared.failures.LineError.TheVariants.{Wrong, Memory}
 
 -- what was answered, seen by view, is what reading finds, unless memory ran out
-abbrev pub Gives : {X Y : Type 0} → (X → Y) → Result X LineError → Option Y → Type 0
-Gives view (Ok x) read = read ≡ Some (view x)
-Gives view (Err Wrong) read = read ≡ None
-Gives view (Err Memory) read = ⊤
+abbrev pub ReadsAs : {X Y : Type 0} → (X → Y) → Result X LineError → Option Y → Type 0
+ReadsAs view (Ok x) read = read ≡ Some (view x)
+ReadsAs view (Err Wrong) read = read ≡ None
+ReadsAs view (Err Memory) read = ⊤
 
 -- WORDS
 

@@ -4,7 +4,7 @@ ghost use Rattle.std.specs.Prelude.{◌≡◌, IfOk};
 ghost use Rattle.basic_values.specs.Cuts.{behind};
 ghost use Rattle.monitor_calls.specs.Proper.{IsProperEntry};
 ghost use Rattle.deck_model.specs.Histories.{entry_line};
-ghost use Rattle.history_reader.specs.LineFields.{Gives};
+ghost use Rattle.history_reader.specs.LineFields.{ReadsAs};
 ghost use Rattle.history_reader.specs.LineForms.{entry_read, taken_read};
 ghost use Rattle.history_reader.specs.SoFar.{TakesEntry};
 
@@ -32,7 +32,7 @@ pub(crate) fn entry(alloc: Global, text: &[u8]) -> Result<(Entry, &[u8]), LineEr
 /// The entry of a line, and what stands behind it in the text that it is in front of.
 #[tactic(auto, unfolding(crate::specs::LineForms::taken_read))]
 fn taken<'a>(alloc: Global, line: &[u8], text: &'a [u8]) -> Result<(Entry, &'a [u8]), LineError>
-    ensures read { Gives (λ x. (x.0, x.1.now)) result (taken_read line.now text.now) }
+    ensures read { ReadsAs (λ x. (x.0, x.1.now)) result (taken_read line.now text.now) }
     ensures proper { IfOk result (λ x. IsProperEntry x.0) }
 {
     let entry = parsed(alloc, line)?;
@@ -43,7 +43,7 @@ fn taken<'a>(alloc: Global, line: &[u8], text: &'a [u8]) -> Result<(Entry, &'a [
 /// What a line says, where it is an entry's.
 #[tactic(auto, unfolding(crate::specs::LineForms::entry_read))]
 fn parsed(alloc: Global, line: &[u8]) -> Result<Entry, LineError>
-    ensures read { Gives (λ x. x) result (entry_read line.now) }
+    ensures read { ReadsAs (λ x. x) result (entry_read line.now) }
     ensures proper { IfOk result (λ entry. IsProperEntry entry) }
 {
     let (job, rest) = long_field(line)?;
@@ -55,7 +55,7 @@ fn parsed(alloc: Global, line: &[u8]) -> Result<Entry, LineError>
 
 /// What stands behind the line of an entry, where that is in front.
 fn behind_line<'a>(alloc: Global, entry: &Entry, text: &'a [u8]) -> Result<&'a [u8], LineError>
-    ensures { Gives (λ x. x.now) result (behind (entry_line entry.now) text.now) }
+    ensures { ReadsAs (λ x. x.now) result (behind (entry_line entry.now) text.now) }
 {
     let mut history = Vec::new(alloc);
     push_history(&mut history, slice::from_ref(entry))?;
@@ -67,7 +67,7 @@ fn behind_line<'a>(alloc: Global, entry: &Entry, text: &'a [u8]) -> Result<&'a [
 
 /// The text without the line that is in front.
 fn stripped<'a>(line: &[u8], text: &'a [u8]) -> Result<&'a [u8], LineError>
-    ensures { Gives (λ x. x.now) result (behind line.now text.now) }
+    ensures { ReadsAs (λ x. x.now) result (behind line.now text.now) }
 {
     behind(line, text).ok_or(LineError::Wrong)
 }

@@ -3,7 +3,7 @@
 
 ghost use Rattle.std.specs.Prelude.{◌≡◌};
 ghost use Rattle.basic_values.specs.Cuts.{Finds, cut};
-ghost use Rattle.history_reader.specs.LineFields.{Gives, word_read, field_by, byte_read, half_read, long_read, account_read, short_read, stem_of, name_read, letters_read, truth_read, kind_read, code_read, blocks_read};
+ghost use Rattle.history_reader.specs.LineFields.{ReadsAs, word_read, field_by, byte_read, half_read, long_read, account_read, short_read, stem_of, name_read, letters_read, truth_read, kind_read, code_read, blocks_read};
 
 use crate::failures::LineError;
 use basic_values::{behind, cut, number_between};
@@ -23,7 +23,7 @@ pub(crate) fn word(text: &[u8]) -> (&[u8], &[u8])
 /// A number of a byte.
 #[tactic(auto, unfolding(crate::specs::LineFields::field_by))]
 pub(crate) fn byte_field(text: &[u8]) -> Result<(u8, &[u8]), LineError>
-    ensures { Gives (λ x. (x.0, x.1.now)) result (field_by byte_read text.now) }
+    ensures { ReadsAs (λ x. (x.0, x.1.now)) result (field_by byte_read text.now) }
 {
     let (word, rest) = word(text);
     let value = byte(word).ok_or(LineError::Wrong)?;
@@ -33,7 +33,7 @@ pub(crate) fn byte_field(text: &[u8]) -> Result<(u8, &[u8]), LineError>
 /// A number of two bytes.
 #[tactic(auto, unfolding(crate::specs::LineFields::field_by))]
 pub(crate) fn half_field(text: &[u8]) -> Result<(u16, &[u8]), LineError>
-    ensures { Gives (λ x. (x.0, x.1.now)) result (field_by half_read text.now) }
+    ensures { ReadsAs (λ x. (x.0, x.1.now)) result (field_by half_read text.now) }
 {
     let (word, rest) = word(text);
     let value = half(word).ok_or(LineError::Wrong)?;
@@ -43,7 +43,7 @@ pub(crate) fn half_field(text: &[u8]) -> Result<(u16, &[u8]), LineError>
 /// A number of four bytes.
 #[tactic(auto, unfolding(crate::specs::LineFields::field_by))]
 pub(crate) fn long_field(text: &[u8]) -> Result<(u32, &[u8]), LineError>
-    ensures { Gives (λ x. (x.0, x.1.now)) result (field_by long_read text.now) }
+    ensures { ReadsAs (λ x. (x.0, x.1.now)) result (field_by long_read text.now) }
 {
     let (word, rest) = word(text);
     let value = long(word).ok_or(LineError::Wrong)?;
@@ -53,7 +53,7 @@ pub(crate) fn long_field(text: &[u8]) -> Result<(u32, &[u8]), LineError>
 /// An account, as `p,n`.
 #[tactic(auto, unfolding(crate::specs::LineFields::field_by))]
 pub(crate) fn account_field(text: &[u8]) -> Result<(Account, &[u8]), LineError>
-    ensures { Gives (λ x. (x.0, x.1.now)) result (field_by account_read text.now) }
+    ensures { ReadsAs (λ x. (x.0, x.1.now)) result (field_by account_read text.now) }
 {
     let (word, rest) = word(text);
     let value = account(word).ok_or(LineError::Wrong)?;
@@ -63,7 +63,7 @@ pub(crate) fn account_field(text: &[u8]) -> Result<(Account, &[u8]), LineError>
 /// 1 for true, 0 for false.
 #[tactic(auto, unfolding(crate::specs::LineFields::field_by))]
 pub(crate) fn truth_field(text: &[u8]) -> Result<(bool, &[u8]), LineError>
-    ensures { Gives (λ x. (x.0, x.1.now)) result (field_by truth_read text.now) }
+    ensures { ReadsAs (λ x. (x.0, x.1.now)) result (field_by truth_read text.now) }
 {
     let (word, rest) = word(text);
     let value = truth(word).ok_or(LineError::Wrong)?;
@@ -73,7 +73,7 @@ pub(crate) fn truth_field(text: &[u8]) -> Result<(bool, &[u8]), LineError>
 /// What is wanted of a file that is opened.
 #[tactic(auto, unfolding(crate::specs::LineFields::field_by))]
 pub(crate) fn kind_field(text: &[u8]) -> Result<(OpenKind, &[u8]), LineError>
-    ensures { Gives (λ x. (x.0, x.1.now)) result (field_by kind_read text.now) }
+    ensures { ReadsAs (λ x. (x.0, x.1.now)) result (field_by kind_read text.now) }
 {
     let (word, rest) = word(text);
     let value = kind(word).ok_or(LineError::Wrong)?;
@@ -83,7 +83,7 @@ pub(crate) fn kind_field(text: &[u8]) -> Result<(OpenKind, &[u8]), LineError>
 /// A code, or a dash where there is none.
 #[tactic(auto, unfolding(crate::specs::LineFields::field_by))]
 pub(crate) fn code_field(text: &[u8]) -> Result<(Option<u8>, &[u8]), LineError>
-    ensures { Gives (λ x. (x.0, x.1.now)) result (field_by code_read text.now) }
+    ensures { ReadsAs (λ x. (x.0, x.1.now)) result (field_by code_read text.now) }
 {
     let (word, rest) = word(text);
     let value = code(word).ok_or(LineError::Wrong)?;
@@ -93,7 +93,7 @@ pub(crate) fn code_field(text: &[u8]) -> Result<(Option<u8>, &[u8]), LineError>
 /// How many blocks a file has, or a dash.
 #[tactic(auto, unfolding(crate::specs::LineFields::field_by))]
 pub(crate) fn blocks_field(text: &[u8]) -> Result<(Option<u16>, &[u8]), LineError>
-    ensures { Gives (λ x. (x.0, x.1.now)) result (field_by blocks_read text.now) }
+    ensures { ReadsAs (λ x. (x.0, x.1.now)) result (field_by blocks_read text.now) }
 {
     let (word, rest) = word(text);
     let value = blocks(word).ok_or(LineError::Wrong)?;

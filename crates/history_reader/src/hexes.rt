@@ -4,7 +4,7 @@ ghost use Rattle.std.specs.Prelude.{◌≡◌, ◌*◌, ◌<◌, ◌≤◌, leng
 ghost use Rattle.basic_values.specs.declared.limits.TheConstants.{BLOCK_BYTES};
 ghost use Rattle.basic_values.specs.declared.texts.TheConstants.{MOST_BYTES};
 ghost use Rattle.deck_model.specs.Files.{pages_of};
-ghost use Rattle.history_reader.specs.LineFields.{Gives, field_by, sign_value, hex_bytes, password_read, message_read, one_page_read, page_run_read};
+ghost use Rattle.history_reader.specs.LineFields.{ReadsAs, field_by, sign_value, hex_bytes, password_read, message_read, one_page_read, page_run_read};
 
 use crate::failures::LineError;
 use crate::fields::word;
@@ -16,7 +16,7 @@ use std::alloc::Global;
 /// A text of at most 32,767 bytes.
 #[tactic(auto, unfolding(crate::specs::LineFields::field_by))]
 pub(crate) fn text_field(alloc: Global, text: &[u8]) -> Result<(Text, &[u8]), LineError>
-    ensures { Gives (λ x. (x.0, x.1.now)) result (field_by message_read text.now) }
+    ensures { ReadsAs (λ x. (x.0, x.1.now)) result (field_by message_read text.now) }
 {
     let (word, rest) = word(text);
     let value = message(alloc, word)?;
@@ -26,7 +26,7 @@ pub(crate) fn text_field(alloc: Global, text: &[u8]) -> Result<(Text, &[u8]), Li
 /// A block.
 #[tactic(auto, unfolding(crate::specs::LineFields::field_by))]
 pub(crate) fn page_field(alloc: Global, text: &[u8]) -> Result<(Page, &[u8]), LineError>
-    ensures { Gives (λ x. (x.0, x.1.now)) result (field_by one_page_read text.now) }
+    ensures { ReadsAs (λ x. (x.0, x.1.now)) result (field_by one_page_read text.now) }
 {
     let (word, rest) = word(text);
     let value = page(alloc, word)?;
@@ -36,7 +36,7 @@ pub(crate) fn page_field(alloc: Global, text: &[u8]) -> Result<(Page, &[u8]), Li
 /// Blocks in one run.
 #[tactic(auto, unfolding(crate::specs::LineFields::field_by))]
 pub(crate) fn pages_field(alloc: Global, text: &[u8]) -> Result<(Series<Page>, &[u8]), LineError>
-    ensures { Gives (λ x. (x.0, x.1.now)) result (field_by page_run_read text.now) }
+    ensures { ReadsAs (λ x. (x.0, x.1.now)) result (field_by page_run_read text.now) }
 {
     let (word, rest) = word(text);
     let value = pages(alloc, word)?;
@@ -46,7 +46,7 @@ pub(crate) fn pages_field(alloc: Global, text: &[u8]) -> Result<(Series<Page>, &
 /// A password.
 #[tactic(auto, unfolding(crate::specs::LineFields::password_read, crate::specs::LineFields::short_read))]
 pub(crate) fn password(alloc: Global, signs: &[u8]) -> Result<Short, LineError>
-    ensures { Gives (λ x. x) result (password_read signs.now) }
+    ensures { ReadsAs (λ x. x) result (password_read signs.now) }
 {
     let bytes = bytes_of(alloc, signs)?;
     Short::of(bytes.as_slice()).ok_or(LineError::Wrong)
@@ -54,7 +54,7 @@ pub(crate) fn password(alloc: Global, signs: &[u8]) -> Result<Short, LineError>
 
 #[tactic(auto, unfolding(crate::specs::LineFields::message_read))]
 fn message(alloc: Global, signs: &[u8]) -> Result<Text, LineError>
-    ensures { Gives (λ x. x) result (message_read signs.now) }
+    ensures { ReadsAs (λ x. x) result (message_read signs.now) }
 {
     let bytes = bytes_of(alloc, signs)?;
     match Text::of(alloc, bytes.as_slice()) {
@@ -66,7 +66,7 @@ fn message(alloc: Global, signs: &[u8]) -> Result<Text, LineError>
 
 #[tactic(auto, unfolding(crate::specs::LineFields::one_page_read))]
 fn page(alloc: Global, signs: &[u8]) -> Result<Page, LineError>
-    ensures { Gives (λ x. x) result (one_page_read signs.now) }
+    ensures { ReadsAs (λ x. x) result (one_page_read signs.now) }
 {
     let bytes = bytes_of(alloc, signs)?;
     if bytes.len() != BLOCK_BYTES {
@@ -77,7 +77,7 @@ fn page(alloc: Global, signs: &[u8]) -> Result<Page, LineError>
 
 #[tactic(auto, unfolding(crate::specs::LineFields::page_run_read))]
 fn pages(alloc: Global, signs: &[u8]) -> Result<Series<Page>, LineError>
-    ensures { Gives (λ x. x) result (page_run_read signs.now) }
+    ensures { ReadsAs (λ x. x) result (page_run_read signs.now) }
 {
     let bytes = bytes_of(alloc, signs)?;
     let count = bytes.len() / BLOCK_BYTES;

@@ -1,7 +1,7 @@
 //! The replies of lines.
 
 ghost use Rattle.std.specs.Prelude.{◌≡◌};
-ghost use Rattle.history_reader.specs.LineFields.{Gives};
+ghost use Rattle.history_reader.specs.LineFields.{ReadsAs};
 ghost use Rattle.history_reader.specs.LineForms.{opened_read, block_read, record_read, file_reply_read, letter_read, state_read, failed_read, told_reply_read, reply_by, reply_read};
 
 use crate::failures::LineError;
@@ -16,7 +16,7 @@ use std::alloc::Global;
 /// The reply that a text begins with.
 #[tactic(auto, unfolding(crate::specs::LineForms::reply_read))]
 pub(crate) fn reply(alloc: Global, text: &[u8]) -> Result<Reply, LineError>
-    ensures { Gives (λ x. x) result (reply_read text.now) }
+    ensures { ReadsAs (λ x. x) result (reply_read text.now) }
 {
     let (word, rest) = word(text);
     reply_by(alloc, word, rest)
@@ -24,7 +24,7 @@ pub(crate) fn reply(alloc: Global, text: &[u8]) -> Result<Reply, LineError>
 
 #[tactic(auto, unfolding(crate::specs::LineForms::reply_by))]
 fn reply_by(alloc: Global, word: &[u8], rest: &[u8]) -> Result<Reply, LineError>
-    ensures { Gives (λ x. x) result (reply_by word.now rest.now) }
+    ensures { ReadsAs (λ x. x) result (reply_by word.now rest.now) }
 {
     if word == b"DONE".as_slice() {
         Ok(Reply::Done)
@@ -46,7 +46,7 @@ fn reply_by(alloc: Global, word: &[u8], rest: &[u8]) -> Result<Reply, LineError>
 /// A reply that tells of a file, of a message or of the job.
 #[tactic(auto, unfolding(crate::specs::LineForms::told_reply_read))]
 fn told_reply(alloc: Global, word: &[u8], rest: &[u8]) -> Result<Reply, LineError>
-    ensures { Gives (λ x. x) result (told_reply_read word.now rest.now) }
+    ensures { ReadsAs (λ x. x) result (told_reply_read word.now rest.now) }
 {
     if word == b"NAME".as_slice() {
         file_reply(rest)
@@ -61,7 +61,7 @@ fn told_reply(alloc: Global, word: &[u8], rest: &[u8]) -> Result<Reply, LineErro
 
 #[tactic(auto, unfolding(crate::specs::LineForms::failed_read))]
 fn failed(text: &[u8]) -> Result<Reply, LineError>
-    ensures { Gives (λ x. x) result (failed_read text.now) }
+    ensures { ReadsAs (λ x. x) result (failed_read text.now) }
 {
     let (number, _) = byte_field(text)?;
     Ok(Reply::Failed(Fault::new(number)))
@@ -69,7 +69,7 @@ fn failed(text: &[u8]) -> Result<Reply, LineError>
 
 #[tactic(auto, unfolding(crate::specs::LineForms::opened_read))]
 fn opened(text: &[u8]) -> Result<Reply, LineError>
-    ensures { Gives (λ x. x) result (opened_read text.now) }
+    ensures { ReadsAs (λ x. x) result (opened_read text.now) }
 {
     let (blocks, rest) = half_field(text)?;
     let (read, rest) = truth_field(rest)?;
@@ -83,7 +83,7 @@ fn opened(text: &[u8]) -> Result<Reply, LineError>
 
 #[tactic(auto, unfolding(crate::specs::LineForms::block_read))]
 fn block(alloc: Global, text: &[u8]) -> Result<Reply, LineError>
-    ensures { Gives (λ x. x) result (block_read text.now) }
+    ensures { ReadsAs (λ x. x) result (block_read text.now) }
 {
     let (page, _) = page_field(alloc, text)?;
     Ok(Reply::Block(page))
@@ -91,7 +91,7 @@ fn block(alloc: Global, text: &[u8]) -> Result<Reply, LineError>
 
 #[tactic(auto, unfolding(crate::specs::LineForms::record_read))]
 fn record(alloc: Global, text: &[u8]) -> Result<Reply, LineError>
-    ensures { Gives (λ x. x) result (record_read text.now) }
+    ensures { ReadsAs (λ x. x) result (record_read text.now) }
 {
     let (pages, _) = pages_field(alloc, text)?;
     Ok(Reply::Record(pages))
@@ -99,7 +99,7 @@ fn record(alloc: Global, text: &[u8]) -> Result<Reply, LineError>
 
 #[tactic(auto, unfolding(crate::specs::LineFields::field_by, crate::specs::LineForms::file_reply_read))]
 fn file_reply(text: &[u8]) -> Result<Reply, LineError>
-    ensures { Gives (λ x. x) result (file_reply_read text.now) }
+    ensures { ReadsAs (λ x. x) result (file_reply_read text.now) }
 {
     let (text, rest) = word(text);
     let name = name(text).ok_or(LineError::Wrong)?;
@@ -110,7 +110,7 @@ fn file_reply(text: &[u8]) -> Result<Reply, LineError>
 
 #[tactic(auto, unfolding(crate::specs::LineForms::letter_read))]
 fn message(alloc: Global, text: &[u8]) -> Result<Reply, LineError>
-    ensures { Gives (λ x. x) result (letter_read text.now) }
+    ensures { ReadsAs (λ x. x) result (letter_read text.now) }
 {
     let (job, rest) = long_field(text)?;
     let (account, rest) = account_field(rest)?;
@@ -124,7 +124,7 @@ fn message(alloc: Global, text: &[u8]) -> Result<Reply, LineError>
 
 #[tactic(auto, unfolding(crate::specs::LineForms::state_read))]
 fn state(text: &[u8]) -> Result<Reply, LineError>
-    ensures { Gives (λ x. x) result (state_read text.now) }
+    ensures { ReadsAs (λ x. x) result (state_read text.now) }
 {
     let (job, rest) = long_field(text)?;
     let (account, rest) = account_field(rest)?;

@@ -1,7 +1,7 @@
 //! The requests of lines.
 
 ghost use Rattle.std.specs.Prelude.{◌≡◌};
-ghost use Rattle.history_reader.specs.LineFields.{Gives};
+ghost use Rattle.history_reader.specs.LineFields.{ReadsAs};
 ghost use Rattle.history_reader.specs.LineForms.{bare_read, login_read, open_read, close_read, get_read, put_read, getrec_read, putrec_read, unlock_read, kill_read, rename_read, directory_read, declare_read, send_read, sleep_read, print_read, job_request_read, block_request_read, file_request_read, request_read};
 
 use crate::failures::LineError;
@@ -15,7 +15,7 @@ use std::alloc::Global;
 /// The request that a text begins with, and what stands behind it.
 #[tactic(auto, unfolding(crate::specs::LineForms::request_read))]
 pub(crate) fn request(alloc: Global, text: &[u8]) -> Result<(Request, &[u8]), LineError>
-    ensures { Gives (λ x. (x.0, x.1.now)) result (request_read text.now) }
+    ensures { ReadsAs (λ x. (x.0, x.1.now)) result (request_read text.now) }
 {
     let (word, rest) = word(text);
     match bare(word) {
@@ -59,7 +59,7 @@ fn file_request<'a>(
     word: &[u8],
     rest: &'a [u8],
 ) -> Result<(Request, &'a [u8]), LineError>
-    ensures { Gives (λ x. (x.0, x.1.now)) result (file_request_read word.now rest.now) }
+    ensures { ReadsAs (λ x. (x.0, x.1.now)) result (file_request_read word.now rest.now) }
 {
     if word == b"OPEN".as_slice() {
         open(rest)
@@ -83,7 +83,7 @@ fn block_request<'a>(
     word: &[u8],
     rest: &'a [u8],
 ) -> Result<(Request, &'a [u8]), LineError>
-    ensures { Gives (λ x. (x.0, x.1.now)) result (block_request_read word.now rest.now) }
+    ensures { ReadsAs (λ x. (x.0, x.1.now)) result (block_request_read word.now rest.now) }
 {
     if word == b"GET".as_slice() {
         get(rest)
@@ -107,7 +107,7 @@ fn job_request<'a>(
     word: &[u8],
     rest: &'a [u8],
 ) -> Result<(Request, &'a [u8]), LineError>
-    ensures { Gives (λ x. (x.0, x.1.now)) result (job_request_read word.now rest.now) }
+    ensures { ReadsAs (λ x. (x.0, x.1.now)) result (job_request_read word.now rest.now) }
 {
     if word == b"LOGIN".as_slice() {
         login(alloc, rest)
@@ -126,7 +126,7 @@ fn job_request<'a>(
 
 #[tactic(auto, unfolding(crate::specs::LineFields::field_by, crate::specs::LineForms::login_read))]
 fn login(alloc: Global, text: &[u8]) -> Result<(Request, &[u8]), LineError>
-    ensures { Gives (λ x. (x.0, x.1.now)) result (login_read text.now) }
+    ensures { ReadsAs (λ x. (x.0, x.1.now)) result (login_read text.now) }
 {
     let (account, rest) = account_field(text)?;
     let (text, rest) = word(rest);
@@ -136,7 +136,7 @@ fn login(alloc: Global, text: &[u8]) -> Result<(Request, &[u8]), LineError>
 
 #[tactic(auto, unfolding(crate::specs::LineFields::field_by, crate::specs::LineForms::open_read))]
 fn open(text: &[u8]) -> Result<(Request, &[u8]), LineError>
-    ensures { Gives (λ x. (x.0, x.1.now)) result (open_read text.now) }
+    ensures { ReadsAs (λ x. (x.0, x.1.now)) result (open_read text.now) }
 {
     let (channel, rest) = byte_field(text)?;
     let (text, rest) = word(rest);
@@ -158,7 +158,7 @@ fn open(text: &[u8]) -> Result<(Request, &[u8]), LineError>
 
 #[tactic(auto, unfolding(crate::specs::LineForms::close_read))]
 fn close(text: &[u8]) -> Result<(Request, &[u8]), LineError>
-    ensures { Gives (λ x. (x.0, x.1.now)) result (close_read text.now) }
+    ensures { ReadsAs (λ x. (x.0, x.1.now)) result (close_read text.now) }
 {
     let (channel, rest) = byte_field(text)?;
     Ok((Request::CloseFile { channel }, rest))
@@ -166,7 +166,7 @@ fn close(text: &[u8]) -> Result<(Request, &[u8]), LineError>
 
 #[tactic(auto, unfolding(crate::specs::LineForms::get_read))]
 fn get(text: &[u8]) -> Result<(Request, &[u8]), LineError>
-    ensures { Gives (λ x. (x.0, x.1.now)) result (get_read text.now) }
+    ensures { ReadsAs (λ x. (x.0, x.1.now)) result (get_read text.now) }
 {
     let (channel, rest) = byte_field(text)?;
     let (block, rest) = half_field(rest)?;
@@ -175,7 +175,7 @@ fn get(text: &[u8]) -> Result<(Request, &[u8]), LineError>
 
 #[tactic(auto, unfolding(crate::specs::LineForms::put_read))]
 fn put(alloc: Global, text: &[u8]) -> Result<(Request, &[u8]), LineError>
-    ensures { Gives (λ x. (x.0, x.1.now)) result (put_read text.now) }
+    ensures { ReadsAs (λ x. (x.0, x.1.now)) result (put_read text.now) }
 {
     let (channel, rest) = byte_field(text)?;
     let (block, rest) = half_field(rest)?;
@@ -192,7 +192,7 @@ fn put(alloc: Global, text: &[u8]) -> Result<(Request, &[u8]), LineError>
 
 #[tactic(auto, unfolding(crate::specs::LineForms::getrec_read))]
 fn get_record(text: &[u8]) -> Result<(Request, &[u8]), LineError>
-    ensures { Gives (λ x. (x.0, x.1.now)) result (getrec_read text.now) }
+    ensures { ReadsAs (λ x. (x.0, x.1.now)) result (getrec_read text.now) }
 {
     let (channel, rest) = byte_field(text)?;
     let (block, rest) = half_field(rest)?;
@@ -209,7 +209,7 @@ fn get_record(text: &[u8]) -> Result<(Request, &[u8]), LineError>
 
 #[tactic(auto, unfolding(crate::specs::LineForms::putrec_read))]
 fn put_record(alloc: Global, text: &[u8]) -> Result<(Request, &[u8]), LineError>
-    ensures { Gives (λ x. (x.0, x.1.now)) result (putrec_read text.now) }
+    ensures { ReadsAs (λ x. (x.0, x.1.now)) result (putrec_read text.now) }
 {
     let (channel, rest) = byte_field(text)?;
     let (block, rest) = half_field(rest)?;
@@ -226,7 +226,7 @@ fn put_record(alloc: Global, text: &[u8]) -> Result<(Request, &[u8]), LineError>
 
 #[tactic(auto, unfolding(crate::specs::LineForms::unlock_read))]
 fn unlock(text: &[u8]) -> Result<(Request, &[u8]), LineError>
-    ensures { Gives (λ x. (x.0, x.1.now)) result (unlock_read text.now) }
+    ensures { ReadsAs (λ x. (x.0, x.1.now)) result (unlock_read text.now) }
 {
     let (channel, rest) = byte_field(text)?;
     Ok((Request::Unlock { channel }, rest))
@@ -234,7 +234,7 @@ fn unlock(text: &[u8]) -> Result<(Request, &[u8]), LineError>
 
 #[tactic(auto, unfolding(crate::specs::LineFields::field_by, crate::specs::LineForms::kill_read))]
 fn kill(text: &[u8]) -> Result<(Request, &[u8]), LineError>
-    ensures { Gives (λ x. (x.0, x.1.now)) result (kill_read text.now) }
+    ensures { ReadsAs (λ x. (x.0, x.1.now)) result (kill_read text.now) }
 {
     let (text, rest) = word(text);
     let name = name(text).ok_or(LineError::Wrong)?;
@@ -243,7 +243,7 @@ fn kill(text: &[u8]) -> Result<(Request, &[u8]), LineError>
 
 #[tactic(auto, unfolding(crate::specs::LineFields::field_by, crate::specs::LineForms::rename_read))]
 fn rename(text: &[u8]) -> Result<(Request, &[u8]), LineError>
-    ensures { Gives (λ x. (x.0, x.1.now)) result (rename_read text.now) }
+    ensures { ReadsAs (λ x. (x.0, x.1.now)) result (rename_read text.now) }
 {
     let (text, rest) = word(text);
     let old = name(text).ok_or(LineError::Wrong)?;
@@ -255,7 +255,7 @@ fn rename(text: &[u8]) -> Result<(Request, &[u8]), LineError>
 
 #[tactic(auto, unfolding(crate::specs::LineForms::directory_read))]
 fn directory(text: &[u8]) -> Result<(Request, &[u8]), LineError>
-    ensures { Gives (λ x. (x.0, x.1.now)) result (directory_read text.now) }
+    ensures { ReadsAs (λ x. (x.0, x.1.now)) result (directory_read text.now) }
 {
     let (owner, rest) = account_field(text)?;
     let (index, rest) = half_field(rest)?;
@@ -264,7 +264,7 @@ fn directory(text: &[u8]) -> Result<(Request, &[u8]), LineError>
 
 #[tactic(auto, unfolding(crate::specs::LineFields::field_by, crate::specs::LineForms::declare_read))]
 fn declare(text: &[u8]) -> Result<(Request, &[u8]), LineError>
-    ensures { Gives (λ x. (x.0, x.1.now)) result (declare_read text.now) }
+    ensures { ReadsAs (λ x. (x.0, x.1.now)) result (declare_read text.now) }
 {
     let (text, rest) = word(text);
     let name = letters(text).ok_or(LineError::Wrong)?;
@@ -274,7 +274,7 @@ fn declare(text: &[u8]) -> Result<(Request, &[u8]), LineError>
 
 #[tactic(auto, unfolding(crate::specs::LineFields::field_by, crate::specs::LineForms::send_read))]
 fn send(alloc: Global, text: &[u8]) -> Result<(Request, &[u8]), LineError>
-    ensures { Gives (λ x. (x.0, x.1.now)) result (send_read text.now) }
+    ensures { ReadsAs (λ x. (x.0, x.1.now)) result (send_read text.now) }
 {
     let (text, rest) = word(text);
     let name = letters(text).ok_or(LineError::Wrong)?;
@@ -290,7 +290,7 @@ fn send(alloc: Global, text: &[u8]) -> Result<(Request, &[u8]), LineError>
 
 #[tactic(auto, unfolding(crate::specs::LineForms::sleep_read))]
 fn sleep(text: &[u8]) -> Result<(Request, &[u8]), LineError>
-    ensures { Gives (λ x. (x.0, x.1.now)) result (sleep_read text.now) }
+    ensures { ReadsAs (λ x. (x.0, x.1.now)) result (sleep_read text.now) }
 {
     let (seconds, rest) = half_field(text)?;
     Ok((Request::Sleep { seconds }, rest))
@@ -298,7 +298,7 @@ fn sleep(text: &[u8]) -> Result<(Request, &[u8]), LineError>
 
 #[tactic(auto, unfolding(crate::specs::LineForms::print_read))]
 fn print(alloc: Global, text: &[u8]) -> Result<(Request, &[u8]), LineError>
-    ensures { Gives (λ x. (x.0, x.1.now)) result (print_read text.now) }
+    ensures { ReadsAs (λ x. (x.0, x.1.now)) result (print_read text.now) }
 {
     let (message, rest) = text_field(alloc, text)?;
     Ok((Request::Print { text: message }, rest))

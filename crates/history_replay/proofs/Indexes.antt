@@ -13,7 +13,7 @@ pub index_none : (jobs : ℕ) (history : List Entry) → IsIndex (length history
 index_none jobs history = record {
   firsts = record {
     count = length-replicate jobs (length history);
-    stands = λ job below.
+    standing = λ job below.
         let rest : drop (length history) history ≡ [] = drop_all (length history) history (omega arith) in
         let none : entry_position job 0 (drop (length history) history) ≡ 0 = ap (entry_position job 0) rest in
         get_or-replicate jobs job (length history) 0 below ∙ omega arith;
@@ -35,7 +35,7 @@ module _ (n : ℕ) (history : List Entry) (entry : Entry) (is : slice_get histor
   index_more jobs first later below was = record {
     firsts = record {
       count = length-set first entry.job n ∙ was.firsts.count;
-      stands = λ job inside.
+      standing = λ job inside.
           elim (cases_eq entry.job job) [
             | inl same ↦
                 let here = first_here job same in
@@ -43,7 +43,7 @@ module _ (n : ℕ) (history : List Entry) (entry : Entry) (is : slice_get histor
                 ap (λ k. get_or (set first entry.job n) k 0) (sym same) ∙ get_or-set_same first entry.job n 0 room ∙ omega arith
             | inr other ↦
                 let behind = first_behind job other in
-                get_or-set_other first entry.job job n 0 (λ e. other (sym e)) ∙ was.firsts.stands job inside ∙ omega arith
+                get_or-set_other first entry.job job n 0 (λ e. other (sym e)) ∙ was.firsts.standing job inside ∙ omega arith
           ];
     };
     laters = record {
@@ -53,7 +53,7 @@ module _ (n : ℕ) (history : List Entry) (entry : Entry) (is : slice_get histor
             | inl same ↦
                 let room : n < length later = let within = slice_get_within history n entry is in let count = was.laters.count in omega arith in
                 let one : entry ≡ found = same_Some entry found (sym is ∙ ap (slice_get history) (sym same) ∙ at) in
-                ap (λ j. get_or (set later n (get_or first entry.job 0)) j 0) same ∙ get_or-set_same later n (get_or first entry.job 0) 0 room ∙ was.firsts.stands entry.job below
+                ap (λ j. get_or (set later n (get_or first entry.job 0)) j 0) same ∙ get_or-set_same later n (get_or first entry.job 0) 0 room ∙ was.firsts.standing entry.job below
                 ∙ ap (λ (e : Entry). position_behind e.job n history) one ∙ ap (λ j. position_behind found.job j history) (sym same)
             | inr other ↦ get_or-set_other later n k (get_or first entry.job 0) 0 other ∙ was.laters.behind k found (omega arith) at
           ];

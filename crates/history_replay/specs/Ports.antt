@@ -32,7 +32,7 @@ pub record AreLater (from : ℕ) (history : List Entry) (later : List ℕ) : Typ
 -- for each job, where its first entry stands from this place on
 pub record AreFirst (from jobs : ℕ) (history : List Entry) (first : List ℕ) : Type 0 where
   pub count : length first ≡ jobs
-  pub stands : (job : ℕ) → job < jobs → slice_index first job ≡ from + entry_position job 0 (drop from history)
+  pub standing : (job : ℕ) → job < jobs → slice_index first job ≡ from + entry_position job 0 (drop from history)
 
 pub record IsIndex (from jobs : ℕ) (history : List Entry) (first later : List ℕ) : Type 0 where
   pub firsts : AreFirst from jobs history first

@@ -12,7 +12,7 @@ use Rattle.monitor_model.specs.State.{State}
 use Rattle.monitor_model.specs.Answer.{is_record}
 use Rattle.monitor_model.proofs.Tools.{either, by_test}
 use Rattle.monitor_model.proofs.RecordLemmas.{block_above, record_few, record_some, none_held, one_held, page_among, page_in}
-use Rattle.monitor_core.specs.Records.{IsRead}
+use Rattle.monitor_core.specs.Records.{IsRecordRead}
 
 pub size_found : (o : Option File) (name : FileName) → unwrap_or (option_map size o) 0 ≡ size (unwrap_or o (empty_file name 0))
 size_found None name = refl
@@ -25,7 +25,7 @@ block_within file (suc k) e = by_look (slice_get file.pages k) refl e where
   by_look None is e = absurd (cc)
   by_look (Some page) is e = let lt = slice_get_within file.pages k page is in omega (arith, lt)
 
-pub less_read : (file : File) (block count left : ℕ) → is_some (page_of file block) ≡ true → is_record count ≡ true → size file < 2 ^ 16 → left ≡ size file - (block - 1) → left < count → IsRead file block count left
+pub less_read : (file : File) (block count left : ℕ) → is_some (page_of file block) ≡ true → is_record count ≡ true → size file < 2 ^ 16 → left ≡ size file - (block - 1) → left < count → IsRecordRead file block count left
 unfolding pages_of
 less_read file block count left there rec small is lt =
     let some = block_above file block there in
@@ -40,7 +40,7 @@ less_read file block count left there rec small is lt =
       short = (omega (arith, is, some, inside), (omega (arith, lt, most), omega (arith, is, some, inside, small)));
     }
 
-pub all_read : (file : File) (block count left : ℕ) → is_some (page_of file block) ≡ true → is_record count ≡ true → size file < 2 ^ 16 → left ≡ size file - (block - 1) → count ≤ left → IsRead file block count count
+pub all_read : (file : File) (block count left : ℕ) → is_some (page_of file block) ≡ true → is_record count ≡ true → size file < 2 ^ 16 → left ≡ size file - (block - 1) → count ≤ left → IsRecordRead file block count count
 unfolding pages_of
 all_read file block count left there rec small is le =
     let some = block_above file block there in

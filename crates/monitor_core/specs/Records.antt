@@ -7,7 +7,7 @@ use Rattle.block_files.specs.Disks.{Disk}
 use Rattle.block_interlock.specs.Runs.{IsShort}
 
 -- so many of the blocks asked, from this one on, are read: all that the file has
-pub record IsRead (file : File) (block count read : ℕ) : Type 0 where
+pub record IsRecordRead (file : File) (block count read : ℕ) : Type 0 where
   pub number : length (pages_of file block count) ≡ read
   pub pages : pages_of file block read ≡ pages_of file block count
   pub short : IsShort block read

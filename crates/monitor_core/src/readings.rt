@@ -6,7 +6,7 @@ ghost use Rattle.monitor_model.specs.Files.{page_at, pages_of, is_block, size_at
 ghost use Rattle.monitor_model.specs.Holds.{is_held, any_held};
 ghost use Rattle.monitor_model.specs.Answer.{is_record};
 ghost use Rattle.monitor_model.specs.Good.{GoodHolds};
-ghost use Rattle.monitor_core.specs.Records.{IsRead};
+ghost use Rattle.monitor_core.specs.Records.{IsRecordRead};
 
 use crate::parts::Parts;
 use basic_values::limits::MOST_RECORD_BLOCKS;
@@ -35,7 +35,7 @@ impl Parts {
     pub(crate) fn blocks_read(&self, name: &FileName, block: u16, count: u8) -> u8
         requires there { is_block self.now.files name.now block ≡ true }
         requires count { is_record count ≡ true }
-        ensures { IsRead (the_file self.now.files name.now) block count result }
+        ensures { IsRecordRead (the_file self.now.files name.now) block count result }
     {
         let left = self.size_of(name) - (block - 1);
         if left < count as u16 {

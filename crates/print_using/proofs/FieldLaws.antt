@@ -198,7 +198,7 @@ found_is_longest format field e =
     let stands = front_stands format field e in (
       stands.0,
       record {
-        stands = stands.1;
+        in_front = stands.1;
         longest = λ other behind standing.
             let best = stands_found other behind format standing in
             let same : best.found ≡ field = some_is best.found field (sym best.is ∙ e) in
@@ -212,7 +212,7 @@ is_it found field (inr more) most = absurd (omega (arith, more, most))
 
 pub longest_is_found : (field : Field) (rest format : List ℕ) → IsLongestField field rest format → front_field format ≡ Some field
 longest_is_found field rest format is =
-    let best = stands_found field rest format is.stands in
+    let best = stands_found field rest format is.in_front in
     let stands = front_stands format best.found best.is in
     let most = is.longest best.found stands.0 stands.1 in
     best.is ∙ ap (λ f. Some f) (is_it best.found field best.best most)

@@ -51,7 +51,7 @@ are_found (OfByte byte ∷ parts) format is =
     ∙ ap format_parts (sym is.1)
 are_found (OfField field ∷ parts) format is =
     ap (λ ps. OfField field ∷ ps) (are_found parts is.0 is.2)
-    ∙ ap (λ t. OfField field ∷ format_parts t) (sym (behind_field field is.0 format is.1.stands))
+    ∙ ap (λ t. OfField field ∷ format_parts t) (sym (behind_field field is.0 format is.1.in_front))
     ∙ sym (field_first format field (longest_is_found field is.0 format is.1))
 
 -- ---- what reading finds are the parts
@@ -62,10 +62,10 @@ by_front n byte rest None e few again =
     (rest, refl, nothing_stands (byte ∷ rest) e, again rest few)
 by_front n byte rest (Some field) e few again =
     let longest = found_is_longest (byte ∷ rest) field e in
-    let behind = behind_field field longest.0 (byte ∷ rest) longest.1.stands in
-    let some = some_width field longest.1.stands.placed in
+    let behind = behind_field field longest.0 (byte ∷ rest) longest.1.in_front in
+    let some = some_width field longest.1.in_front.placed in
     let whole : length (byte ∷ rest) ≡ length (field_spelling field) + length longest.0 =
-    ap length longest.1.stands.is ∙ length-append (field_spelling field) longest.0 in
+    ap length longest.1.in_front.is ∙ length-append (field_spelling field) longest.0 in
     let fewer : length longest.0 ≤ n = omega (arith, few, some, whole) in
     subst (λ (ps : List FormatPart). IsFormatOf ps (byte ∷ rest))
     (sym (field_first (byte ∷ rest) field e ∙ ap (λ t. OfField field ∷ format_parts t) behind))

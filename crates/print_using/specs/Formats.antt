@@ -17,7 +17,7 @@ HasNoFieldInFront format = (field : Field) (rest : List ℕ) → StandsInFront f
 
 -- and no field that stands in front is longer
 pub record IsLongestField (field : Field) (rest format : List ℕ) : Type 0 where
-  pub stands : StandsInFront field rest format
+  pub in_front : StandsInFront field rest format
   pub longest : (other : Field) (behind : List ℕ) → StandsInFront other behind format →
       length (field_spelling other) ≤ length (field_spelling field)
 

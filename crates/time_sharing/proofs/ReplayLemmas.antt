@@ -4,7 +4,7 @@ use Rattle.monitor_calls.specs.declared.calls.Entry.{Entry}
 use Rattle.deck_model.specs.Deck.{Deck}
 use Rattle.deck_model.specs.Spelling.{Spelled}
 use Rattle.deck_model.specs.Refusals.{Refused}
-use Rattle.deck_model.specs.Reading.{Spells}
+use Rattle.deck_model.specs.Reading.{Yields}
 use Rattle.deck_model.specs.declared.faults.DeckFault.{DeckFault}
 use Rattle.deck_model.proofs.ReadingLaws.{spelled_told}
 use Rattle.rsts_io.specs.Ends.{SourceState}
@@ -28,7 +28,7 @@ use Rattle.time_sharing.proofs.SystemLemmas.{read_is, never_both, same_fault}
 same_deck : (bytes : List ℕ) (deck other : Deck) → Spelled bytes deck → Spelled bytes other → deck ≡ other
 same_deck bytes deck other s t = let e = sym (spelled_told bytes deck s) ∙ spelled_told bytes other t in deck_is deck other e
   where
-    deck_is : (d d' : Deck) → Spells d ≡ Spells d' → d ≡ d'
+    deck_is : (d d' : Deck) → Yields d ≡ Yields d' → d ≡ d'
     deck_is d d' e = cc
 
 -- of two facts behind the deck of one input both are of the same deck and text

@@ -7,7 +7,7 @@ use Rattle.deck_model.specs.declared.faults.DeckFault.{DeckFault}
 use Rattle.deck_model.specs.Deck as model
 use Rattle.deck_model.specs.Spelling.{Spelled}
 use Rattle.deck_model.specs.Refusals.{Refused}
-use Rattle.deck_model.specs.Reading.{Spells, Refuses}
+use Rattle.deck_model.specs.Reading.{Yields, Refuses}
 use Rattle.deck_model.proofs.ReadingLaws.{spelled_told, refused_told}
 use Rattle.deck_reader.specs.declared.decks.Deck.{Deck}
 use Rattle.deck_reader.specs.declared.decks.Terminal.{Terminal}
@@ -41,7 +41,7 @@ read_is bytes read (Some left) left' all told =
 pub never_both : (bytes : List ℕ) (deck : model.Deck) (fault : DeckFault) → Spelled bytes deck → Refused bytes fault.line fault.cause → ⊥
 never_both bytes deck fault s r = not_both deck fault.line fault.cause (sym (spelled_told bytes deck s) ∙ refused_told bytes fault.line fault.cause r)
   where
-    not_both : (d : model.Deck) (l : ℕ) (why : DeckCause) → Spells d ≡ Refuses l why → ⊥
+    not_both : (d : model.Deck) (l : ℕ) (why : DeckCause) → Yields d ≡ Refuses l why → ⊥
     not_both d l why e = cc
 
 pub same_fault : (bytes : List ℕ) (fault other : DeckFault) → Refused bytes fault.line fault.cause → Refused bytes other.line other.cause → fault ≡ other

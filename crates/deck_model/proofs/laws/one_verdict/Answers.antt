@@ -1,11 +1,11 @@
 use Rattle.std.proofs.Common.{◌≡◌, ℕ, sym, ◌∙◌}
 use Rattle.deck_model.specs.declared.faults.DeckCause.{DeckCause}
 use Rattle.deck_model.specs.Deck.{Deck}
-use Rattle.deck_model.specs.Reading.{Spells, Refuses}
+use Rattle.deck_model.specs.Reading.{Yields, Refuses}
 use Rattle.deck_model.proofs.ReadingLaws.{spelled_told, refused_told}
 use Rattle.deck_model.proofs.laws.one_verdict.Goals as goal
 
-same_deck : (x y : Deck) → Spells x ≡ Spells y → x ≡ y
+same_deck : (x y : Deck) → Yields x ≡ Yields y → x ≡ y
 same_deck x y e = cc
 
 same_line : (l m : ℕ) (x y : DeckCause) → Refuses l x ≡ Refuses m y → l ≡ m
@@ -14,7 +14,7 @@ same_line l m x y e = cc
 same_why : (l m : ℕ) (x y : DeckCause) → Refuses l x ≡ Refuses m y → x ≡ y
 same_why l m x y e = cc
 
-not_both : (d : Deck) (l : ℕ) (x : DeckCause) → Spells d ≡ Refuses l x → ⊥
+not_both : (d : Deck) (l : ℕ) (x : DeckCause) → Yields d ≡ Refuses l x → ⊥
 not_both d l x e = cc
 
 pub returns : goal.returns
