@@ -1,4 +1,4 @@
-//! Items that ask the monitor.
+//! Items that ask the monitor or wait for a key line.
 
 ghost use Rattle.std.specs.Prelude.{◌≡◌, ℕ, [], true, drop};
 ghost use Rattle.basic_tree.specs.declared.expressions.Function.TheVariants.{Sys};
@@ -20,8 +20,8 @@ use polish_code::Item;
 use program_model::{FileAct, Value};
 
 impl Running {
-    /// Does what an item does that may ask the monitor. What it leads to is told as of `step`. Such
-    /// an item does not look at what stands around it.
+    /// Does what an item does that may ask the monitor or take a key line. What it leads to is
+    /// given as by `step`. Such an item does not look at what stands around it.
     pub fn ask_item<P: Port>(&mut self, item: &Item, stack: &mut Stack<Value>, port: &mut P) -> Move
         requires { is_ask item.now ≡ true }
         ensures { (behind : ℕ) (clock : play.Clock)
@@ -42,6 +42,10 @@ impl Running {
                 self.write_using(*count, *ends_line, stack, port)
             }
             Item::LineOn => self.line_on(stack, port),
+            Item::AskItems { prompt, count } => {
+                self.ask_items(prompt, *count as usize, stack, port)
+            }
+            Item::AskLine => self.ask_line(stack, port),
             Item::Apply {
                 function: Function::Sys,
                 count,

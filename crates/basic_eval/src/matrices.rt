@@ -10,7 +10,12 @@ ghost use Rattle.program_model.specs.declared.values.Value.TheVariants as value;
 ghost use Rattle.program_model.specs.DataItems.{item_taken};
 ghost use Rattle.program_model.specs.Items.{item_value};
 ghost use Rattle.program_model.specs.Job.{or_fault};
-ghost use Rattle.program_model.specs.MatrixStatements.{matrices_in, matrices_of, matrix_act, touched, touch_all, acts_on_matrices, at_column, read_element, read_row, read_matrix, read_matrices, behind_number, row_written, numbers_written, row_ended, matrix_written, value_by, assigns_value};
+ghost use Rattle.program_model.specs.MatrixStatements.{matrices_in, matrices_of, matrix_act};
+ghost use Rattle.program_model.specs.MatrixStatements.{touched, touch_all, acts_on_matrices};
+ghost use Rattle.program_model.specs.MatrixStatements.{at_column, read_element, read_row};
+ghost use Rattle.program_model.specs.MatrixStatements.{read_matrix, read_matrices, behind_number};
+ghost use Rattle.program_model.specs.MatrixStatements.{row_written, numbers_written, row_ended};
+ghost use Rattle.program_model.specs.MatrixStatements.{matrix_written, value_by, assigns_value};
 ghost use Rattle.program_model.specs.Printing.{written};
 ghost use Rattle.basic_values.specs.Numbers.{printed};
 ghost use Rattle.basic_eval.specs.Acting.{Acts, given_or, seen, told};
@@ -82,7 +87,8 @@ impl Running {
     // Arrays that are made
 
     fn touch(&mut self, name: Name) -> Option<()>
-        ensures { Acts (touched name (seen self.old)) (seen self.new) (given_or self.new.exit result) }
+        ensures { Acts (touched name (seen self.old)) (seen self.new)
+            (given_or self.new.exit result) }
     {
         match self.storage.touch(name) {
             Ok(()) => Some(()),
@@ -215,7 +221,8 @@ impl Running {
     fn print_row(&mut self, name: Name, row: u16, separator: Option<Separator>) -> Option<()>
         requires { HasRow self.old.storage.memory name row }
         ensures { Acts
-            (Gives tt (row_written separator (row_numbers self.old.storage.memory name row) (seen self.old)))
+            (Gives tt (row_written separator (row_numbers self.old.storage.memory name row)
+            (seen self.old)))
             (seen self.new) (given_or self.new.exit result) }
     {
         let numbers = match self.storage.row(name, row) {
@@ -243,7 +250,8 @@ impl Running {
         numbers: &[Int],
         separator: Option<Separator>,
     ) -> Result<(), NoMemory>
-        ensures { OnOk result (seen self.new ≡ numbers_written separator numbers.now (seen self.old)) }
+        ensures { OnOk result
+            (seen self.new ≡ numbers_written separator numbers.now (seen self.old)) }
     {
         for place in 0..numbers.len() {
             self.screen.write(numbers[place].printed().as_slice())?;

@@ -1,5 +1,5 @@
-//! PRINT # and PRINT USING, INPUT # and INPUT LINE #: channels as programs know them, where 0 is the
-//! terminal.
+//! PRINT # and PRINT USING, INPUT # and INPUT LINE #: channels as programs know them, where 0 is
+//! the terminal.
 
 ghost use Rattle.std.specs.Prelude.{◌≡◌, List, drop, replicate, IfOk};
 ghost use Rattle.basic_values.specs.Texts.{space};
@@ -14,7 +14,8 @@ ghost use Rattle.program_model.specs.Input.{line_on};
 ghost use Rattle.program_model.specs.Job.{number, text};
 ghost use Rattle.program_model.specs.OnChannels.{column_count, column_on, is_terminal};
 ghost use Rattle.program_model.specs.Printing.{value_bytes};
-ghost use Rattle.program_model.specs.PrintingOnChannels.{output_tested, tab_on, zone_on, writes_on, writes_used};
+ghost use Rattle.program_model.specs.PrintingOnChannels.{output_tested, tab_on, zone_on, writes_on};
+ghost use Rattle.program_model.specs.PrintingOnChannels.{writes_used};
 ghost use Rattle.terminal_line.specs.Columns.{tab_text, zone_text};
 ghost use Rattle.basic_eval.specs.Acting.{Acts, left_by, seen, told};
 
@@ -164,7 +165,7 @@ impl Running {
     {
         let channel = take_number(stack);
         if is_terminal(channel) {
-            return self.push_key_line(stack);
+            return self.push_key_line(stack, port);
         }
         match self.storage.read_line(self.alloc, port, channel) {
             Ok(line) => self.push(Value::Text(line), stack),

@@ -16,7 +16,8 @@ use program_model::Value;
 
 impl Running {
     /// Does what an item does that calls no function of the program and asks nothing: `behind`
-    /// items stand up to it and with it. What it leads to is given; where that is no further the state has the reason,
+    /// items stand up to it and with it. What it leads to is given; where that is no further the
+    /// state has the reason,
     /// and where memory runs out nothing more is told of it. Each act stays out of line, so that
     /// this has no frame of its own.
     #[inline(always)]
@@ -68,9 +69,9 @@ impl Running {
             | Item::StoreFileElement { .. }
             | Item::WriteOn
             | Item::WriteUsing { .. }
-            | Item::LineOn => unreachable!(),
-            Item::AskItems { prompt, count } => self.ask_items(prompt, *count as usize, stack),
-            Item::AskLine => self.ask_line(stack),
+            | Item::LineOn
+            | Item::AskItems { .. }
+            | Item::AskLine => unreachable!(),
             Item::Split(count) => self.split(*count as usize, stack),
             Item::TakeItem => self.take_item(words, stack),
             Item::Judge(is_text) => self.judge(*is_text, stack),
@@ -171,7 +172,7 @@ pub fn is_call(item: &Item) -> bool
     }
 }
 
-/// Whether an item may ask the monitor.
+/// Whether an item may ask the monitor or take a key line.
 #[inline(always)]
 pub fn is_ask(item: &Item) -> bool
     ensures { result ≡ is_ask item.now }
@@ -182,7 +183,9 @@ pub fn is_ask(item: &Item) -> bool
         | Item::StoreFileElement { .. }
         | Item::WriteOn
         | Item::WriteUsing { .. }
-        | Item::LineOn => true,
+        | Item::LineOn
+        | Item::AskItems { .. }
+        | Item::AskLine => true,
         Item::Apply { function, .. } => is_sys(*function),
         _ => false,
     }

@@ -1,7 +1,6 @@
 -- How the contracts of the parser's functions compose.
 use Rattle.std.proofs.Common.{◌==◌, ◌≡◌, ◌≤◌, ◌<◌, ◌+◌, ◌-◌, ℕ, zero, suc, Bool, true, false, nat_lt, cond, ◌&&◌, List, [], ◌∷◌, ◌++◌, drop, length, Option, Some, None, Result, Ok, Err, refl, sym, ap, ◌∙◌, subst, arith, get_or, length-append}
 use Rattle.std.proofs.lemmas.Bool.{eqb-true}
-use Rattle.std.proofs.Common.{inl, inr, ◌⊎◌}
 use Rattle.basic_tree.specs.declared.names.Name.{Name}
 use Rattle.basic_tree.specs.declared.tokens.Keyword.{Keyword}
 use Rattle.basic_tree.specs.declared.tokens.Sign.{Sign}
@@ -16,9 +15,9 @@ use Rattle.basic_tree.specs.SpellingExpressions.{is_text, want_of}
 use Rattle.basic_tree.specs.Trees.{Tree, Trees, FunctionOf, Literal, Quoted, Variable, Call, NoTrees, AndTrees}
 use Rattle.basic_tree.specs.TreeViews.{tree_of}
 use Rattle.basic_tree.specs.GrammarTables.{arguments_of, gives_text}
-use Rattle.grammar_machine.specs.GrammarWords.{function_of, is_same_sign}
+use Rattle.grammar_machine.specs.GrammarWords.{function_of}
 use Rattle.grammar_machine.specs.MachineStack.{Action, Arguments, Close, Collect, Do, Expect, Level, MakeCall, MakeComparison, MakeElement, MakeFunction, MakeParenthesized, More, MoreArguments, Opening, SecondSubscript, Several, Subscripts, Symbol, Term, Values, loosest, made, others, with_last}
-use Rattle.grammar_machine.specs.MachineStarts.{Start, Chain, arguments_expected, function_start, more_expected, rank_of, relations, side, takes}
+use Rattle.grammar_machine.specs.MachineStarts.{Start, arguments_expected, function_start, more_expected, relations, side, takes}
 use Rattle.grammar_machine.specs.MachineMoves.{begun}
 use Rattle.grammar_machine.specs.MachineRun.{TooDeep, Wrong, moved, run, turn, turned}
 use Rattle.grammar_machine.proofs.MachineSteps.{run_chain, run_relations, run_do, run_close}
@@ -29,15 +28,19 @@ use Rattle.basic_expr.specs.declared.signs.Prefix.{Prefix}
 use Rattle.basic_expr.specs.declared.signs.Prefix.TheVariants as prefix
 use Rattle.basic_expr.specs.declared.words.Word.{Word as CodeWord}
 use Rattle.basic_expr.specs.Views.{as_word}
-use Rattle.basic_expr.specs.ParsedSymbols.{First, IsChain, PrefixAt, ReadsAll, RefusesAll, RefusesSign, RelationAt, action_of, begins_atom, fits_function, function_expected, is_sign, prefixed, takes_relations, trees_in}
+use Rattle.basic_expr.specs.declared.precedence.Precedence.{Precedence}
+use Rattle.basic_expr.specs.declared.precedence.Precedence.TheVariants as precedence
+use Rattle.basic_expr.specs.Precedences.{is_chain, level_number}
+use Rattle.grammar_machine.proofs.FormWords.{sign_is_same}
+use Rattle.basic_expr.specs.ParsedSymbols.{First, PrefixAt, ReadsAll, RefusesAll, RefusesSign, RelationAt, action_of, begins_atom, fits_function, function_expected, is_sign, prefixed, takes_relations, trees_in}
 
 -- ---- contracts
 
--- these symbols come to those, whatever stands below both
+-- the machine goes from these symbols to those, whatever is below both
 abbrev pub Becomes : ℕ → List Word → List Symbol → Values → ℕ → ℕ → List Symbol → Values → ℕ → Type 0
 Becomes n ws ss v from m ss' v' from' = (k : List Symbol) (vs : Values) → run n (drop from ws) (ss ++ k) (v ++ vs) ≡ run m (drop from' ws) (ss' ++ k) (v' ++ vs)
 
--- these symbols come to those on top of more
+-- the machine goes from these symbols to those, on top of more
 abbrev pub Enters : ℕ → List Word → List Symbol → Values → ℕ → ℕ → List Symbol → Values → ℕ → Type 0
 Enters n ws ss v from m ss' v' from' = (k : List Symbol) (vs : Values) → (k' : List Symbol) × (vs' : Values) × (run n (drop from ws) (ss ++ k) (v ++ vs) ≡ run m (drop from' ws) (ss' ++ k') (v' ++ vs'))
 
@@ -55,19 +58,18 @@ through n ws ss v from ss' v' from' (Err e) comes h = inside n ws ss v from n ss
 pub closed : (n : ℕ) (ts : List Word) (k : List Symbol) (vs : Values) → 0 < n → run (n - 1) ts (Close ∷ k) vs ≡ run n ts k vs
 closed n ts k vs h = let e : suc (n - 1) ≡ n = omega arith in run_close (n - 1) ts k vs ∙ ap (λ m. run m ts k vs) e
 
-cases : (b : Bool) → (b ≡ true) ⊎ (b ≡ false)
-cases true = inl refl
-cases false = inr refl
+pub chained : (n : ℕ) (p : Precedence) (m : ℕ) (w : Want) (ts : List Word) (k : List Symbol) (vs : Values) → is_chain p ≡ true → m ≡ level_number p - 1 → run n ts (Level (level_number p) w ∷ k) vs ≡ run n ts (Level m w ∷ More (level_number p) ∷ k) vs
+chained n p m w ts k vs h e = chain_of p h ∙ ap (λ l. run n ts (Level l w ∷ More (level_number p) ∷ k) vs) (sym e) where
+  chain_of : (p : Precedence) → is_chain p ≡ true → run n ts (Level (level_number p) w ∷ k) vs ≡ run n ts (Level (level_number p - 1) w ∷ More (level_number p) ∷ k) vs
+  chain_of precedence.Atom h = absurd cc
+  chain_of precedence.Sign h = absurd cc
+  chain_of precedence.Relation h = absurd cc
+  chain_of precedence.Not h = absurd cc
+  chain_of p h = run_chain n (level_number p - 1) w ts k vs refl
 
-rank_chain : (l : ℕ) → IsChain l → rank_of l ≡ Chain
-rank_chain l h = elim (cases (l == 2)) [ inl a ↦ absurd (h.no_signs (eqb-true l 2 a)) | inr a ↦ elim (cases (l == 5)) [ inl b ↦ absurd (h.no_relations (eqb-true l 5 b)) | inr b ↦ elim (cases (l == 6)) [ inl c ↦ absurd (h.no_nots (eqb-true l 6 c)) | inr c ↦ rw (a, b, c) refl ] ] ]
-
-pub chained : (n l : ℕ) (w : Want) (ts : List Word) (k : List Symbol) (vs : Values) → IsChain l → run n ts (Level l w ∷ k) vs ≡ run n ts (Level (l - 1) w ∷ More l ∷ k) vs
-chained n l w ts k vs h =
-    let above = h.above in
-    let e : suc (l - 1) ≡ l = omega arith in
-    let rank : rank_of (suc (l - 1)) ≡ Chain = rw e (rank_chain l h) in
-    subst (λ m. run n ts (Level m w ∷ k) vs ≡ run n ts (Level (l - 1) w ∷ More m ∷ k) vs) e (run_chain n (l - 1) w ts k vs rank)
+-- without a prefix the words are those of the next higher precedence
+pub tighter_by : (n l m : ℕ) (w : Want) (ts : List Word) (k : List Symbol) (vs : Values) → ((n : ℕ) (w : Want) (k : List Symbol) (vs : Values) → run n ts (Level l w ∷ k) vs ≡ run n ts (Level (l - 1) w ∷ k) vs) → m ≡ l - 1 → run n ts (Level l w ∷ k) vs ≡ run n ts (Level m w ∷ k) vs
+tighter_by n l m w ts k vs h e = h n w k vs ∙ ap (λ x. run n ts (Level x w ∷ k) vs) (sym e)
 
 pub related : (n : ℕ) (w : Want) (ts : List Word) (k : List Symbol) (vs : Values) → run n ts (Level 5 w ∷ k) vs ≡ run n ts (Level 4 (side w) ∷ (relations w ++ k)) vs
 related n w ts k vs = run_relations n 4 w ts k vs refl
@@ -77,7 +79,7 @@ prefix_made n prefix.Minus ts k a vs = run_do n _ ts k (Term a ∷ vs)
 prefix_made n prefix.Plus ts k a vs = run_do n _ ts k (Term a ∷ vs)
 prefix_made n prefix.Not ts k a vs = run_do n _ ts k (Term a ∷ vs)
 
--- ---- signs that have to stand
+-- ---- signs that have to be there
 
 pub not_expected : (n : ℕ) (ts : List Word) (s : Sign) (k : List Symbol) (vs : Values) → First (is_sign s) ts → run n ts (Expect s ∷ k) vs ≡ Err (Wrong ts)
 unfolding run
@@ -120,7 +122,7 @@ no_more_arguments n (Punctuation sign.Comma ∷ ts) k several vs h = absurd cc
 no_more_arguments n (Punctuation s ∷ ts) k several vs h = refl
 no_more_arguments n (t ∷ ts) k several vs h = refl
 
--- ---- signs that stand
+-- ---- signs that are there
 
 pub opens_parentheses : (n : ℕ) (ts rest : List Word) (w : Want) (k : List Symbol) (vs : Values) → ts ≡ Punctuation sign.Opening ∷ rest → 0 < n → run n ts (Level 0 w ∷ k) vs ≡ run (n - 1) rest (Level loosest w ∷ Expect sign.Closing ∷ Close ∷ Do MakeParenthesized ∷ k) vs
 unfolding run
@@ -168,10 +170,7 @@ argument_taken n ts rest k vs at = rw at refl
 
 pub sign_taken : (n : ℕ) (ts rest : List Word) (s : Sign) (k : List Symbol) (vs : Values) → ts ≡ Punctuation s ∷ rest → run n ts (Expect s ∷ k) vs ≡ run n rest k vs
 unfolding run
-sign_taken n ts rest s k vs at = let e : is_same_sign s s ≡ true = same s in rw (at, e) refl where
-  same : (s : Sign) → is_same_sign s s ≡ true
-  same sign.Plus = refl
-  same s = refl
+sign_taken n ts rest s k vs at = rw (at, sign_is_same s) refl
 
 -- ---- atoms
 
@@ -244,7 +243,7 @@ prefix_read n fits s operand tighter ws from end p w a t pos at fit inner e k vs
     ∙ prefix_made n p (drop end ws) k a vs
     ∙ ap (λ z. run n (drop end ws) k (Term z ∷ vs)) (sym e)
 
--- ---- a sign that does not stand
+-- ---- a sign that is not there
 
 pub sign_refused : (n : ℕ) (ws : List Word) (ss : List Symbol) (v : Values) (from m : ℕ) (s : Sign) (from' : ℕ) (e : Failure) → Enters n ws ss v from m (Expect s ∷ []) [] from' → RefusesSign ws s from' e → RefusesAll n ws ss v from e
 sign_refused n ws ss v from m s from' failure.NoMemory comes h = absurd h
@@ -252,7 +251,7 @@ sign_refused n ws ss v from m s from' (failure.Wrong place) comes h =
     (h.0, λ k vs. let there = comes k vs in there.2 ∙ ap (λ i. run m (drop i ws) (Expect s ∷ there.0) there.1) (sym h.1) ∙ not_expected m (drop place ws) s there.0 there.1 h.2)
 sign_refused n ws ss v from m s from' (failure.TooDeep place) comes h = absurd h
 
--- ---- where no level is left
+-- ---- if no level is left
 
 pub deep : (n : ℕ) (ws : List Word) (s : Symbol) (from : ℕ) → n ≡ 0 → from < length ws → ((k : List Symbol) (vs : Values) → run 0 (drop from ws) (s ∷ k) vs ≡ Err (TooDeep (drop from ws))) → RefusesAll n ws (s ∷ []) [] from (failure.TooDeep from)
 deep n ws s from e within h = (within, λ k vs. subst (λ m. run m (drop from ws) (s ∷ k) vs ≡ Err (TooDeep (drop from ws))) (sym e) (h k vs))
@@ -263,7 +262,7 @@ pub trees_in_push : (es : List Expr) (e : Expr) → trees_in (es ++ e ∷ []) �
 trees_in_push [] e = refl
 trees_in_push (x ∷ es) e = ap (λ ts. AndTrees (tree_of x) ts) (trees_in_push es e)
 
--- one more argument is collected
+-- one more argument is added
 pub collected : (n : ℕ) (ts : List Word) (k : List Symbol) (es items : List Expr) (e : Expr) (vs : Values) → items ≡ es ++ e ∷ [] → run n ts (Do Collect ∷ k) (Term (tree_of e) ∷ Several (trees_in es) ∷ vs) ≡ run n ts k (Several (trees_in items) ∷ vs)
 collected n ts k es items e vs is = run_do n Collect ts k (Term (tree_of e) ∷ Several (trees_in es) ∷ vs) ∙ ap (λ z. run n ts k (Several z ∷ vs)) (sym (ap trees_in is ∙ trees_in_push es e))
 
@@ -291,7 +290,7 @@ first_subscript n ws from end name a pos at first k vs =
     ∙ first (Do Collect ∷ SecondSubscript ∷ Expect sign.Closing ∷ Close ∷ Do (MakeElement name) ∷ k) (Several NoTrees ∷ vs)
     ∙ run_do (n - 1) Collect (drop end ws) (SecondSubscript ∷ Expect sign.Closing ∷ Close ∷ Do (MakeElement name) ∷ k) (Term a ∷ Several NoTrees ∷ vs)
 
--- a closing parenthesis, the end of the level, and what makes the tree
+-- a closing parenthesis, the end of the level, and the action that makes the tree
 pub ended : (n : ℕ) (ts rest : List Word) (a : Action) (k : List Symbol) (vs : Values) → 0 < n → ts ≡ Punctuation sign.Closing ∷ rest → run (n - 1) ts (Expect sign.Closing ∷ Close ∷ Do a ∷ k) vs ≡ run n rest k (made a vs ∷ others a vs)
 ended n ts rest a k vs pos at =
     sign_taken (n - 1) ts rest sign.Closing (Close ∷ Do a ∷ k) vs at
@@ -307,14 +306,14 @@ first_argument n ws from end name e items pos at first is k vs =
     ∙ first (Do Collect ∷ MoreArguments ∷ Expect sign.Closing ∷ Close ∷ Do (MakeCall name) ∷ k) (Several NoTrees ∷ vs)
     ∙ collected (n - 1) (drop end ws) (MoreArguments ∷ Expect sign.Closing ∷ Close ∷ Do (MakeCall name) ∷ k) [] items e vs is
 
--- one argument more
+-- one more argument
 pub next_argument : (m : ℕ) (ws : List Word) (place end : ℕ) (e : Expr) (es items : List Expr) → drop place ws ≡ Punctuation sign.Comma ∷ drop (place + 1) ws → ((k : List Symbol) (vs : Values) → run m (drop (place + 1) ws) (Level loosest want.Either ∷ k) vs ≡ run m (drop end ws) k (Term (tree_of e) ∷ vs)) → items ≡ es ++ e ∷ [] → (k : List Symbol) (vs : Values) → run m (drop place ws) (MoreArguments ∷ k) (Several (trees_in es) ∷ vs) ≡ run m (drop end ws) (MoreArguments ∷ k) (Several (trees_in items) ∷ vs)
 next_argument m ws place end e es items at next is k vs =
     argument_taken m (drop place ws) (drop (place + 1) ws) k (Several (trees_in es) ∷ vs) at
     ∙ next (Do Collect ∷ MoreArguments ∷ k) (Several (trees_in es) ∷ vs)
     ∙ collected m (drop end ws) (MoreArguments ∷ k) es items e vs is
 
--- what is expected of a function, behind so many arguments
+-- what is expected of a function after this many arguments
 abbrev pub left_of : Function → ℕ → List Symbol
 left_of f i = more_expected (drop i (arguments_of f)) ++ Do (MakeFunction f) ∷ []
 
@@ -344,7 +343,7 @@ deep_function n ws f v from e within some at = (
 pub function_opens : (n : ℕ) (ts rest : List Word) (f : Function) (k : List Symbol) (vs : Values) → 0 < n → 0 < length (arguments_of f) → ts ≡ Punctuation sign.Opening ∷ rest → run n ts (function_expected f ++ k) vs ≡ run (n - 1) rest (Level loosest (wanted (arguments_of f) 0) ∷ Do Collect ∷ (left_of f 1 ++ k)) vs
 function_opens n ts rest f k vs pos some at = opened n ts (arguments_of f) (Do (MakeFunction f)) k vs some ∙ opens_arguments n ts rest _ vs at pos
 
--- the comma before one argument more
+-- the comma before one more argument
 comma_expected : (wants : List Want) (i : ℕ) (b : Symbol) (k : List Symbol) → i < length wants → (more_expected (drop i wants) ++ b ∷ []) ++ k ≡ Expect sign.Comma ∷ Level loosest (wanted wants i) ∷ Do Collect ∷ ((more_expected (drop (suc i) wants) ++ b ∷ []) ++ k)
 comma_expected [] i b k h = absurd (omega arith)
 comma_expected (w ∷ ws) zero b k h = refl
@@ -383,7 +382,7 @@ first_of_function n ws from end f wants e items pos some same at first is k vs =
     ∙ collected (n - 1) (drop end ws) (left_of f 1 ++ k) [] items e vs is
     ∙ ap (λ i. run (n - 1) (drop end ws) (left_of f i ++ k) (Several (trees_in items) ∷ vs)) (sym (ap length is))
 
--- one argument more is wanted, behind a comma
+-- one more argument is wanted, after a comma
 pub comma_wanted : (m : ℕ) (ws : List Word) (place behind i : ℕ) (f : Function) (wants : List Want) (es : List Expr) (k : List Symbol) (vs : Values) → wants ≡ arguments_of f → i ≡ length es → length es < length (arguments_of f) → drop place ws ≡ Punctuation sign.Comma ∷ drop behind ws → run m (drop place ws) (left_of f (length es) ++ k) vs ≡ run m (drop behind ws) (Level loosest (wanted wants i) ∷ Do Collect ∷ (left_of f (suc (length es)) ++ k)) vs
 comma_wanted m ws place behind i f wants es k vs same count more at =
     ap (λ ss. run m (drop place ws) ss vs) (left_comma f (length es) k more)

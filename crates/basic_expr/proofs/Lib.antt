@@ -1,6 +1,6 @@
 pub mod Compose
-pub mod KeyNumbers
 pub mod Places
 pub mod Rows
 pub mod Steps
 mod WordLemmas
+pub mod WordTests

@@ -1,4 +1,4 @@
--- Where an expression is read or refused, by the grammar: from where the machine stops.
+-- Where an expression is read or rejected by the grammar, derived from where the machine stops.
 use Rattle.std.proofs.Common.{◌≡◌, ℕ, ◌≤◌, List, [], ◌∷◌, length, drop, Ok, Err, refl, ap, ◌∙◌, arith}
 use Rattle.basic_tree.specs.declared.kinds.Want.{Want}
 use Rattle.basic_tree.specs.SpellingWords.{Word, most_levels}

@@ -1,17 +1,15 @@
 -- Single steps of the machine, as the parser's functions take them.
-use Rattle.std.proofs.Common.{◌≡◌, ◌<◌, ◌+◌, ℕ, zero, suc, Bool, true, false, ◌&&◌, List, [], ◌∷◌, drop, length, Option, Some, None, Err, refl, sym, ap, ◌∙◌}
-use Rattle.std.proofs.lemmas.Bool.{eqb-true}
+use Rattle.std.proofs.Common.{◌≡◌, ◌<◌, ◌+◌, ℕ, Bool, true, false, ◌&&◌, List, [], ◌∷◌, drop, length, Option, Some, None, Err, refl, sym}
 use Rattle.basic_tree.specs.declared.tokens.Keyword.TheVariants as keyword
-use Rattle.basic_tree.specs.declared.tokens.Sign.{Sign}
 use Rattle.basic_tree.specs.declared.tokens.Sign.TheVariants as sign
 use Rattle.basic_tree.specs.declared.expressions.Operator.{Operator}
 use Rattle.basic_tree.specs.declared.expressions.Relation.{Relation}
 use Rattle.basic_tree.specs.declared.kinds.Want.{Want}
 use Rattle.basic_tree.specs.declared.kinds.Want.TheVariants as want
-use Rattle.basic_tree.specs.SpellingWords.{Word, Key, Punctuation, Named, FnNamed, Number, Quotation, Item}
+use Rattle.basic_tree.specs.SpellingWords.{Word, Key, Punctuation}
 use Rattle.basic_tree.specs.SpellingExpressions.{is_text}
 use Rattle.basic_tree.specs.Trees.{Tree}
-use Rattle.grammar_machine.specs.GrammarWords.{is_same_sign, operator_of, relation_of, sign_number}
+use Rattle.grammar_machine.specs.GrammarWords.{operator_of, relation_of}
 use Rattle.grammar_machine.specs.MachineStack.{Exponent, Level, Symbol, Term, Values}
 use Rattle.grammar_machine.specs.MachineMoves.{related}
 use Rattle.grammar_machine.specs.MachineRun.{Wrong, moved, run, turn, turned}
@@ -55,35 +53,6 @@ no_word_relation ws place at = (λ n b k a vs skips. rw at (skipped n b k a vs s
   skipped : (n : ℕ) (b : Bool) (k : List Symbol) (a : Tree) (vs : Values) → (b && is_text a) ≡ false → turned (moved (related None b (is_text a) (Term a ∷ vs)) n k (λ m vs'. turn k m vs' None)) [] (λ m vs' k'. Err (Wrong [])) ≡ turned (turn k n (Term a ∷ vs) None) [] (λ m vs' k'. Err (Wrong []))
   skipped n true k a vs skips = rw skips refl
   skipped n false k a vs skips = refl
-
--- ---- signs
-
--- the sign with a number
-abbrev sign_from : ℕ → List Sign → Sign
-sign_from n [] = sign.Plus
-sign_from zero (s ∷ ss) = s
-sign_from (suc n) (s ∷ ss) = sign_from n ss
-
-abbrev all_signs : List Sign
-all_signs =
-    sign.Plus ∷ sign.Plus ∷ sign.Minus ∷ sign.Star ∷ sign.Slash ∷ sign.Caret ∷ sign.DoubleStar ∷ sign.Opening ∷ sign.Closing ∷ sign.Comma ∷ sign.Semicolon
-    ∷ sign.Colon ∷ sign.Backslash ∷ sign.Hash ∷ sign.Equal ∷ sign.Same ∷ sign.Less ∷ sign.Greater ∷ sign.LessOrEqual ∷ sign.GreaterOrEqual ∷ sign.Different ∷ []
-
-numbered : (s : Sign) → sign_from (sign_number s) all_signs ≡ s
-numbered sign.Plus = refl
-numbered s = refl
-
-pub same_sign : (s t : Sign) → is_same_sign s t ≡ true → s ≡ t
-same_sign s t h = sym (numbered s) ∙ ap (λ n. sign_from n all_signs) (eqb-true (sign_number s) (sign_number t) h) ∙ numbered t
-
-pub is_that_sign : (s : Sign) (t : Word) → is_sign s t ≡ true → t ≡ Punctuation s
-is_that_sign s (Punctuation t) h = ap Punctuation (sym (same_sign s t h))
-is_that_sign s (Key k) h = absurd cc
-is_that_sign s (Named k) h = absurd cc
-is_that_sign s (FnNamed k) h = absurd cc
-is_that_sign s (Number k) h = absurd cc
-is_that_sign s (Quotation k) h = absurd cc
-is_that_sign s (Item k) h = absurd cc
 
 -- ---- prefixes
 

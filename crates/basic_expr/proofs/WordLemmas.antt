@@ -14,7 +14,7 @@ use Rattle.basic_tree.specs.SpellingWords.{word_of, words_of}
 use Rattle.basic_expr.specs.declared.words.Word.{Word}
 use Rattle.basic_expr.specs.Views.{as_word, as_words, IsShort}
 
--- one token more
+-- one more token
 pub words_more : (tokens : List Lexeme) (k : ℕ) (token : Lexeme) → slice_get tokens k ≡ Some token → words_of (take (k + 1) tokens) ≡ words_of (take k tokens) ++ word_of token ∷ []
 words_more tokens k token e =
     let here : get_or tokens k token ≡ token = get_or_from_slice_get tokens k token token e in
@@ -22,11 +22,11 @@ words_more tokens k token e =
     let more : take (k + 1) tokens ≡ take k tokens ++ token ∷ [] = rw (add-one, take-suc tokens k token within, here) refl in
     ap words_of more ∙ map-append word_of (take k tokens) (token ∷ [])
 
--- one word more
+-- one more word
 pub as_words_more : (words : List Word) (word : Word) → as_words (words ++ word ∷ []) ≡ as_words words ++ as_word word ∷ []
 as_words_more words word = map-append as_word words (word ∷ [])
 
--- the word at a place, and those behind it
+-- the word at a place, and those after it
 pub word_at : (words : List Word) (k : ℕ) (word : Word) → slice_get words k ≡ Some word → (k < length (as_words words)) × (drop k (as_words words) ≡ as_word word ∷ drop (k + 1) (as_words words))
 word_at words k word e =
     let there : slice_get (as_words words) k ≡ Some (as_word word) = rw (slice_get-map as_word words k, e) refl in

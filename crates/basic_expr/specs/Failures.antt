@@ -1,4 +1,4 @@
--- Failures as refusals.
+-- Failures as rejections.
 use Rattle.std.specs.Prelude.{◌≤◌}
 use Rattle.basic_values.specs.declared.failures.Trouble.{Trouble}
 use Rattle.basic_values.specs.declared.failures.Trouble.TheVariants as trouble

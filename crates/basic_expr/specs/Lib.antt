@@ -1,4 +1,5 @@
 pub mod Failures
 pub mod Parsing
 pub mod ParsedSymbols
+pub mod Precedences
 pub mod Views

@@ -1,11 +1,11 @@
--- What the functions of the parser give: symbols of the machine, whatever is expected behind them.
-use Rattle.std.specs.Prelude.{◌≡◌, ◌≢◌, nat_lt, ℕ, suc, ◌+◌, ◌==◌, not, ◌||◌, ◌&&◌, Bool, true, false, ◌<◌, ◌≤◌, ◌⊎◌, List, [], ◌∷◌, ◌++◌, length, drop, Option, Some, None, Result, Ok, Err}
+-- What the functions of the parser return, in terms of symbols of the machine, whatever is expected
+-- after these.
+use Rattle.std.specs.Prelude.{◌≡◌, nat_lt, ℕ, suc, ◌+◌, ◌==◌, not, ◌||◌, ◌&&◌, Bool, true, false, ◌<◌, ◌≤◌, List, [], ◌∷◌, ◌++◌, length, drop, Option, Some, None, Result, Ok, Err}
 use Rattle.basic_expr.specs.declared.failures.Failure.{Failure}
 use Rattle.basic_expr.specs.declared.failures.Failure.TheVariants as failure
 use Rattle.basic_expr.specs.declared.failures.Found.{Found}
 use Rattle.basic_expr.specs.declared.signs.Prefix.{Prefix}
 use Rattle.basic_expr.specs.declared.signs.Prefix.TheVariants as prefix
-use Rattle.basic_tree.specs.declared.names.Name.{Name}
 use Rattle.basic_tree.specs.declared.tokens.Keyword.{Keyword}
 use Rattle.basic_tree.specs.declared.tokens.Sign.{Sign}
 use Rattle.basic_tree.specs.declared.tokens.Sign.TheVariants as sign
@@ -21,14 +21,14 @@ use Rattle.basic_tree.specs.Trees.{Tree, Trees, NoTrees, AndTrees, Negative, Pos
 use Rattle.basic_tree.specs.TreeViews.{tree_of}
 use Rattle.basic_tree.specs.GrammarTables.{arguments_of, gives_text, joins_texts, operator_level}
 use Rattle.grammar_machine.specs.GrammarWords.{function_of, is_same_sign, is_same_keyword}
-use Rattle.grammar_machine.specs.MachineStack.{Action, Close, Do, Exponent, Level, MakeComparison, MakeFunction, MakeNegative, MakeNot, MakeOperation, MakePositive, More, MoreRelations, SecondSubscript, Several, Subscripts, Symbol, Term, Value, Values}
+use Rattle.grammar_machine.specs.MachineStack.{Action, Close, Do, Exponent, Level, MakeComparison, MakeFunction, MakeNegative, MakeNot, MakeOperation, MakePositive, More, MoreRelations, SecondSubscript, Several, Symbol, Term, Value, Values}
 use Rattle.grammar_machine.specs.MachineStarts.{arguments_expected, takes}
 use Rattle.grammar_machine.specs.MachineMoves.{right_of}
 use Rattle.grammar_machine.specs.MachineRun.{Halt, TooDeep, Wrong, run}
 
 -- ---- symbols
 
--- with these symbols and values on top, the machine stops so, whatever stands below
+-- with these symbols and values on top of any others, the machine stops like this
 abbrev pub HaltsAll : ℕ → List Word → List Symbol → Values → ℕ → Halt → Type 0
 HaltsAll n ws ss v from halt = (k : List Symbol) (vs : Values) → run n (drop from ws) (ss ++ k) (v ++ vs) ≡ Err halt
 
@@ -37,7 +37,8 @@ RefusesAll n ws ss v from failure.NoMemory = Unit {0}
 RefusesAll n ws ss v from (failure.Wrong place) = (place ≤ length ws) × HaltsAll n ws ss v from (Wrong (drop place ws))
 RefusesAll n ws ss v from (failure.TooDeep place) = (place < length ws) × HaltsAll n ws ss v from (TooDeep (drop place ws))
 
--- with these symbols and values on top, the words up to the end are taken, and this value stands in the place of the values
+-- with these symbols and values on top, the words up to the end are taken, and this value replaces
+-- the values
 abbrev pub TakesAll : ℕ → List Word → List Symbol → Values → ℕ → ℕ → Value → Type 0
 TakesAll n ws ss v from end made = (k : List Symbol) (vs : Values) → run n (drop from ws) (ss ++ k) (v ++ vs) ≡ run n (drop end ws) k (made ∷ vs)
 
@@ -53,19 +54,19 @@ ReadsAt n ws s from r = ReadsAll n ws (s ∷ []) [] from r
 abbrev pub RefusesAt : ℕ → List Word → Symbol → ℕ → Failure → Type 0
 RefusesAt n ws s from e = RefusesAll n ws (s ∷ []) [] from e
 
--- where it ends, behind the place, and the kind
+-- if it ends, then after the place, and with this kind
 abbrev pub EndsBehind : List Word → ℕ → Result Found Failure → Type 0
 EndsBehind ws from (Ok f) = (from < f.end) × (f.end ≤ length ws) × (f.text ≡ is_text (tree_of f.tree))
 EndsBehind ws from (Err e) = Unit {0}
 
--- where it ends, at the place or behind it, and the kind
+-- if it ends, then at the place or after it, and with this kind
 abbrev pub EndsFrom : List Word → ℕ → Result Found Failure → Type 0
 EndsFrom ws from (Ok f) = (from ≤ f.end) × (f.end ≤ length ws) × (f.text ≡ is_text (tree_of f.tree))
 EndsFrom ws from (Err e) = Unit {0}
 
 -- ---- words
 
--- a word stands at a place
+-- this word is at the place
 abbrev pub WordStands : List Word → Word → ℕ → Type 0
 WordStands ws w place = (place < length ws) × (drop place ws ≡ w ∷ drop (place + 1) ws)
 
@@ -94,41 +95,41 @@ ReadsSign ws s from (Err e) = RefusesSign ws s from e
 
 -- ---- operators
 
--- whether an operator goes on with a level behind a text, or else behind a number
+-- whether an operator continues a level after a string, or else after a number
 abbrev pub goes_on : Operator → ℕ → Bool → Bool
 goes_on o level text = operator_level o == level && (not text || joins_texts o)
 
--- at a place, behind an operand of this kind, the operator goes on with the level
+-- at a place, after an operand of this kind, the operator continues the level
 abbrev pub TakesOperator : List Word → ℕ → ℕ → Bool → Operator → Type 0
 TakesOperator ws place level text o =
     (n : ℕ) (k : List Symbol) (a : Tree) (vs : Values) → is_text a ≡ text
     → run n (drop place ws) (More level ∷ k) (Term a ∷ vs) ≡ run n (drop (place + 1) ws) (right_of o text ∷ Do (MakeOperation o) ∷ More level ∷ k) (Term a ∷ vs)
 
--- at a place, behind an operand of this kind, the level ends
+-- at a place, after an operand of this kind, the level ends
 abbrev pub EndsLevel : List Word → ℕ → ℕ → Bool → Type 0
 EndsLevel ws place level text =
     (n : ℕ) (k : List Symbol) (a : Tree) (vs : Values) → is_text a ≡ text
     → run n (drop place ws) (More level ∷ k) (Term a ∷ vs) ≡ run n (drop place ws) k (Term a ∷ vs)
 
--- the operator at a place that goes on with a level, or none
+-- the operator at a place that continues a level, or none
 abbrev pub OperatorAt : List Word → ℕ → ℕ → Bool → Option Operator → Type 0
 OperatorAt ws place level text (Some o) = (place < length ws) × TakesOperator ws place level text o
 OperatorAt ws place level text None = EndsLevel ws place level text
 
--- at a place the relation goes on behind an operand
+-- at a place, after an operand, the relation continues
 abbrev pub TakesRelation : List Word → ℕ → Relation → Type 0
 TakesRelation ws place r =
     (n : ℕ) (must_be_number : Bool) (k : List Symbol) (a : Tree) (vs : Values)
     → run n (drop place ws) (MoreRelations must_be_number ∷ k) (Term a ∷ vs)
     ≡ run n (drop (place + 1) ws) (Level 4 (want_of (is_text a)) ∷ Do (MakeComparison r) ∷ MoreRelations must_be_number ∷ k) (Term a ∷ vs)
 
--- at a place the relations end behind an operand of a kind that may be the whole
+-- at a place the relations end, after an operand of a kind that the whole may have
 abbrev pub EndsRelations : List Word → ℕ → Type 0
 EndsRelations ws place =
     (n : ℕ) (must_be_number : Bool) (k : List Symbol) (a : Tree) (vs : Values) → (must_be_number && is_text a) ≡ false
     → run n (drop place ws) (MoreRelations must_be_number ∷ k) (Term a ∷ vs) ≡ run n (drop place ws) k (Term a ∷ vs)
 
--- at a place a text is refused that has to become a number
+-- at a place a string is rejected, because it has to become a number
 abbrev pub RefusesText : List Word → ℕ → Type 0
 RefusesText ws place =
     (n : ℕ) (k : List Symbol) (a : Tree) (vs : Values) → is_text a ≡ true
@@ -139,18 +140,13 @@ abbrev pub RelationAt : List Word → ℕ → Option Relation → Type 0
 RelationAt ws place (Some r) = (place < length ws) × TakesRelation ws place r
 RelationAt ws place None = EndsRelations ws place × RefusesText ws place
 
--- whether relations may stand where a kind is wanted: a relation gives a number
+-- whether relations are allowed where this kind is wanted: a relation gives a number
 abbrev pub takes_relations : Want → Bool
 takes_relations want.Number = true
 takes_relations want.Text = false
 takes_relations want.Either = true
 
--- the level of what stands behind an operator, or none where it is an exponent
-abbrev pub IsRightLevel : Operator → Option ℕ → Type 0
-IsRightLevel o (Some l) = (l ≤ 10) × ((text : Bool) → right_of o text ≡ Level l (want_of text))
-IsRightLevel o None = (text : Bool) → right_of o text ≡ Exponent
-
--- ---- what stands before an operand
+-- ---- what comes before an operand
 
 abbrev pub action_of : Prefix → Action
 action_of prefix.Minus = MakeNegative
@@ -162,7 +158,7 @@ prefixed prefix.Minus a = Negative a
 prefixed prefix.Plus a = Positive a
 prefixed prefix.Not a = Not a
 
--- at a place, where a number fits, a prefix opens a level for the operand
+-- at a place, if a number is allowed, a prefix opens a level for the operand
 abbrev pub OpensPrefixed : (Want → Bool) → (Want → Symbol) → Symbol → List Word → ℕ → Prefix → Type 0
 OpensPrefixed fits s operand ws place p =
     (n : ℕ) (w : Want) (k : List Symbol) (vs : Values) → fits w ≡ true
@@ -173,12 +169,12 @@ abbrev pub DeepPrefixed : (Want → Bool) → (Want → Symbol) → List Word �
 DeepPrefixed fits s ws place =
     (w : Want) (k : List Symbol) (vs : Values) → fits w ≡ true → run 0 (drop place ws) (s w ∷ k) vs ≡ Err (TooDeep (drop place ws))
 
--- where no number fits it is refused
+-- if no number is allowed, it is rejected
 abbrev pub RefusesPrefixed : (Want → Bool) → (Want → Symbol) → List Word → ℕ → Type 0
 RefusesPrefixed fits s ws place =
     (n : ℕ) (w : Want) (k : List Symbol) (vs : Values) → fits w ≡ false → run n (drop place ws) (s w ∷ k) vs ≡ Err (Wrong (drop place ws))
 
--- what is tighter stands there
+-- an operand that binds more tightly is there
 abbrev pub GoesTighter : (Want → Symbol) → (Want → Symbol) → List Word → ℕ → Type 0
 GoesTighter s tighter ws place =
     (n : ℕ) (w : Want) (k : List Symbol) (vs : Values) → run n (drop place ws) (s w ∷ k) vs ≡ run n (drop place ws) (tighter w ∷ k) vs
@@ -189,7 +185,7 @@ PrefixAt fits s operand tighter ws place (Some p) =
     (place < length ws) × OpensPrefixed fits s operand ws place p × DeepPrefixed fits s ws place × RefusesPrefixed fits s ws place
 PrefixAt fits s operand tighter ws place None = GoesTighter s tighter ws place
 
--- a number may stand where it is wanted
+-- a number is allowed where this kind is wanted
 abbrev pub takes_number : Want → Bool
 takes_number w = takes w false
 
@@ -204,17 +200,6 @@ exponents w = Exponent
 
 abbrev pub number_atom : Want → Symbol
 number_atom w = Level 0 want.Number
-
--- a level whose operands may have a prefix
-abbrev pub IsPrefixed : ℕ → Type 0
-IsPrefixed l = (l ≡ 2) ⊎ (l ≡ 6)
-
--- a level of operators that go from left to right
-pub record IsChain (l : ℕ) : Type 0 where
-  pub above : 0 < l
-  pub no_signs : l ≢ 2
-  pub no_relations : l ≢ 5
-  pub no_nots : l ≢ 6
 
 -- ---- atoms
 
@@ -239,12 +224,12 @@ abbrev pub trees_in : List Expr → Trees
 trees_in [] = NoTrees
 trees_in (e ∷ es) = AndTrees (tree_of e) (trees_in es)
 
--- the second subscript behind a first one
+-- the second subscript after a first one
 abbrev pub second_tree : Option Expr → Trees
 second_tree None = NoTrees
 second_tree (Some e) = AndTrees (tree_of e) NoTrees
 
--- behind a first subscript the words up to the end are taken as a second one, or none
+-- after a first subscript, the words up to the end are taken as a second one, or as none
 abbrev pub TakesSecond : ℕ → List Word → ℕ → Option Expr → ℕ → Type 0
 TakesSecond n ws from second end =
     (k : List Symbol) (a : Tree) (vs : Values)
@@ -254,7 +239,7 @@ abbrev pub ReadsSecond : ℕ → List Word → ℕ → Result (Option Expr × �
 ReadsSecond n ws from (Ok x) = (from ≤ x.1) × (x.1 ≤ length ws) × TakesSecond n ws from x.0 x.1
 ReadsSecond n ws from (Err e) = RefusesAt n ws SecondSubscript from e
 
--- what is expected behind the name of a function of the language
+-- what is expected after the name of a function of the language
 abbrev pub function_expected : Function → List Symbol
 function_expected f = arguments_expected (arguments_of f) ++ Do (MakeFunction f) ∷ []
 
@@ -267,7 +252,7 @@ pub record Continues (n : ℕ) (ws : List Word) (s : Symbol) (from : ℕ) (more 
   pub within : f.end ≤ length ws
   pub kind : f.text ≡ is_text (tree_of f.tree)
 
--- so far these arguments were read behind an opened level, and more may be expected
+-- so far these arguments were read after an opened level, and more may be expected
 pub record Gathers (n m : ℕ) (ws : List Word) (ss : List Symbol) (v : Values) (from : ℕ) (more : List Symbol) (items : List Expr) (place : ℕ) : Type 0 where
   pub runs : (k : List Symbol) (vs : Values) → run n (drop from ws) (ss ++ k) (v ++ vs) ≡ run m (drop place ws) (more ++ k) (Several (trees_in items) ∷ vs)
   pub after : from < place

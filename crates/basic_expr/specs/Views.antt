@@ -5,7 +5,7 @@ use Rattle.basic_tree.specs.SpellingWords as spelling
 use Rattle.basic_expr.specs.declared.words.Word.{Word}
 use Rattle.basic_expr.specs.declared.words.Word.TheVariants.{Key, Punctuation, Named, FnNamed, Number, Quotation, Item}
 
--- a word without where its bytes lie in memory
+-- a word, without pointers
 abbrev pub as_word : Word → spelling.Word
 as_word (Key keyword) = spelling.Key keyword
 as_word (Punctuation sign) = spelling.Punctuation sign
@@ -18,12 +18,12 @@ as_word (Item bytes) = spelling.Item bytes.now
 abbrev pub as_words : List Word → List spelling.Word
 as_words words = map as_word words
 
--- a text in quotes or an item has no more bytes than a line may have
+-- a quoted string or an item has no more bytes than a line can have
 abbrev pub IsShort : Word → Type 0
 IsShort (Quotation bytes) = length bytes.now ≤ LINE_LENGTH
 IsShort (Item bytes) = length bytes.now ≤ LINE_LENGTH
 IsShort other = Unit {0}
 
--- how many words a line may have: one for each byte
+-- the most words of a line: one for each byte
 abbrev pub most_words : ℕ
 most_words = LINE_LENGTH

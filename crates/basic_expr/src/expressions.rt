@@ -1,30 +1,32 @@
-//! Expressions by recursive descent: one function for each sort of symbol of the grammar's machine.
+//! Expressions by recursive descent: one function for each kind of symbol of the grammar's machine.
 
-ghost use Rattle.std.specs.Prelude.{◌≡◌, ◌≤◌, ◌<◌, ◌+◌, ◌∷◌, [], length, drop, IfOk};
-ghost use Rattle.basic_expr.specs.ParsedSymbols.{EndsBehind, EndsFrom, IsChain, IsPrefixed, ReadsAll, ReadsAt, ReadsSecond, WordStands, begins_atom, function_expected, prefixed, second_tree, trees_in};
+ghost use Rattle.std.specs.Prelude.{◌≡◌, ◌≤◌, ◌∷◌, [], true, length, IfOk};
+ghost use Rattle.basic_expr.specs.Precedences.{is_chain, is_prefixed, level_number};
+ghost use Rattle.basic_expr.specs.ParsedSymbols.{EndsBehind, EndsFrom, ReadsAll, ReadsAt};
+ghost use Rattle.basic_expr.specs.ParsedSymbols.{ReadsSecond, WordStands, begins_atom};
+ghost use Rattle.basic_expr.specs.ParsedSymbols.{function_expected, prefixed, second_tree};
+ghost use Rattle.basic_expr.specs.ParsedSymbols.{trees_in};
 ghost use Rattle.basic_expr.specs.Views.{as_word, most_words};
 ghost use Rattle.grammar_machine.specs.MachineMoves.{right_of};
-ghost use Rattle.grammar_machine.specs.MachineStack.{Arguments, Exponent, Level, Several, Subscripts, loosest};
-ghost use Rattle.grammar_machine.specs.MachineStarts.{Chain, rank_of, takes};
+ghost use Rattle.grammar_machine.specs.MachineStack.{Arguments, Exponent, Level, Several};
+ghost use Rattle.grammar_machine.specs.MachineStack.{Subscripts, loosest};
 ghost use Rattle.basic_tree.specs.SpellingExpressions.{is_text};
 ghost use Rattle.basic_tree.specs.SpellingWords.{Punctuation};
 ghost use Rattle.basic_tree.specs.TreeViews.{tree_of};
-ghost use Rattle.basic_tree.specs.Trees.{AndTrees, Call, Comparison, Element, FunctionOf, NoTrees, Operation, Parenthesized};
+ghost use Rattle.basic_tree.specs.Trees.{AndTrees, Call, Comparison, Element, FunctionOf};
+ghost use Rattle.basic_tree.specs.Trees.{NoTrees, Operation, Parenthesized};
 ghost use Rattle.basic_tree.specs.declared.tokens.Sign.TheVariants.{Opening};
 
 use crate::failures::{Failure, Found};
+use crate::precedence::{LOOSEST, Precedence, right_precedence, tighter};
 use crate::signs::{
-    Prefix, expect, is_same_sign, next_is_sign, next_operator, next_prefix, next_relation,
-    next_sign, right_level,
+    Prefix, expect, next_is_sign, next_operator, next_prefix, next_relation, next_sign,
 };
 use crate::tables::{arguments_of, function_of, side, takes, takes_relations, want_of};
 use crate::words::{Word, Words, text_of};
 use basic_tree::{Expr, Function, Name, Operator, Relation, Sign, Want};
 use basic_values::NoMemory;
 use std::alloc::Global;
-
-/// The loosest level, that of a whole expression.
-const LOOSEST: usize = 11;
 
 // A tree from its parts
 
@@ -96,49 +98,49 @@ fn applied(function: Function, arguments: Vec<Expr>) -> Expr
     }
 }
 
-// Levels
+// Precedences
 
-/// An expression of a level, from 0 for an atom to 11 for a whole expression.
+/// Parses an expression of a precedence.
 #[cycle(expression)]
 fn parse_level(
     alloc: Global,
     words: &Words<'_>,
     from: usize,
     want: Want,
-    level: usize,
+    precedence: Precedence,
     levels: usize,
 ) -> Result<Found, Failure>
-    requires within { from ≤ length words.now }
-    requires level { level ≤ loosest }
-    ensures reads { ReadsAt levels words.now (Level level want) from result }
+    requires { from ≤ length words.now }
+    ensures reads { ReadsAt levels words.now (Level (level_number precedence) want) from result }
     ensures ends { EndsBehind words.now from result }
 {
-    match level {
-        0 => parse_atom(alloc, words, from, want, levels),
-        2 | 6 => parse_prefixed(alloc, words, from, want, level, levels),
-        5 => parse_relations(alloc, words, from, want, levels),
-        _ => parse_chain(alloc, words, from, want, level, levels),
+    match precedence {
+        Precedence::Atom => parse_atom(alloc, words, from, want, levels),
+        Precedence::Sign | Precedence::Not => parse_prefixed(
+            alloc, words, from, want, precedence, levels,
+        ),
+        Precedence::Relation => parse_relations(alloc, words, from, want, levels),
+        _ => parse_chain(alloc, words, from, want, precedence, levels),
     }
 }
 
-/// Operands of a level with its operators between them, from left to right.
+/// Parses operands that are separated by operators of one precedence, from left to right.
 #[cycle(expression)]
 fn parse_chain(
     alloc: Global,
     words: &Words<'_>,
     from: usize,
     want: Want,
-    level: usize,
+    precedence: Precedence,
     levels: usize,
 ) -> Result<Found, Failure>
     requires within { from ≤ length words.now }
-    requires level { level ≤ loosest }
-    requires chain { IsChain level }
-    ensures reads { ReadsAt levels words.now (Level level want) from result }
+    requires chain { is_chain precedence ≡ true }
+    ensures reads { ReadsAt levels words.now (Level (level_number precedence) want) from result }
     ensures ends { EndsBehind words.now from result }
 {
-    let mut left = parse_level(alloc, words, from, want, level - 1, levels)?;
-    'operands: while let Some(operator) = next_operator(words, left.end, level, left.text) {
+    let mut left = parse_level(alloc, words, from, want, tighter(precedence), levels)?;
+    'operands: while let Some(operator) = next_operator(words, left.end, precedence, left.text) {
         let right = parse_right(alloc, words, left.end + 1, operator, left.text, levels)?;
         left = Found {
             tree: operation(alloc, left.tree, operator, right.tree)?,
@@ -149,7 +151,7 @@ fn parse_chain(
     Ok(left)
 }
 
-/// What stands behind an operator.
+/// Parses what follows an operator.
 #[cycle(expression)]
 fn parse_right(
     alloc: Global,
@@ -163,13 +165,13 @@ fn parse_right(
     ensures reads { ReadsAt levels words.now (right_of operator text) from result }
     ensures ends { EndsBehind words.now from result }
 {
-    match right_level(operator) {
-        Some(level) => parse_level(alloc, words, from, want_of(text), level, levels),
+    match right_precedence(operator) {
+        Some(precedence) => parse_level(alloc, words, from, want_of(text), precedence, levels),
         None => parse_exponent(alloc, words, from, levels),
     }
 }
 
-/// Signs and an atom, behind `^`.
+/// Parses signs and an atom, after `^`.
 #[cycle(expression)]
 fn parse_exponent(
     alloc: Global,
@@ -197,23 +199,23 @@ fn parse_exponent(
     }
 }
 
-/// Signs before what is tighter, or NOT before what is tighter.
+/// Parses a sign, or NOT, and its operand; or else an operand of the next higher precedence.
 #[cycle(expression)]
 fn parse_prefixed(
     alloc: Global,
     words: &Words<'_>,
     from: usize,
     want: Want,
-    level: usize,
+    precedence: Precedence,
     levels: usize,
 ) -> Result<Found, Failure>
     requires within { from ≤ length words.now }
-    requires prefixed { IsPrefixed level }
-    ensures reads { ReadsAt levels words.now (Level level want) from result }
+    requires prefixed { is_prefixed precedence ≡ true }
+    ensures reads { ReadsAt levels words.now (Level (level_number precedence) want) from result }
     ensures ends { EndsBehind words.now from result }
 {
-    match next_prefix(words, from, level) {
-        None => parse_level(alloc, words, from, want, level - 1, levels),
+    match next_prefix(words, from, precedence) {
+        None => parse_level(alloc, words, from, want, tighter(precedence), levels),
         Some(prefix) => {
             if !takes(want, false) {
                 return Err(Failure::Wrong { place: from });
@@ -221,7 +223,14 @@ fn parse_prefixed(
             if levels == 0 {
                 return Err(Failure::TooDeep { place: from });
             }
-            let operand = parse_prefixed(alloc, words, from + 1, Want::Number, level, levels - 1)?;
+            let operand = parse_prefixed(
+                alloc,
+                words,
+                from + 1,
+                Want::Number,
+                precedence,
+                levels - 1,
+            )?;
             Ok(Found {
                 tree: prefixed(alloc, prefix, operand.tree)?,
                 text: false,
@@ -231,8 +240,8 @@ fn parse_prefixed(
     }
 }
 
-/// Relations from left to right. The first side of one may be a text where the whole has to be a
-/// number.
+/// Parses relations from left to right. The left side of one may be a string, even if the whole has
+/// to be a number.
 #[cycle(expression)]
 fn parse_relations(
     alloc: Global,
@@ -245,12 +254,13 @@ fn parse_relations(
     ensures reads { ReadsAt levels words.now (Level 5 want) from result }
     ensures ends { EndsBehind words.now from result }
 {
-    let mut left = parse_level(alloc, words, from, side(want), 4, levels)?;
+    let mut left = parse_level(alloc, words, from, side(want), Precedence::Sum, levels)?;
     if !takes_relations(want) {
         return Ok(left);
     }
     'relations: while let Some(relation) = next_relation(words, left.end) {
-        let right = parse_level(alloc, words, left.end + 1, want_of(left.text), 4, levels)?;
+        let want = want_of(left.text);
+        let right = parse_level(alloc, words, left.end + 1, want, Precedence::Sum, levels)?;
         left = Found {
             tree: comparison(alloc, left.tree, relation, right.tree)?,
             text: false,
@@ -265,7 +275,7 @@ fn parse_relations(
 
 // Atoms
 
-/// Whether an atom of the wanted kind begins with a word.
+/// Returns whether an atom of the wanted kind begins with this word.
 fn begins_atom(want: Want, word: Word<'_>) -> bool
     ensures { result ≡ begins_atom want (as_word word.entry) }
 {
@@ -273,7 +283,7 @@ fn begins_atom(want: Want, word: Word<'_>) -> bool
         Word::Number(n) => takes(want, false) && n < 32768,
         Word::Quotation(_) => takes(want, true),
         Word::Named(name) | Word::FnNamed(name) => takes(want, name.text),
-        Word::Punctuation(sign) => is_same_sign(Sign::Opening, sign),
+        Word::Punctuation(sign) => Sign::Opening == sign,
         Word::Key(key) => match function_of(key) {
             None => false,
             Some(function) => takes(want, function.gives_text()),
@@ -282,7 +292,8 @@ fn begins_atom(want: Want, word: Word<'_>) -> bool
     }
 }
 
-/// A number, a text, a name and what belongs to it, or an expression in parentheses.
+/// Parses a number, a string, a name with its subscripts or arguments, or an expression in
+/// parentheses.
 #[cycle(expression)]
 fn parse_atom(
     alloc: Global,
@@ -324,7 +335,7 @@ fn parse_atom(
     }
 }
 
-/// An expression in parentheses.
+/// Parses an expression in parentheses.
 #[cycle(expression)]
 fn parse_parenthesized(
     alloc: Global,
@@ -350,7 +361,7 @@ fn parse_parenthesized(
     })
 }
 
-/// Behind the name of a variable or an array: its subscripts, or none.
+/// Parses what follows the name of a variable or an array: its subscripts, or nothing.
 #[cycle(expression)]
 pub fn subscripts_at(
     alloc: Global,
@@ -383,7 +394,7 @@ pub fn subscripts_at(
     })
 }
 
-/// A comma and a second subscript, or none.
+/// Parses a comma and a second subscript, or nothing.
 #[cycle(expression)]
 fn second_subscript(
     alloc: Global,
@@ -401,7 +412,7 @@ fn second_subscript(
     Ok((Some(second.tree), second.end))
 }
 
-/// Behind the name of a function of the program: its arguments, or none.
+/// Parses what follows the name of a function of the program: its arguments, or nothing.
 #[cycle(expression)]
 fn parse_call(
     alloc: Global,
@@ -441,7 +452,7 @@ fn parse_call(
     })
 }
 
-/// Behind the word of a function of the language: its arguments, as many as it has.
+/// Parses what follows the word of a function of the language: as many arguments as it has.
 #[cycle(expression)]
 fn parse_function(
     alloc: Global,
@@ -488,7 +499,8 @@ fn parse_function(
     })
 }
 
-/// The longest expression of the wanted kind from a place on, with so many levels of nesting left.
+/// Parses the longest expression of the wanted kind from a place on, with this many levels of
+/// nesting left.
 pub fn expression_at(
     alloc: Global,
     words: &Words<'_>,

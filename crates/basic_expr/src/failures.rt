@@ -1,4 +1,4 @@
-//! What a reading call gives: a tree and the place behind it, or why there is none.
+//! What a parsing call returns: a tree and the place after it, or why there is none.
 
 ghost use Rattle.std.specs.Prelude.{◌≡◌};
 ghost use Rattle.basic_expr.specs.Failures.{IsNear, trouble_of};
@@ -7,18 +7,18 @@ use basic_tree::{Cause, Expr, Refusal};
 use basic_values::{NoMemory, Trouble};
 use std::alloc::{AllocError, AllocFailed};
 
-/// Why nothing was read. The place is that of a word, from 0.
+/// Why nothing was parsed. The place is that of a word, from 0.
 #[derive(Clone, Copy, PartialEq, Eq)]
 pub enum Failure {
     NoMemory,
-    /// Nothing goes on with this word behind those before it.
+    /// No line can have this word after those before it.
     Wrong { place: usize },
     /// This word opens a level of nesting too many.
     TooDeep { place: usize },
 }
 
 impl Failure {
-    /// The failure as a refusal with its cause.
+    /// Returns the failure as a rejection with its cause.
     pub fn trouble(self) -> Trouble<Refusal>
         requires { IsNear self }
         ensures { result ≡ trouble_of self }
@@ -67,7 +67,7 @@ impl From<NoMemory> for Failure {
     }
 }
 
-/// An expression, whether it gives a text, and the place behind it.
+/// An expression, whether it gives a string, and the place after it.
 #[derive(Drop)]
 pub struct Found {
     pub tree: Expr,

@@ -1,16 +1,15 @@
-//! Expressions, read from the words of a line by recursive descent.
+//! Parses expressions from the words of a line, by recursive descent.
 //!
-//! It stands on `basic_scanner`, whose tokens it takes as words, and on `basic_tree`, whose grammar
-//! and machine its contracts speak of. `parse_expr` carries the promise for whole expressions: the
-//! longest that the tokens spell, or the token that is refused. `expression_at` and
-//! `subscripts_at` say the same of the machine at a place of the words, for the crates above;
-//! `Words` are those that the grammar sees, and `MOST_LEVELS` is the limit of nesting.
+//! `parse_expr` promises, in terms of the grammar of `basic_tree`, the longest expression that the
+//! tokens spell, or the token that is rejected. `expression_at` and `subscripts_at` promise the
+//! same in terms of the grammar's stack machine, for the crates above. `Words` are the tokens as
+//! the grammar sees them, and `MOST_LEVELS` is the greatest nesting depth.
 #![tactic(auto)]
 
 mod expressions;
 mod failures;
-mod keys;
 mod parsing;
+mod precedence;
 mod signs;
 mod tables;
 mod words;

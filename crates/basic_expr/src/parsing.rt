@@ -1,4 +1,4 @@
-//! Expressions from the tokens of a line.
+//! Expressions, parsed from the tokens of a line.
 
 ghost use Rattle.std.specs.Prelude.{◌≤◌, length};
 ghost use Rattle.basic_tree.specs.SpellingWords.{words_of};
@@ -11,15 +11,17 @@ use basic_tree::{Expr, Refusal, Want};
 use basic_values::{NoMemory, Trouble};
 use std::alloc::Global;
 
-/// How many levels of nesting may be open in a line. Parentheses of every sort, signs and NOT each
-/// open one.
+/// The greatest nesting depth in a line. Parentheses of every kind, signs and NOT each open a
+/// level.
 pub const MOST_LEVELS: usize = 64;
 
-/// The longest expression of the wanted kind among the tokens from a place on, and the place behind
-/// it: with k the greatest place such that the tokens up to k begin some expression of that kind,
-/// they are one themselves, and none of them opens a level too many. Else the first token that is
-/// refused: as `Syntax` at k, as `TooDeep` at the token that opens level 65. Places are numbers of
-/// tokens, from 0; the end is the number of tokens.
+/// Parses the longest expression of the wanted kind from a place of the tokens on, and returns it
+/// with the place after it.
+///
+/// Let k be the greatest place such that the tokens up to k begin some expression of that kind. If
+/// they are an expression, and none of them opens a level too many, it is returned. If not, the
+/// first rejected token is: with `Syntax` at k, or with `TooDeep` at the token that opens level 65.
+/// Places are numbers of tokens, from 0; the end is the number of tokens.
 pub fn parse_expr(
     alloc: Global,
     tokens: &Tokens<'_>,

@@ -1,23 +1,25 @@
-//! What stands at a place: signs, words, operators and prefixes.
+//! Tests of the word at a place: signs, keywords, operators and prefixes.
 
-ghost use Rattle.std.specs.Prelude.{◌≡◌, ◌≤◌, ◌<◌, ◌+◌, ◌∷◌, [], drop, length, ◌-◌, MatchBool};
+ghost use Rattle.std.specs.Prelude.{◌≡◌, ◌≤◌, ◌-◌, true, drop, length, MatchBool};
 ghost use Rattle.basic_expr.specs.Views.{as_word, most_words};
-ghost use Rattle.basic_expr.specs.ParsedSymbols.{First, IsPrefixed, IsRightLevel, OperatorAt, goes_on, PrefixAt, ReadsSign, RelationAt, WordStands, always, exponents, is_key, is_sign, number_atom, signed_level, takes_number};
+ghost use Rattle.basic_expr.specs.Precedences.{is_prefixed, level_number};
+ghost use Rattle.basic_expr.specs.ParsedSymbols.{First, OperatorAt, PrefixAt, ReadsSign};
+ghost use Rattle.basic_expr.specs.ParsedSymbols.{RelationAt, WordStands, always, exponents};
+ghost use Rattle.basic_expr.specs.ParsedSymbols.{goes_on, is_key, is_sign, number_atom};
+ghost use Rattle.basic_expr.specs.ParsedSymbols.{signed_level, takes_number};
 ghost use Rattle.grammar_machine.specs.MachineStack.{Level, Exponent};
 ghost use Rattle.grammar_machine.specs.MachineForms.{begins_value, is_known, key_begins};
-ghost use Rattle.grammar_machine.specs.GrammarWords.{function_of, operator_of, relation_of, is_same_sign};
+ghost use Rattle.grammar_machine.specs.GrammarWords.{function_of, operator_of, relation_of};
 ghost use Rattle.basic_tree.specs.SpellingWords.{Punctuation, Key as KeyWord};
 ghost use Rattle.basic_tree.specs.declared.kinds.Want.TheVariants.{Number};
 
 use crate::failures::Failure;
-use crate::keys::is_same_key;
-use crate::tables::{
-    function_of, joins_texts, key_operator, level_of, sign_number, sign_operator, sign_relation,
-};
+use crate::precedence::{Precedence, precedence_of};
+use crate::tables::{function_of, joins_texts, key_operator, sign_operator, sign_relation};
 use crate::words::{Word, Words};
 use basic_tree::{Keyword, Operator, Relation, Sign};
 
-/// What stands before an operand.
+/// A prefix: what may come before an operand.
 #[derive(Clone, Copy, PartialEq, Eq)]
 pub enum Prefix {
     Minus,
@@ -25,17 +27,11 @@ pub enum Prefix {
     Not,
 }
 
-pub(crate) fn is_same_sign(a: Sign, b: Sign) -> bool
-    ensures { result ≡ is_same_sign a b }
-{
-    sign_number(a) == sign_number(b)
-}
-
 fn is_sign(word: Word<'_>, sign: Sign) -> bool
     ensures { result ≡ is_sign sign (as_word word.entry) }
 {
     match word {
-        Word::Punctuation(found) => is_same_sign(sign, found),
+        Word::Punctuation(found) => sign == found,
         _ => false,
     }
 }
@@ -44,13 +40,13 @@ fn is_key(word: Word<'_>, key: Keyword) -> bool
     ensures { result ≡ is_key key (as_word word.entry) }
 {
     match word {
-        Word::Key(found) => is_same_key(key, found),
+        Word::Key(found) => key == found,
         _ => false,
     }
 }
 
-/// Whether this sign stands at a place.
-#[tactic(auto, using(crate::proofs::Steps::is_that_sign))]
+/// Returns whether this sign is at a place.
+#[tactic(auto, using(crate::proofs::WordTests::is_that_sign))]
 pub fn next_is_sign(words: &Words<'_>, place: usize, sign: Sign) -> bool
     requires { place ≤ length words.now }
     ensures stands { MatchBool result (WordStands words.now (Punctuation sign) place)
@@ -63,7 +59,7 @@ pub fn next_is_sign(words: &Words<'_>, place: usize, sign: Sign) -> bool
     }
 }
 
-/// Whether this word stands at a place.
+/// Returns whether this keyword is at a place.
 pub fn next_is_key(words: &Words<'_>, place: usize, key: Keyword) -> bool
     requires { place ≤ length words.now }
     ensures stands { MatchBool result (WordStands words.now (KeyWord key) place)
@@ -76,7 +72,7 @@ pub fn next_is_key(words: &Words<'_>, place: usize, key: Keyword) -> bool
     }
 }
 
-/// The place behind one sign.
+/// Returns the place after this sign, which has to be there.
 pub fn expect(words: &Words<'_>, place: usize, sign: Sign) -> Result<usize, Failure>
     requires { place ≤ length words.now }
     ensures { ReadsSign words.now sign place result }
@@ -107,29 +103,30 @@ fn relation_of(word: Word<'_>) -> Option<Relation>
     }
 }
 
-/// Whether an operator goes on with a level behind a text, or else behind a number.
-fn goes_on(operator: Operator, level: usize, text: bool) -> bool
-    ensures { result ≡ goes_on operator level text }
+/// Returns whether an operator has this precedence, and may follow a string, or else a number.
+fn goes_on(operator: Operator, precedence: Precedence, text: bool) -> bool
+    ensures { result ≡ goes_on operator (level_number precedence) text }
 {
-    level_of(operator) == level && (!text || joins_texts(operator))
+    precedence_of(operator) == precedence && (!text || joins_texts(operator))
 }
 
-/// The operator at a place that goes on with a level behind a text, or else behind a number.
+/// Returns the operator at a place, if it has this precedence and may follow a string, or else a
+/// number.
 pub(crate) fn next_operator(
     words: &Words<'_>,
     place: usize,
-    level: usize,
+    precedence: Precedence,
     text: bool,
 ) -> Option<Operator>
     requires { place ≤ length words.now }
-    ensures operator { OperatorAt words.now place level text result }
+    ensures operator { OperatorAt words.now place (level_number precedence) text result }
     ensures few { length words.now ≤ most_words }
 {
     match words.peek(place) {
         None => None,
         Some(word) => match operator_of(word) {
             None => None,
-            Some(operator) => if goes_on(operator, level, text) {
+            Some(operator) => if goes_on(operator, precedence, text) {
                 Some(operator)
             } else {
                 None
@@ -138,7 +135,7 @@ pub(crate) fn next_operator(
     }
 }
 
-/// The relation at a place.
+/// Returns the relation at a place, if there is one.
 pub(crate) fn next_relation(words: &Words<'_>, place: usize) -> Option<Relation>
     requires { place ≤ length words.now }
     ensures relation { RelationAt words.now place result }
@@ -150,23 +147,7 @@ pub(crate) fn next_relation(words: &Words<'_>, place: usize) -> Option<Relation>
     }
 }
 
-/// The level of what stands behind an operator; none where it is an exponent.
-pub(crate) fn right_level(operator: Operator) -> Option<usize>
-    ensures { IsRightLevel operator result }
-{
-    match operator {
-        Operator::Power => None,
-        Operator::Times | Operator::Divided => Some(2),
-        Operator::Plus | Operator::Minus => Some(3),
-        Operator::And => Some(6),
-        Operator::Or => Some(7),
-        Operator::Xor => Some(8),
-        Operator::Imp => Some(9),
-        Operator::Eqv => Some(10),
-    }
-}
-
-/// The sign before a number at a place.
+/// Returns the sign in front of a number at a place, if there is one.
 pub(crate) fn next_sign(words: &Words<'_>, place: usize) -> Option<Prefix>
     requires { place ≤ length words.now }
     ensures signed { PrefixAt takes_number (signed_level 2) (Level 2 Number) (signed_level 1)
@@ -183,7 +164,7 @@ pub(crate) fn next_sign(words: &Words<'_>, place: usize) -> Option<Prefix>
     }
 }
 
-/// NOT at a place.
+/// Returns NOT, if it is at a place.
 fn next_not(words: &Words<'_>, place: usize) -> Option<Prefix>
     requires { place ≤ length words.now }
     ensures prefix { PrefixAt takes_number (signed_level 6) (Level 6 Number) (signed_level 5)
@@ -197,27 +178,27 @@ fn next_not(words: &Words<'_>, place: usize) -> Option<Prefix>
     }
 }
 
-/// What stands before the operand of a level with prefixes.
-pub(crate) fn next_prefix(words: &Words<'_>, place: usize, level: usize) -> Option<Prefix>
+/// Returns the prefix of this precedence, a sign or NOT, if it is at the place.
+pub(crate) fn next_prefix(words: &Words<'_>, place: usize, precedence: Precedence) -> Option<Prefix>
     requires within { place ≤ length words.now }
-    requires prefixed { IsPrefixed level }
-    ensures prefix { PrefixAt takes_number (signed_level level) (Level level Number)
-        (signed_level (level - 1)) words.now place result }
+    requires prefixed { is_prefixed precedence ≡ true }
+    ensures prefix { PrefixAt takes_number (signed_level (level_number precedence))
+        (Level (level_number precedence) Number) (signed_level (level_number precedence - 1))
+        words.now place result }
     ensures few { length words.now ≤ most_words }
 {
-    if level == 2 {
-        next_sign(words, place)
-    } else {
-        next_not(words, place)
+    match precedence {
+        Precedence::Sign => next_sign(words, place),
+        _ => next_not(words, place),
     }
 }
 
-/// Whether a value of the language may begin with a word of the grammar: NOT, or a function.
-#[tactic(auto, using(crate::proofs::KeyNumbers::not_or_function))]
+/// Returns whether a value may begin with this keyword: NOT, or a function.
+#[tactic(auto, using(crate::proofs::WordTests::not_or_function))]
 fn key_begins(key: Keyword) -> bool
     ensures { result ≡ key_begins key }
 {
-    is_same_key(key, Keyword::Not) || is_function(key)
+    key == Keyword::Not || is_function(key)
 }
 
 fn is_function(key: Keyword) -> bool
@@ -238,7 +219,7 @@ fn sign_begins(sign: Sign) -> bool
     }
 }
 
-/// Whether an expression may begin with a word.
+/// Returns whether an expression may begin with this word.
 pub fn begins_value(word: Word<'_>) -> bool
     ensures { result ≡ begins_value (as_word word.entry) }
 {

@@ -1,15 +1,16 @@
-//! The tables of the grammar: kinds, levels, operators, and functions with their arguments.
+//! The tables of the grammar: kinds, operators, and functions with their arguments.
 
-ghost use Rattle.std.specs.Prelude.{◌≡◌, ◌≤◌, ◌<◌, ◌+◌, ◌∷◌, [], drop, length, MatchOption, None, Some};
-ghost use Rattle.basic_tree.specs.GrammarTables.{operator_level, joins_texts, arguments_of};
-ghost use Rattle.grammar_machine.specs.GrammarWords.{sign_operator, key_operator, sign_relation, function_of, sign_number};
+ghost use Rattle.std.specs.Prelude.{◌≡◌};
+ghost use Rattle.basic_tree.specs.GrammarTables.{joins_texts, arguments_of};
+ghost use Rattle.grammar_machine.specs.GrammarWords.{sign_operator, key_operator, sign_relation};
+ghost use Rattle.grammar_machine.specs.GrammarWords.{function_of};
 ghost use Rattle.grammar_machine.specs.MachineStarts.{takes, side};
 ghost use Rattle.basic_expr.specs.ParsedSymbols.{takes_relations};
 ghost use Rattle.basic_tree.specs.SpellingExpressions.{want_of};
 
 use basic_tree::{Function, Keyword, Operator, Relation, Sign, Want};
 
-/// Whether a text, or else a number, may stand where a kind is wanted.
+/// Returns whether a string, or else a number, is allowed where this kind is wanted.
 pub fn takes(want: Want, text: bool) -> bool
     ensures { result ≡ takes want text }
 {
@@ -20,14 +21,14 @@ pub fn takes(want: Want, text: bool) -> bool
     }
 }
 
-/// What is wanted beside a text, or beside a number.
+/// Returns the kind that a string, or else a number, has.
 pub(crate) fn want_of(text: bool) -> Want
     ensures { result ≡ want_of text }
 {
     if text { Want::Text } else { Want::Number }
 }
 
-/// What is wanted of a relation's first side.
+/// Returns the kind that is wanted of a relation's left side.
 pub(crate) fn side(want: Want) -> Want
     ensures { result ≡ side want }
 {
@@ -37,7 +38,7 @@ pub(crate) fn side(want: Want) -> Want
     }
 }
 
-/// Whether relations may stand where a kind is wanted: a relation gives a number.
+/// Returns whether relations are allowed where this kind is wanted: a relation gives a number.
 pub(crate) fn takes_relations(want: Want) -> bool
     ensures { result ≡ takes_relations want }
 {
@@ -47,22 +48,7 @@ pub(crate) fn takes_relations(want: Want) -> bool
     }
 }
 
-pub(crate) fn level_of(operator: Operator) -> usize
-    ensures { result ≡ operator_level operator }
-{
-    match operator {
-        Operator::Power => 1,
-        Operator::Times | Operator::Divided => 3,
-        Operator::Plus | Operator::Minus => 4,
-        Operator::And => 7,
-        Operator::Or => 8,
-        Operator::Xor => 9,
-        Operator::Imp => 10,
-        Operator::Eqv => 11,
-    }
-}
-
-/// Whether an operator stands between two texts.
+/// Returns whether an operator is allowed between two strings.
 pub(crate) fn joins_texts(operator: Operator) -> bool
     ensures { result ≡ joins_texts operator }
 {
@@ -141,7 +127,7 @@ pub(crate) fn function_of(key: Keyword) -> Option<Function>
     }
 }
 
-/// The kinds of a function's arguments.
+/// Returns the kinds of a function's arguments.
 pub(crate) fn arguments_of(function: Function) -> &'static [Want]
     ensures { result.now ≡ arguments_of function }
 {
@@ -163,33 +149,5 @@ pub(crate) fn arguments_of(function: Function) -> &'static [Want]
         Function::Instr => &[Want::Number, Want::Text, Want::Text],
         Function::StringOf => &[Want::Number, Want::Number],
         Function::Xlate => &[Want::Text, Want::Text],
-    }
-}
-
-/// A number for each sign.
-pub(crate) fn sign_number(sign: Sign) -> u8
-    ensures { result ≡ sign_number sign }
-{
-    match sign {
-        Sign::Plus => 1,
-        Sign::Minus => 2,
-        Sign::Star => 3,
-        Sign::Slash => 4,
-        Sign::Caret => 5,
-        Sign::DoubleStar => 6,
-        Sign::Opening => 7,
-        Sign::Closing => 8,
-        Sign::Comma => 9,
-        Sign::Semicolon => 10,
-        Sign::Colon => 11,
-        Sign::Backslash => 12,
-        Sign::Hash => 13,
-        Sign::Equal => 14,
-        Sign::Same => 15,
-        Sign::Less => 16,
-        Sign::Greater => 17,
-        Sign::LessOrEqual => 18,
-        Sign::GreaterOrEqual => 19,
-        Sign::Different => 20,
     }
 }

@@ -1,7 +1,9 @@
 //! The words of a line, as the grammar sees them.
 
-ghost use Rattle.std.specs.Prelude.{◌≡◌, ◌+◌, ◌-◌, ◌<◌, ◌≤◌, ◌==◌, ◌∷◌, [], length, map, drop, take, slice_index, MatchOption, IfOk, OnOk};
-ghost use Rattle.basic_tree.specs.SpellingWords.{one_sign, name_of, key_or_item, sign_or_item, word_with, words_of};
+ghost use Rattle.std.specs.Prelude.{◌≡◌, ◌+◌, ◌-◌, ◌<◌, ◌≤◌, ◌==◌, ◌∷◌, [], length, map, drop};
+ghost use Rattle.std.specs.Prelude.{take, slice_index, MatchOption, IfOk, OnOk};
+ghost use Rattle.basic_tree.specs.SpellingWords.{one_sign, name_of, key_or_item, sign_or_item};
+ghost use Rattle.basic_tree.specs.SpellingWords.{word_with, words_of};
 ghost use Rattle.basic_tree.specs.Tokens.{keyword_of, sign_of};
 ghost use Rattle.basic_expr.specs.Views.{as_word, IsShort, most_words};
 
@@ -12,7 +14,7 @@ use std::alloc::Global;
 use std::marker::Model;
 
 /// A token as the grammar sees it: letters as capitals, a literal by its value (32768 for any above
-/// 32767), one word for two spellings.
+/// 32767), and one word for two spellings.
 #[derive(Clone, Copy)]
 pub enum Word<'a> {
     Key(Keyword),
@@ -28,7 +30,7 @@ pub enum Word<'a> {
     Item(&'a [u8]),
 }
 
-/// The words of a line, seen as the list of the grammar's words.
+/// The words of a line; contracts see them as the list of the grammar's words.
 #[derive(Drop)]
 pub struct Words<'a> {
     words: Vec<Word<'a>>,
@@ -47,21 +49,21 @@ impl<'a> Model for Words<'a> {
     ghost invariant = { λ line. (vec_len line.words ≤ most_words) × All IsShort line.words.items };
 }
 
-/// The byte at a place, 0 past the end.
+/// Returns the byte at a place, or 0 past the end.
 fn byte_at(bytes: &[u8], place: usize) -> u8
     ensures { result ≡ slice_index bytes.now place }
 {
     bytes.get(place).copied().unwrap_or(0)
 }
 
-/// The bytes behind so many of them.
+/// Returns the bytes after this many.
 fn behind(count: usize, bytes: &[u8]) -> &[u8]
     ensures { result.now ≡ drop count bytes.entry.now }
 {
     &bytes[count.min(bytes.len())..]
 }
 
-/// `**` is `^`, and `\` is `:`.
+/// Returns one sign for two spellings: `**` is `^`, and `\` is `:`.
 fn one_sign(sign: Sign) -> Sign
     ensures { result ≡ one_sign sign }
 {
@@ -72,7 +74,7 @@ fn one_sign(sign: Sign) -> Sign
     }
 }
 
-/// The digit that stands behind the letter of a name, where one does.
+/// Returns the digit after the letter of a name, if there is one.
 fn digit_of(bytes: &[u8]) -> Option<u8>
     ensures { result ≡ (name_of bytes.now).digit }
 {
@@ -84,7 +86,7 @@ fn digit_of(bytes: &[u8]) -> Option<u8>
     }
 }
 
-/// The name that the bytes spell: a letter, perhaps a digit, and `%` or `$`.
+/// Returns the name that the bytes spell: a letter, perhaps a digit, and `%` or `$`.
 fn name_of(bytes: &[u8]) -> Name
     ensures { result ≡ name_of bytes.now }
 {
@@ -95,7 +97,7 @@ fn name_of(bytes: &[u8]) -> Name
     }
 }
 
-/// The text of bytes of a line.
+/// Returns a copy of bytes of a line.
 pub fn text_of(alloc: Global, bytes: &[u8]) -> Result<Text, NoMemory>
     requires { length bytes.now ≤ LINE_LENGTH }
     ensures { IfOk result (λ text. text ≡ bytes.now) }
@@ -107,7 +109,7 @@ pub fn text_of(alloc: Global, bytes: &[u8]) -> Result<Text, NoMemory>
     }
 }
 
-/// The keyword that the bytes spell, else an item.
+/// Returns the keyword that the bytes spell, or else an item.
 fn key_or_item(bytes: &[u8]) -> Word<'_>
     requires { length bytes.now ≤ LINE_LENGTH }
     ensures word { as_word result ≡ key_or_item bytes.entry.now (keyword_of bytes.entry.now) }
@@ -119,7 +121,7 @@ fn key_or_item(bytes: &[u8]) -> Word<'_>
     }
 }
 
-/// The sign that the bytes spell, else an item.
+/// Returns the sign that the bytes spell, or else an item.
 fn sign_or_item(bytes: &[u8]) -> Word<'_>
     requires { length bytes.now ≤ LINE_LENGTH }
     ensures word { as_word result ≡ sign_or_item bytes.entry.now (sign_of bytes.entry.now) }
@@ -131,7 +133,7 @@ fn sign_or_item(bytes: &[u8]) -> Word<'_>
     }
 }
 
-/// The bytes between the first and the last.
+/// Returns the bytes without the first and the last.
 fn inside(bytes: &[u8]) -> &[u8]
     ensures value { result.now ≡ take (length bytes.entry.now - 2) (drop 1 bytes.entry.now) }
     ensures within { length result.now ≤ length bytes.entry.now }
@@ -143,7 +145,7 @@ fn inside(bytes: &[u8]) -> &[u8]
     }
 }
 
-/// The word of a token of this sort with these bytes.
+/// Returns the word of a token of this kind with these bytes.
 fn word_with(kind: TokenKind, bytes: &[u8]) -> Word<'_>
     requires { length bytes.now ≤ LINE_LENGTH }
     ensures word { as_word result ≡ word_with kind bytes.entry.now }
@@ -161,7 +163,7 @@ fn word_with(kind: TokenKind, bytes: &[u8]) -> Word<'_>
 }
 
 impl<'a> Words<'a> {
-    /// The words of the tokens of a line.
+    /// Returns the words of the tokens of a line.
     pub fn of(alloc: Global, tokens: &Tokens<'a>) -> Result<Words<'a>, NoMemory>
         ensures { IfOk result (λ words. words ≡ words_of tokens.now) }
     {
@@ -173,7 +175,7 @@ impl<'a> Words<'a> {
         Ok(Words { words })
     }
 
-    /// How many there are.
+    /// Returns the number of words.
     pub fn len(&self) -> usize
         ensures count { result ≡ length self.now }
         ensures few { length self.now ≤ most_words }
@@ -181,7 +183,7 @@ impl<'a> Words<'a> {
         self.words.len()
     }
 
-    /// The one at a place, from 0; none at the end.
+    /// Returns the word at a place, from 0, or `None` at the end.
     pub fn peek(&self, place: usize) -> Option<Word<'a>>
         requires { place ≤ length self.now }
         ensures word { MatchOption result (drop place self.now ≡ []) (λ w.

@@ -4,7 +4,7 @@ use Rattle.basic_values.specs.declared.failures.Stop.{Stop}
 use Rattle.basic_values.specs.declared.failures.Stop.TheVariants as stop
 use Rattle.basic_values.specs.declared.failures.Trouble.{Trouble}
 use Rattle.basic_values.specs.declared.failures.Trouble.TheVariants as trouble
-use Rattle.monitor_calls.specs.Pairs.{Pair}
+use Rattle.monitor_calls.specs.declared.events.Event.{Event}
 use Rattle.job_model.specs.Act.{Breaks, Faulted}
 use Rattle.job_model.specs.Play.{Clock}
 use Rattle.program_model.specs.declared.values.Frame.{Frame}
@@ -64,14 +64,14 @@ stop_spends c d (stop.Halt halt) = tt
 stop_spends c d stop.Expired = tt
 stop_spends c d stop.NoMemory = tt
 
-module _ {P W : Type 0} {who : P → W} {log : P → List Pair} {old new : P} {c d : Clock} where
+module _ {P W : Type 0} {who : P → W} {log : P → List Event} {old new : P} {c d : Clock} where
   -- a run from where a statement starts
   pub run_spends : (code : walk.Code) (place : ℕ) (before after : Job Spot) (result : Result (Unit {0}) (Trouble Exit)) (program : Program) (m : ℕ) → code ≡ coded program → place ≡ statement_place program m → RunsCode who log old new c d code place before after result → SpendsAtChain c d result
   run_spends code place before after (Ok done) program m stands starts f = tt
   run_spends code place before after (Err trouble.NoMemory) program m stands starts f = tt
   run_spends code place before after (Err (trouble.Refused exit.Chained)) program m stands starts f =
       let enough : f.bound ≤ f.bound = omega arith in
-      chain_less c d (turns_from code f.bound (Some place) before) after f.pairs
+      chain_less c d (turns_from code f.bound (Some place) before) after f.events
       (subst (λ (code : walk.Code). SpendsFirst (turns_from code f.bound (Some place) before)) (sym stands) (subst (λ (place : ℕ). SpendsFirst (turns_from (coded program) f.bound (Some place) before)) (sym starts) (from_spends program f.bound m before)))
       (f.reaches f.bound enough)
   run_spends code place before after (Err (trouble.Refused exit.Ended)) program m stands starts f = tt

@@ -6,10 +6,10 @@ use Rattle.basic_values.specs.declared.failures.Stop.{Stop}
 use Rattle.basic_values.specs.declared.failures.Stop.TheVariants as stop
 use Rattle.basic_values.specs.declared.failures.Trouble.{Trouble}
 use Rattle.basic_values.specs.declared.failures.Trouble.TheVariants as trouble
-use Rattle.monitor_calls.specs.Pairs.{Pair}
+use Rattle.monitor_calls.specs.declared.events.Event.{Event}
 use Rattle.job_model.specs.Act.{Breaks, Break, Faulted, Halted, Gone, Left, ◌then◌, break_over}
 use Rattle.job_model.specs.Play.{Clock}
-use Rattle.job_model.specs.Follow.{Path, here, asked, quiet, tick, gone, Reaches, Follows, answered_by}
+use Rattle.job_model.specs.Follow.{Path, here, asked, typed, quiet, tick, gone, Reaches, Follows, answered_by}
 use Rattle.job_model.proofs.Follows.{follows_from, follows_then, follows_in}
 use Rattle.job_model.proofs.Paths.{path_on}
 use Rattle.program_model.specs.Program.{Program, Position}
@@ -30,18 +30,19 @@ use Rattle.basic_interpreter.specs.Stopping.{is_ended}
 -- PATHS
 
 module _ {R A : Type 0} where
-  path_closed : (c d : Clock) (m m' : Deed R A) (ps : List Pair) → Path c m ps d m' → Path c (ends_closed m) ps d (ends_closed m')
+  path_closed : (c d : Clock) (m m' : Deed R A) (ps : List Event) → Path c m ps d m' → Path c (ends_closed m) ps d (ends_closed m')
   path_closed c d m m' ps here = here
-  path_closed c d m m' ps (asked {reply = x} {by = by} {pairs = rs} p) = asked (path_closed c d (by x) m' rs p)
+  path_closed c d m m' ps (asked {reply = x} {by = by} {events = rs} p) = asked (path_closed c d (by x) m' rs p)
+  path_closed c d m m' ps (typed {key = key} {by = by} {events = rs} p) = typed (path_closed c d (by key) m' rs p)
   path_closed c d m m' ps (quiet {rest = t} h p) = quiet h (path_closed _ d t m' ps p)
-  path_closed c d m m' ps (tick {rest = t} {pairs = rs} h g p) = tick h g (path_closed _ d t m' rs p)
-  path_closed c d m m' ps (gone {e = i} {s = s} {pairs = rs} h g p) = gone h g (path_closed i d (Breaks Gone s) m' rs p)
+  path_closed c d m m' ps (tick {rest = t} {events = rs} h g p) = tick h g (path_closed _ d t m' rs p)
+  path_closed c d m m' ps (gone {e = i} {s = s} {events = rs} h g p) = gone h g (path_closed i d (Breaks Gone s) m' rs p)
 
-  reaches_closed : (c d : Clock) (m : Deed R A) (ps : List Pair) (left : Option (Deed R A)) → Reaches c m ps d left → Reaches c (ends_closed m) ps d (option_map ends_closed left)
+  reaches_closed : (c d : Clock) (m : Deed R A) (ps : List Event) (left : Option (Deed R A)) → Reaches c m ps d left → Reaches c (ends_closed m) ps d (option_map ends_closed left)
   reaches_closed c d m ps (Some t) p = path_closed c d m t ps p
   reaches_closed c d m ps None p = (p.0, ends_closed p.1, path_closed c p.0 m p.1 ps p.2)
 
-  reaches_on : (c d e : Clock) (m m' : Deed R A) (ps qs : List Pair) (left : Option (Deed R A)) → Path c m ps d m' → Reaches d m' qs e left → Reaches c m (ps ++ qs) e left
+  reaches_on : (c d e : Clock) (m m' : Deed R A) (ps qs : List Event) (left : Option (Deed R A)) → Path c m ps d m' → Reaches d m' qs e left → Reaches c m (ps ++ qs) e left
   reaches_on c d e m m' ps qs (Some t) p q = path_on c d e m m' t ps qs p q
   reaches_on c d e m m' ps qs None p q = (q.0, q.1, path_on c d q.0 m m' q.1 ps qs p q.2)
 
@@ -104,18 +105,18 @@ module _ (program : Program) where
   stays (Left (StoppedInside home)) j h = refl
   stays (Left Chained) j h = refl
 
-  module _ {P W : Type 0} {who : P → W} {log : P → List Pair} {old mid : P} {c d : Clock} (meaning : ℕ → Doing Coming) where
+  module _ {P W : Type 0} {who : P → W} {log : P → List Event} {old mid : P} {c d : Clock} (meaning : ℕ → Doing Coming) where
     -- any other end stays
     pub closed_other : (after : Job Spot) (result : Result (Unit {0}) (Trouble Exit)) → is_ended result ≡ false
         → Means who log old mid c d (low_leaving program) (lowered program) meaning after result
         → Means who log old mid c d (low_leaving program) (lowered program) (λ most. ends_closed (meaning most)) after result
     closed_other after result other m = record {
-      pairs = m.pairs;
+      events = m.events;
       grew = m.grew;
       bound = m.bound;
       left = option_map ends_closed m.left;
       came = came_so result m.left m.came other;
-      reaches = λ most enough. reaches_closed c d (meaning most) m.pairs m.left (m.reaches most enough);
+      reaches = λ most enough. reaches_closed c d (meaning most) m.events m.left (m.reaches most enough);
     }
       where
         came_so : (result : Result (Unit {0}) (Trouble Exit)) (left : Option (Doing Coming)) → Came (low_leaving program) (lowered program) result after left → is_ended result ≡ false
@@ -143,22 +144,22 @@ module _ (program : Program) where
         came_closed (Err stop.NoMemory) j low = no_memory
 
         at_end : (why : Break (Leaving Position)) (j : Job Position) → why ≡ Left Ended → lowered program j ≡ after
-            → ((most : ℕ) → m.bound ≤ most → Path c (meaning most) m.pairs d (Breaks why j)) → Means who log old new c d (low_leaving program) (lowered program) (λ most. ends_closed (meaning most)) (in_storage.with_part after t) (closed_as answer)
+            → ((most : ℕ) → m.bound ≤ most → Path c (meaning most) m.events d (Breaks why j)) → Means who log old new c d (low_leaving program) (lowered program) (λ most. ends_closed (meaning most)) (in_storage.with_part after t) (closed_as answer)
         at_end why j is low path =
             let g : Follows who log mid new d d (stores_by shut_act j then closing) (option_map (λ k. k then closing) (answered_by answer (in_storage.with_part j t))) =
             follows_then closing (follows_in in_storage j shut_act answer t (follows_from (ap (λ (k : Job Spot). shut_act (in_storage.part k)) low) f)) in
             record {
-              pairs = m.pairs ++ g.pairs;
-              grew = (g.grew.0 ∙ m.grew.0, g.grew.1 ∙ ap (λ (l : List Pair). l ++ g.pairs) m.grew.1 ∙ append_assoc (log old) m.pairs g.pairs);
+              events = m.events ++ g.events;
+              grew = (g.grew.0 ∙ m.grew.0, g.grew.1 ∙ ap (λ (l : List Event). l ++ g.events) m.grew.1 ∙ append_assoc (log old) m.events g.events);
               bound = m.bound;
               left = option_map (λ k. k then closing) (answered_by answer (in_storage.with_part j t));
               came = came_closed answer j low;
-              reaches = λ most enough. reaches_on c d d (ends_closed (meaning most)) (stores_by shut_act j then closing) m.pairs g.pairs _
-                  (subst (λ (why : Break (Leaving Position)). Path c (ends_closed (meaning most)) m.pairs d (ends_closed (Breaks why j))) is (path_closed c d (meaning most) (Breaks why j) m.pairs (path most enough))) g.reaches;
+              reaches = λ most enough. reaches_on c d d (ends_closed (meaning most)) (stores_by shut_act j then closing) m.events g.events _
+                  (subst (λ (why : Break (Leaving Position)). Path c (ends_closed (meaning most)) m.events d (ends_closed (Breaks why j))) is (path_closed c d (meaning most) (Breaks why j) m.events (path most enough))) g.reaches;
             }
 
         by_end : (left : Option (Doing Coming)) → Came (low_leaving program) (lowered program) (Err (trouble.Refused exit.Ended)) after left
-            → ((most : ℕ) → m.bound ≤ most → Reaches c (meaning most) m.pairs d left) → Means who log old new c d (low_leaving program) (lowered program) (λ most. ends_closed (meaning most)) (in_storage.with_part after t) (closed_as answer)
+            → ((most : ℕ) → m.bound ≤ most → Reaches c (meaning most) m.events d left) → Means who log old new c d (low_leaving program) (lowered program) (λ most. ends_closed (meaning most)) (in_storage.with_part after t) (closed_as answer)
         by_end left (went {why = why} {j = j} same low) reaches = at_end why j (ended_by why (subst breaks_ended (sym same) tt)) low reaches
 
     pub closed_at_end : {new : P} (after : Job Spot) (t : Storage) (answer : Result (Unit {0}) Stop) (end : Result (Unit {0}) (Trouble Exit)) → is_ended end ≡ true

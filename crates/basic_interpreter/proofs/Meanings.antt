@@ -4,7 +4,7 @@ use Rattle.std.specs.Prelude.{Option, Some, None, Result, Err}
 use Rattle.std.specs.Option.{option_map}
 use Rattle.basic_values.specs.declared.failures.Trouble.{Trouble}
 use Rattle.basic_values.specs.declared.failures.Trouble.TheVariants as trouble
-use Rattle.monitor_calls.specs.Pairs.{Pair}
+use Rattle.monitor_calls.specs.declared.events.Event.{Event}
 use Rattle.job_model.specs.Act.{Break, Faulted, Halted, Gone, Left, Gives, Breaks, ◌then◌, over, break_over}
 use Rattle.job_model.specs.Play.{Clock}
 use Rattle.job_model.specs.Follow.{here, Reaches}
@@ -38,24 +38,24 @@ came_together low_way line program j result after left (went {why = why} is ends
 came_together low_way line program j result after left (left_a_body ends) = left_a_body (ap (with_kept (kept_of (lowered program j))) ends)
 came_together low_way line program j result after left no_memory = no_memory
 
-reaches_together : (j : Job Position) (c d : Clock) (m : Doing Coming) (pairs : List Pair) (left : Option (Doing Coming))
-    → Reaches c m pairs d left → Reaches c (over (λ (way : Leaving Position). way) (together j) m) pairs d (option_map (over (λ way. way) (together j)) left)
-reaches_together j c d m pairs (Some t) p = path_over (λ way. way) (together j) c d m t pairs p
-reaches_together j c d m pairs None p = (p.0, over (λ way. way) (together j) p.1, path_over (λ way. way) (together j) c p.0 m p.1 pairs p.2)
+reaches_together : (j : Job Position) (c d : Clock) (m : Doing Coming) (events : List Event) (left : Option (Doing Coming))
+    → Reaches c m events d left → Reaches c (over (λ (way : Leaving Position). way) (together j) m) events d (option_map (over (λ way. way) (together j)) left)
+reaches_together j c d m events (Some t) p = path_over (λ way. way) (together j) c d m t events p
+reaches_together j c d m events None p = (p.0, over (λ way. way) (together j) p.1, path_over (λ way. way) (together j) c p.0 m p.1 events p.2)
 
-module _ {P W : Type 0} {who : P → W} {log : P → List Pair} {old new : P} {c d : Clock} where
+module _ {P W : Type 0} {who : P → W} {log : P → List Event} {old new : P} {c d : Clock} where
   -- what was put aside is put back
   pub means_together : (low_way : Leaving Position → Leaving Spot) (line program : Program) (j : Job Position) (meaning : ℕ → Doing Coming) (after put : Job Spot) (result : Result (Unit {0}) (Trouble Exit))
       → put ≡ with_kept (kept_of (lowered program j)) after
       → Means who log old new c d low_way (lowered line) meaning after result
       → Means who log old new c d low_way (lowered program) (λ most. over (λ way. way) (together j) (meaning most)) put result
   means_together low_way line program j meaning after put result is m = record {
-    pairs = m.pairs;
+    events = m.events;
     grew = m.grew;
     bound = m.bound;
     left = option_map (over (λ way. way) (together j)) m.left;
     came = subst (λ (s : Job Spot). Came low_way (lowered program) result s (option_map (over (λ way. way) (together j)) m.left)) (sym is) (came_together low_way line program j result after m.left m.came);
-    reaches = λ most enough. reaches_together j c d (meaning most) m.pairs m.left (m.reaches most enough);
+    reaches = λ most enough. reaches_together j c d (meaning most) m.events m.left (m.reaches most enough);
   }
 
   -- what was done in front asked nothing
@@ -64,12 +64,12 @@ module _ {P W : Type 0} {who : P → W} {log : P → List Pair} {old new : P} {c
       → Means who log old new c d low_way low (λ most. next most value j) after result
       → Means who log old new c d low_way low (λ most. front then next most) after result
   means_behind {A} low_way low front next value j after result is m = record {
-    pairs = m.pairs;
+    events = m.events;
     grew = m.grew;
     bound = m.bound;
     left = m.left;
     came = m.came;
-    reaches = λ most enough. subst (λ (f : Doing A). Reaches c (f then next most) m.pairs d m.left) (sym is) (m.reaches most enough);
+    reaches = λ most enough. subst (λ (f : Doing A). Reaches c (f then next most) m.events d m.left) (sym is) (m.reaches most enough);
   }
 
   -- CONT: the kept place is one of the program
@@ -93,13 +93,13 @@ module _ {P W : Type 0} {who : P → W} {log : P → List Pair} {old new : P} {c
 
 -- WHERE NOTHING RAN
 
-module _ {P W : Type 0} {who : P → W} {log : P → List Pair} {p : P} {c : Clock} where
+module _ {P W : Type 0} {who : P → W} {log : P → List Event} {p : P} {c : Clock} where
   -- what was done in front broke
   pub means_broken : {A : Type 0} (low_way : Leaving Position → Leaving Spot) (low : Job Position → Job Spot) (front : Doing A) (next : ℕ → A → Job Position → Doing Coming) (why : Break (Leaving Position)) (j : Job Position) (exit : Exit) (after : Job Spot)
       → front ≡ Breaks why j → break_over low_way why ≡ break_of exit → low j ≡ after
       → Means who log p p c c low_way low (λ most. front then next most) after (Err (trouble.Refused exit))
   means_broken {A} low_way low front next why j exit after is same ends = record {
-    pairs = [];
+    events = [];
     grew = (refl, sym (append-nil (log p)));
     bound = 0;
     left = Some (Breaks why j);
@@ -110,7 +110,7 @@ module _ {P W : Type 0} {who : P → W} {log : P → List Pair} {p : P} {c : Clo
   pub means_nothing : (low_way : Leaving Position → Leaving Spot) (low : Job Position → Job Spot) (meaning : ℕ → Doing Coming) (after : Job Spot)
       → Means who log p p c c low_way low meaning after (Err trouble.NoMemory)
   means_nothing low_way low meaning after = record {
-    pairs = [];
+    events = [];
     grew = (refl, sym (append-nil (log p)));
     bound = 0;
     left = None;

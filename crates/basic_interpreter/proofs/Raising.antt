@@ -2,7 +2,7 @@
 use Rattle.std.proofs.Common.{◌≡◌, ℕ, List, [], ◌∷◌, Option, Some, None, Result, Ok, Err, refl, sym, ap, ◌∙◌}
 use Rattle.basic_values.specs.declared.failures.Trouble.{Trouble}
 use Rattle.basic_values.specs.declared.failures.Trouble.TheVariants as trouble
-use Rattle.monitor_calls.specs.Pairs.{Pair}
+use Rattle.monitor_calls.specs.declared.events.Event.{Event}
 use Rattle.job_model.specs.Act.{Gives, Breaks, Faulted, ◌then◌}
 use Rattle.job_model.specs.Play.{Clock}
 use Rattle.program_model.specs.Program.{Program, Position}
@@ -47,7 +47,7 @@ module _ (program : Program) (fault : ℕ) (j : Job Position) (before : Job Spot
   error_leads : trapped (at_line program) (Breaks (Faulted fault) j) ≡ (error then led)
   error_leads = caught_then (at_line program) (Faulted fault) j.frames j
 
-  module _ {P W : Type 0} {who : P → W} {log : P → List Pair} where
+  module _ {P W : Type 0} {who : P → W} {log : P → List Event} where
     -- to the handler's line
     pub raised_on : {p q : P} {c d : Clock} (line : ℕ) (k after : Job Spot) (result : Result (Unit {0}) (Trouble Exit)) → caught (λ line. line) (Faulted fault) before.frames before ≡ Gives line k
         → ((l : Job Position) → lowered program l ≡ k → Means who log p q c d (low_leaving program) (lowered program) (λ most. runs_from program most (at_line program line) l) after result)

@@ -3,7 +3,7 @@ use Rattle.std.proofs.Common.{◌≡◌, sym, ◌∙◌}
 use Rattle.std.specs.Prelude.{ℕ, Option, Result, Err}
 use Rattle.basic_values.specs.declared.failures.Trouble.{Trouble}
 use Rattle.basic_values.specs.declared.failures.Trouble.TheVariants as trouble
-use Rattle.monitor_calls.specs.Pairs.{Pair}
+use Rattle.monitor_calls.specs.declared.events.Event.{Event}
 use Rattle.job_model.specs.Act.{Gives}
 use Rattle.job_model.specs.Play.{Clock}
 use Rattle.program_model.specs.Program.{Program, Position, whole}
@@ -19,7 +19,7 @@ use Rattle.basic_interpreter.proofs.Dims.{program_same, gave, broke}
 use Rattle.basic_interpreter.proofs.Meanings.{means_behind, means_broken, means_nothing}
 use Rattle.std.specs.Prelude.{List}
 
-module _ {P W : Type 0} {who : P → W} {log : P → List Pair} where
+module _ {P W : Type 0} {who : P → W} {log : P → List Event} where
   -- the arrays were made, and the program ran
   pub ran : {old new : P} {c d : Clock} (program : Program) (line : Option ℕ) (j : Job Position) (k after : Job Spot) (result : Result (Unit {0}) (Trouble Exit))
       → dimension_program program (lowered program j) ≡ Gives tt k

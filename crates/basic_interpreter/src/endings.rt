@@ -1,27 +1,26 @@
-//! What is written where a program ends.
+//! Reports at a terminal. Each begins at the start of a line.
 
 ghost use Rattle.std.specs.Prelude.{◌≡◌, ◌++◌, OnOk};
 ghost use Rattle.basic_eval.specs.Acting.{break_of, seen};
-ghost use Rattle.job_model.specs.Texts.{job_expired, line_end};
-ghost use Rattle.program_model.specs.Reports.{at_line_text, ended_screen, report_text, stop_text};
-ghost use Rattle.terminal_line.specs.Columns.{column_of, fresh_text};
+ghost use Rattle.job_model.specs.Texts.{line_end};
+ghost use Rattle.program_model.specs.Reports.{Failure, Stop, UsedUp};
+ghost use Rattle.program_model.specs.Reports.{at_line_text, ended_screen, with_report};
 
 use basic_eval::{Exit, Running};
 use basic_values::NoMemory;
 use itoa::Buffer;
 use terminal_line::Screen;
 
-/// Writes the report of an error, a halt or a STOP at the start of a line, and nothing at END or
-/// where a program is left for another.
+/// Reports why a program or an immediate line ended. END and CHAIN are not reported.
 pub fn write_ending(state: &mut Running, why: Exit) -> Result<(), NoMemory>
     ensures { OnOk result (seen state.new
         ≡ record (seen state.old) { screen = ended_screen (break_of why) (seen state.old) }) }
 {
     let line = state.line;
     match why {
-        Exit::Fault(fault) => write_report(&mut state.screen, fault.text(), line),
-        Exit::Halt(halt) => write_report(&mut state.screen, halt.text(), line),
-        Exit::Gone => write_expired(&mut state.screen),
+        Exit::Fault(fault) => write_failure(&mut state.screen, fault.text(), line),
+        Exit::Halt(halt) => write_failure(&mut state.screen, halt.text(), line),
+        Exit::Gone => write_used_up(&mut state.screen),
         Exit::Ended => Ok(()),
         Exit::Stopped(_) => write_stop(&mut state.screen, line),
         Exit::StoppedInside(_) => write_stop(&mut state.screen, line),
@@ -29,43 +28,31 @@ pub fn write_ending(state: &mut Running, why: Exit) -> Result<(), NoMemory>
     }
 }
 
-/// Writes the report of words at a line.
-fn write_report(screen: &mut Screen, words: &[u8], line: u16) -> Result<(), NoMemory>
-    ensures { OnOk result (screen.new
-        ≡ screen.old ++ fresh_text (column_of screen.old) ++ report_text words.now line) }
+/// Reports an error, a halt or a rejected program: its words, and its line unless that is 0.
+pub fn write_failure(screen: &mut Screen, words: &[u8], line: u16) -> Result<(), NoMemory>
+    ensures { OnOk result (screen.new ≡ with_report (Failure words.now line) screen.old) }
 {
-    begin_line(screen, b"?")?;
+    screen.begin_line(b"?")?;
     screen.write(words)?;
     end_line(screen, line)
 }
 
-/// Writes that a STOP at a line was met.
+/// Reports a STOP in this line.
 fn write_stop(screen: &mut Screen, line: u16) -> Result<(), NoMemory>
-    ensures { OnOk result (screen.new
-        ≡ screen.old ++ fresh_text (column_of screen.old) ++ stop_text line) }
+    ensures { OnOk result (screen.new ≡ with_report (Stop line) screen.old) }
 {
-    begin_line(screen, b"Stop")?;
+    screen.begin_line(b"Stop")?;
     end_line(screen, line)
 }
 
-/// Writes that the job's calls are used up.
-fn write_expired(screen: &mut Screen) -> Result<(), NoMemory>
-    ensures { OnOk result (screen.new
-        ≡ screen.old ++ fresh_text (column_of screen.old) ++ job_expired) }
+/// Reports that the job's calls are used up.
+pub fn write_used_up(screen: &mut Screen) -> Result<(), NoMemory>
+    ensures { OnOk result (screen.new ≡ with_report UsedUp screen.old) }
 {
-    begin_line(screen, b"?Job expired\r\n")
+    screen.begin_line(b"?Job expired\r\n")
 }
 
-/// Writes at the start of a line.
-fn begin_line(screen: &mut Screen, words: &[u8]) -> Result<(), NoMemory>
-    ensures { OnOk result (screen.new
-        ≡ screen.old ++ fresh_text (column_of screen.old) ++ words.now) }
-{
-    screen.fresh_line()?;
-    screen.write(words)
-}
-
-/// Ends a report: the line, but not in immediate mode.
+/// Ends a report: writes its line, unless that is 0, with CR and LF.
 fn end_line(screen: &mut Screen, line: u16) -> Result<(), NoMemory>
     ensures { OnOk result (screen.new ≡ screen.old ++ (at_line_text line ++ line_end)) }
 {

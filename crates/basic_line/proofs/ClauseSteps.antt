@@ -38,7 +38,7 @@ use Rattle.basic_line.specs.declared.sentences.Class.TheVariants as class
 same_halt : {x y : Halt} → Some x ≡ Some y → x ≡ y
 same_halt e = cc
 
--- ---- words that open a level
+-- ---- keywords that open a level
 
 too_deep : (key : Keyword) (f h : Form) (ws : List Word) (k : List Symbol) (vs : Values) → run 0 (Key key ∷ ws) (Go (IfKey true key f h) ∷ k) vs ≡ Err (TooDeep (Key key ∷ ws))
 unfolding run
@@ -56,7 +56,7 @@ key_opens ws from key at = (
 
 pub ruleset openings = (key_opens, key_stands_not)
 
--- ---- numbers of lines
+-- ---- line numbers
 
 literal_missing : (n : ℕ) (g : ℕ → Form) (ws : List Word) (k : List Symbol) (vs : Values) → First is_line_number ws → run n ws (Go (LiteralIn LineNumber g) ∷ k) vs ≡ Err (Wrong ws)
 unfolding run
@@ -143,7 +143,7 @@ modified_clause_stops : (n : ℕ) (ws : List Word) (from mid : ℕ) (s : Stateme
 modified_clause_stops n ws from mid s e at plain more =
     λ g halt same k vs. clause_begins n ws from class.Simple at g k vs refl ∙ plain_form n ws from mid class.Simple s at refl plain (Modifiers ∷ Close ∷ AwaitClause g ∷ k) vs ∙ more halt same (Close ∷ AwaitClause g ∷ k) vs
 
--- a simple statement is no IF
+-- a simple statement is not an IF
 run_end : (n : ℕ) (ws : List Word) (vs : Values) → run n ws [] vs ≡ Ok (vs, ws)
 unfolding run
 run_end n [] vs = refl
@@ -174,7 +174,7 @@ simple_closed n ws from mid s at behind plain =
       value : (v : Value) → v ∷ [] ≡ Stated s ∷ [] → v ≡ Stated s
       value v e = cc
 
--- a simple statement with the modifiers behind it
+-- a simple statement with the modifiers after it
 pub simple_modified : (n : ℕ) (ws : List Word) (from mid : ℕ) (s : StatementTree) (r : Result (Read Statement) Failure) → SentenceAt ws from class.Simple → Behind ws from mid → MakesPlain n ws from mid s → ModifiesAll n ws mid s r → StatesSimple n ws from r
 simple_modified n ws from mid s (Ok x) at behind plain more = (
   (omega (arith, behind.0, more.0.0), more.0.1),
@@ -227,7 +227,7 @@ if_goto_stops : (n : ℕ) (ws : List Word) (from a b : ℕ) (c : Tree) (e : Fail
 unfolding behind_if
 if_goto_stops n ws from a b c e h i o t = λ halt same k vs. to_condition n ws from a b c h i k vs ∙ o n true (then_form c) (goto_form c) k vs ∙ t halt same k vs
 
--- what stands behind the condition is what stands behind the IF
+-- what follows the condition is what follows the IF
 pub if_then_states : (n : ℕ) (ws : List Word) (from a b : ℕ) (c : Tree) (r : Result ReadStatement Failure) → 0 < n → from ≤ b → Taken ws from a keyword.If → Conditional n ws a b c → OpensKey ws b keyword.Then → StatesThen n ws (b + 1) c r → StatesIf n ws from if_form r
 if_then_states n ws from a b c (Ok x) some le h i o t = ((omega (arith, t.0.0), t.0.1), if_then_gives n ws from a b x.end c (Stated (statement_of x.statement)) some h i o t.1, t.2)
 if_then_states n ws from a b c (Err e) some le h i o t = (t.0, if_then_stops n ws from a b c e some h i o t.1)
@@ -236,7 +236,7 @@ pub if_goto_states : (n : ℕ) (ws : List Word) (from a b : ℕ) (c : Tree) (r :
 if_goto_states n ws from a b c (Ok x) le h i o t = ((omega (arith, t.0.0), t.0.1), if_goto_gives n ws from a b x.end c (Stated (statement_of x.statement)) h i o t.1, t.2)
 if_goto_states n ws from a b c (Err e) le h i o t = (t.0, if_goto_stops n ws from a b c e h i o t.1)
 
--- ---- behind THEN and GOTO
+-- ---- after THEN and GOTO
 
 abbrev pub Clausal : ℕ → List Word → ℕ → ℕ → ClauseTree → Type 0
 Clausal n ws from end c = (g : ClauseTree → Form) → Leads (n - 1) n ws from end (ClauseIn g) (g c)
@@ -383,7 +383,7 @@ choice_line n ws from end s at h k vs = line_begins n ws from class.Choice at k 
 pub choice_line_stops : (n : ℕ) (ws : List Word) (from : ℕ) (e : Failure) → SentenceAt ws from class.Choice → Halts n ws from if_form e → StopsAt n ws from OneStatement e
 choice_line_stops n ws from e at h = λ halt same k vs. line_begins n ws from class.Choice at k vs ∙ from_choice_halts n ws from e at h halt same (Do AddStatement ∷ k) vs
 
--- a statement that stands by itself
+-- a statement that is allowed in no clause and takes no modifier
 pub head_line : (n : ℕ) (ws : List Word) (from end : ℕ) (s : StatementTree) → SentenceAt ws from class.Head → MakesPlain n ws from end s → StatesLine n ws from end s
 head_line n ws from end s at h k vs = line_begins n ws from class.Head at k vs ∙ plain_form n ws from end class.Head s at refl h (Do AddStatement ∷ k) vs
 

@@ -1,4 +1,4 @@
--- The statements of a line, one behind another, and what the grammar says of them.
+-- The statements of a line, one after another, and what the grammar says of them.
 use Rattle.std.proofs.Common.{rules, ◌≡◌, ℕ, ◌+◌, ◌<◌, ◌≤◌, List, [], ◌∷◌, ◌++◌, length, drop, map, Option, Some, None, option_map, Result, Ok, Err, refl, ap, sym, ◌∙◌, subst, arith}
 use Rattle.std.proofs.lemmas.List.{drop_all, map-append}
 use Rattle.basic_expr.specs.declared.failures.Failure.{Failure}
@@ -160,7 +160,7 @@ line_is_wrong ws place inside h = line_wrong line_symbols line_values made_line 
 pub line_is_deep : (ws : List Word) (place : ℕ) → place < length ws → LineStops ws (failure.TooDeep place) → RefusesLine ws place cause.TooDeep
 line_is_deep ws place inside h = line_deep line_symbols line_values made_line reads_lines ws place inside (h (TooDeep (drop place ws)) refl)
 
--- ---- what is answered
+-- ---- what is returned
 
 pub read_answer : (tokens : List Lexeme) (ws : List Word) (place : ℕ) (items : List Statement) (line : Line) → ws ≡ words_of tokens → place ≡ length ws → LineEnds ws place items → line.statements.items ≡ items → Parses tokens (Ok line)
 read_answer tokens ws place items line same at h e =

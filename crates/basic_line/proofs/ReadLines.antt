@@ -1,4 +1,4 @@
--- What the bytes of a line are answered, from what its tokens are.
+-- What reading the bytes of a line returns, given what its tokens are.
 use Rattle.std.proofs.Common.{◌≡◌, ◌⊎◌, ℕ, List, Result, Ok, Err, IfErr, inl, inr, refl, sym, ap, subst}
 use Rattle.basic_values.specs.declared.failures.Trouble.{Trouble}
 use Rattle.basic_values.specs.declared.failures.Trouble.TheVariants.{Refused, NoMemory}
@@ -10,7 +10,7 @@ use Rattle.basic_tree.specs.LineVerdicts.{SpelledBy, Spells, RefusedBy, Refuses}
 use Rattle.grammar_machine.proofs.OneAnswer.{one_bytes_answer}
 use Rattle.basic_line.specs.Parsing.{Parses, Reads}
 
--- the tokens of the bytes answer for them
+-- the answer for the tokens is the answer for the bytes
 pub parsed_reads : (bytes : List ℕ) (tokens : List Lexeme) (r : Result Line (Trouble Refusal)) → tokens_of bytes ≡ Ok tokens → Parses tokens r → Reads bytes r
 parsed_reads bytes tokens (Ok line) e h = (h.0, subst (λ (x : Reading). SpelledBy x h.0) (sym e) h.1, h.2)
 parsed_reads bytes tokens (Err (Refused refusal)) e h = subst (λ (x : Reading). RefusedBy x refusal) (sym e) h
@@ -19,7 +19,7 @@ parsed_reads bytes tokens (Err NoMemory) e h = tt
 pub refused_reads : (bytes : List ℕ) (refusal : Refusal) → tokens_of bytes ≡ Err refusal → Reads bytes (Err (Refused refusal))
 refused_reads bytes refusal e = subst (λ (x : Reading). RefusedBy x refusal) (sym e) refl
 
--- bytes that spell a line are read, and those that are refused are refused so
+-- bytes that spell a line are read, and all others are rejected as the grammar says
 pub reads_must_read : (bytes : List ℕ) (r : Result Line (Trouble Refusal)) → Reads bytes r → (l : LineTree) → Spells bytes l → IfErr r (λ e. e ≡ NoMemory)
 reads_must_read bytes (Ok line) h l s = tt
 reads_must_read bytes (Err (Refused refusal)) h l s = absurd (one_bytes_answer.apart bytes l refusal s h)

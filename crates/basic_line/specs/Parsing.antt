@@ -1,4 +1,4 @@
--- What the parsing of a line's tokens answers, and the reading of its bytes.
+-- What parsing a line's tokens returns, and reading its bytes.
 use Rattle.std.specs.Prelude.{◌≡◌, ◌⊎◌, ℕ, List, Result, Ok, Err, IfErr}
 use Rattle.basic_values.specs.declared.failures.Trouble.{Trouble}
 use Rattle.basic_values.specs.declared.failures.Trouble.TheVariants.{Refused, NoMemory}
@@ -12,22 +12,23 @@ use Rattle.basic_tree.specs.StatementViews.{line_of}
 use Rattle.basic_tree.specs.GrammarPlaces.{IsReadLine, RefusesLine}
 use Rattle.basic_tree.specs.LineVerdicts.{Spells, Refuses}
 
--- the statements of the line that the tokens spell, within 64 levels; or the first token that is refused, and why; or memory ran out
+-- the line that the tokens spell, nested at most 64 deep; or the first token that is rejected, and
+-- why; or memory ran out
 abbrev pub Parses : List Lexeme → Result Line (Trouble Refusal) → Type 0
 Parses tokens (Ok line) = (l : LineTree) × IsReadLine (words_of tokens) l × (line_of line ≡ line_statements l)
 Parses tokens (Err (Refused refusal)) = RefusesLine (words_of tokens) refusal.place refusal.cause
 Parses tokens (Err NoMemory) = Unit {0}
 
--- the statements of the line that the bytes spell; or where they are refused, and why; or memory ran out
+-- the line that the bytes spell; or where they are rejected, and why; or memory ran out
 abbrev pub Reads : List ℕ → Result Line (Trouble Refusal) → Type 0
 Reads bytes (Ok line) = (l : LineTree) × Spells bytes l × (line_of line ≡ line_statements l)
 Reads bytes (Err (Refused refusal)) = Refuses bytes refusal
 Reads bytes (Err NoMemory) = Unit {0}
 
--- bytes that spell a line are read, where memory lasts
+-- bytes that spell a line are read, unless memory runs out
 abbrev pub MustRead : List ℕ → Result Line (Trouble Refusal) → Type 0
 MustRead bytes r = (l : LineTree) → Spells bytes l → IfErr r (λ e. e ≡ NoMemory)
 
--- those that are refused are refused so, where memory lasts
+-- those that are rejected get this rejection, unless memory runs out
 abbrev pub MustRefuse : List ℕ → Result Line (Trouble Refusal) → Type 0
 MustRefuse bytes r = (refusal : Refusal) → Refuses bytes refusal → (r ≡ Err (Refused refusal)) ⊎ (r ≡ Err NoMemory)

@@ -1,4 +1,5 @@
--- What the functions of clauses and lines give: symbols of the machine, whatever is expected behind them.
+-- What the functions of clauses and lines return, in terms of symbols of the machine, whatever is
+-- expected after these.
 use Rattle.std.specs.Prelude.{◌≡◌, ℕ, ◌+◌, ◌-◌, ◌<◌, ◌≤◌, Bool, true, false, cond, List, [], ◌∷◌, ◌++◌, length, drop, Option, Some, None, option_map, map, Result, Ok, Err}
 use Rattle.std.specs.Global.{Vec}
 use Rattle.basic_expr.specs.declared.failures.Failure.{Failure}
@@ -39,7 +40,7 @@ classes c = option_map class_as c
 abbrev pub class_in : Option Sentence → Option sentences.Class
 class_in b = option_map (λ s. s.class) b
 
--- the first word begins a sentence of the class
+-- a statement of the class begins with the first word
 pub record SentenceAt (ws : List Word) (from : ℕ) (c : Class) : Type 0 where
   pub word : Word
   pub rest : List Word
@@ -48,16 +49,16 @@ pub record SentenceAt (ws : List Word) (from : ℕ) (c : Class) : Type 0 where
   pub known : sentence_of word ≡ Some sentence
   pub class : sentence.class ≡ class_as c
 
--- the machine stops at the failure, where this symbol is expected
+-- the machine stops at the failure, if this symbol is expected
 abbrev pub StopsAt : ℕ → List Word → ℕ → Symbol → Failure → Type 0
 StopsAt n ws from s e = (halt : Halt) → halt_at ws e ≡ Some halt → (k : List Symbol) (vs : Values) → run n (drop from ws) (s ∷ k) vs ≡ Err halt
 
--- the number of a line
+-- whether a word can be a line number
 abbrev pub is_line_number : Word → Bool
 is_line_number (Number n) = within LineNumber n
 is_line_number other = false
 
--- no statement begins there; nor a clause, where there is no number of a line
+-- no statement begins there, and no clause, unless a line number is there
 abbrev pub Nothing : List Word → ℕ → Type 0
 Nothing ws from =
     ((n : ℕ) (k : List Symbol) (ss : List (Option StatementTree)) (vs : Values) → run n (drop from ws) (OneStatement ∷ k) (Parsed ss ∷ vs) ≡ run n (drop from ws) k (Parsed (ss ++ None ∷ []) ∷ vs))
@@ -78,21 +79,21 @@ StopsClause n ws from e = (g : ClauseTree → Form) → StopsAt n ws from (Go (C
 
 -- ---- what is read, or where the machine stops
 
--- a statement with its modifiers, which may stand in the line and in a clause
+-- a statement with its modifiers, which is allowed in the line and in a clause
 abbrev pub StatesSimple : ℕ → List Word → ℕ → Result (Read Statement) Failure → Type 0
 StatesSimple n ws from (Ok x) = Behind ws from x.end × StatesLine n ws from x.end (statement_of x.value) × StatesClause n ws from x.end (statement_of x.value) × (wants_else (statement_of x.value) ≡ false)
 StatesSimple n ws from (Err e) = IsPlaced ws e × StopsAt n ws from OneStatement e × StopsClause n ws from e
 
 -- ---- choices
 
--- a word stands there that opens a level
+-- a keyword that opens a level is there
 abbrev pub OpensKey : List Word → ℕ → Keyword → Type 0
 OpensKey ws from key =
     (from < length ws)
     × ((n : ℕ) (f h : Form) → 0 < n → Leads n (n - 1) ws from (from + 1) (IfKey true key f h) f)
     × ((f h : Form) → Halts 0 ws from (IfKey true key f h) (failure.TooDeep from))
 
--- the number of a line stands there; as a clause it ends the clause's level
+-- a line number is there; as a clause it ends the clause's level
 abbrev pub IsLineNumber : List Word → ℕ → ℕ → Type 0
 IsLineNumber ws from line =
     (from < length ws)
@@ -102,12 +103,12 @@ IsLineNumber ws from line =
 abbrev pub NoLineNumber : List Word → ℕ → Type 0
 NoLineNumber ws from = First is_line_number (drop from ws) × ((n : ℕ) (g : ℕ → Form) → Halts n ws from (LiteralIn LineNumber g) (failure.Wrong from))
 
--- the number of a line that a word is
+-- the line number that a word is
 abbrev pub line_in : Word → Option ℕ
 line_in (Number n) = cond (within LineNumber n) (Some n) None
 line_in other = None
 
--- the words up to the end lead from a form to a value, and out of the innermost of so many levels
+-- the words up to the end lead from a form to a value, and out of the innermost of this many levels
 abbrev pub LeadsOut : ℕ → List Word → ℕ → ℕ → Form → Value → Type 0
 LeadsOut n ws from end f v = (k : List Symbol) (vs : Values) → run (n - 1) (drop from ws) (Go f ∷ k) vs ≡ run n (drop end ws) k (v ∷ vs)
 
@@ -116,20 +117,20 @@ abbrev pub else_tree : Option Clause → ElseTree
 else_tree None = NoElse
 else_tree (Some clause) = Else (clause_of clause)
 
--- behind THEN
+-- after THEN
 abbrev pub then_form : Tree → Form
 then_form condition = ClauseIn (λ clause. else_form (clause_wants_else clause) (λ otherwise. says (IfThen condition clause otherwise)))
 
--- behind a condition without THEN
+-- after a condition without THEN
 abbrev pub goto_form : Tree → Form
 goto_form condition = TakeKey false keyword.Goto (LiteralIn LineNumber (λ n. else_form false (λ otherwise. says (IfGoto condition n otherwise))))
 
--- an IF of this form, and whether an ELSE behind it would be its own
+-- an IF of this form, and whether an ELSE after it would belong to it
 abbrev pub StatesIf : ℕ → List Word → ℕ → Form → Result ReadStatement Failure → Type 0
 StatesIf n ws from f (Ok x) = Behind ws from x.end × Makes n ws from x.end f (Stated (statement_of x.statement)) × (x.takes_else ≡ wants_else (statement_of x.statement))
 StatesIf n ws from f (Err e) = IsPlaced ws e × Halts n ws from f e
 
--- what stands behind THEN, whose level is the innermost of so many
+-- what follows THEN, whose level is the innermost of this many
 abbrev pub StatesThen : ℕ → List Word → ℕ → Tree → Result ReadStatement Failure → Type 0
 StatesThen n ws from condition (Ok x) = Behind ws from x.end × LeadsOut n ws from x.end (then_form condition) (Stated (statement_of x.statement)) × (x.takes_else ≡ wants_else (statement_of x.statement))
 StatesThen n ws from condition (Err e) = IsPlaced ws e × Halts (n - 1) ws from (then_form condition) e
@@ -139,14 +140,14 @@ abbrev pub StatesElse : ℕ → List Word → ℕ → Bool → Result Otherwise 
 StatesElse n ws from taken (Ok x) = From ws from x.end × ((g : ElseTree → Form) → Leads n n ws from x.end (else_form taken g) (g (else_tree x.clause))) × (x.takes_else ≡ else_wants_else (else_tree x.clause))
 StatesElse n ws from taken (Err e) = IsPlaced ws e × ((g : ElseTree → Form) → Halts n ws from (else_form taken g) e)
 
--- a clause, with which the innermost of so many levels ends
+-- a clause, with which the innermost of this many levels ends
 abbrev pub StatesClauseIn : ℕ → List Word → ℕ → Result ClauseRead Failure → Type 0
 StatesClauseIn n ws from (Ok x) = Behind ws from x.end × ((g : ClauseTree → Form) → Leads (n - 1) n ws from x.end (ClauseIn g) (g (clause_of x.clause))) × (x.takes_else ≡ clause_wants_else (clause_of x.clause))
 StatesClauseIn n ws from (Err e) = IsPlaced ws e × StopsClause (n - 1) ws from e
 
 -- ---- lines
 
--- the words up to the end are a place of the line, with a statement or without
+-- the words up to the end are what is between two separators: a statement or nothing
 abbrev pub IsPlace : ℕ → List Word → ℕ → ℕ → Option Statement → Type 0
 IsPlace n ws from end s = (k : List Symbol) (ss : List (Option StatementTree)) (vs : Values) → run n (drop from ws) (OneStatement ∷ k) (Parsed ss ∷ vs) ≡ run n (drop end ws) k (Parsed (ss ++ option_map statement_of s ∷ []) ∷ vs)
 
@@ -154,7 +155,8 @@ abbrev pub in_list : Option Statement → List Statement
 in_list None = []
 in_list (Some s) = s ∷ []
 
--- from its first word the machine comes to this place, where more statements may stand behind a separator
+-- from its first word the machine comes to this place, where more statements may follow after a
+-- separator
 pub record LineSoFar (ws : List Word) (place : ℕ) (statements : List Statement) : Type 0 where
   pub first : Option StatementTree
   pub others : List (Option StatementTree)
@@ -181,12 +183,12 @@ abbrev pub StatesOne : List Word → ℕ → Result (Read Statement) Failure →
 StatesOne ws from (Ok x) = Behind ws from x.end × StatesLine most_levels ws from x.end (statement_of x.value)
 StatesOne ws from (Err e) = IsPlaced ws e × StopsAt most_levels ws from OneStatement e
 
--- a place of the line, whose statement, if it has one, stands behind those that were there before
+-- what is between two separators: a statement, added to those before, or nothing
 abbrev pub StatesPlace : List Word → ℕ → List Statement → List Statement → Result ℕ Failure → Type 0
 StatesPlace ws from before after (Ok end) = From ws from end × ((s : Option Statement) × IsPlace most_levels ws from end s × (after ≡ before ++ in_list s))
 StatesPlace ws from before after (Err e) = IsPlaced ws e × StopsAt most_levels ws from OneStatement e
 
--- all places of the line
+-- all statements of the line
 abbrev pub StatesAll : List Word → Result (Read (Vec Statement)) Failure → Type 0
 StatesAll ws (Ok x) = LineEnds ws x.end x.value.items
 StatesAll ws (Err e) = IsPlaced ws e × LineStops ws e

@@ -1,4 +1,4 @@
-//! IF: its condition, its clause, and perhaps ELSE and another clause.
+//! IF: its condition, its clause, and an optional ELSE with another clause.
 
 ghost use Rattle.std.specs.Prelude.{◌≡◌, ◌≤◌, ◌<◌, length, IfOk, IfErr, MatchBool, MatchOption};
 ghost use Rattle.basic_expr.specs.Views.{as_word, most_words};
@@ -8,7 +8,9 @@ ghost use Rattle.basic_tree.specs.TreeViews.{tree_of};
 ghost use Rattle.basic_tree.specs.StatementViews.{statement_of, clause_of};
 ghost use Rattle.grammar_machine.specs.MachineSentences.{if_form};
 ghost use Rattle.statement_parts.specs.ParsedForms.{SkipsKey};
-ghost use Rattle.basic_line.specs.Structure.{IsLineNumber, NoLineNumber, OpensKey, SentenceAt, StatesClauseIn, StatesElse, StatesIf, StatesSimple, StatesThen, else_tree, goto_form, line_in};
+ghost use Rattle.basic_line.specs.Structure.{IsLineNumber, NoLineNumber, OpensKey, SentenceAt};
+ghost use Rattle.basic_line.specs.Structure.{StatesClauseIn, StatesElse, StatesIf, StatesSimple};
+ghost use Rattle.basic_line.specs.Structure.{StatesThen, else_tree, goto_form, line_in};
 ghost use Rattle.basic_line.specs.declared.sentences.Class.TheVariants.{Simple};
 
 use crate::sentences::{Class, class_at};
@@ -19,7 +21,7 @@ use statement_modifiers::modifiers;
 use statement_parts::{Read, expression, take_key};
 use std::alloc::Global;
 
-/// A statement, whether an ELSE behind it would be its own, and the place behind it.
+/// A statement, whether an ELSE after it would belong to it, and the place after it.
 #[derive(Drop)]
 pub(crate) struct Stated {
     pub statement: Statement,
@@ -27,7 +29,7 @@ pub(crate) struct Stated {
     pub end: usize,
 }
 
-/// A clause, whether an ELSE behind it would be its own, and the place behind it.
+/// A clause, whether an ELSE after it would belong to it, and the place after it.
 #[derive(Drop)]
 pub(crate) struct ClauseRead {
     pub clause: Clause,
@@ -35,8 +37,8 @@ pub(crate) struct ClauseRead {
     pub end: usize,
 }
 
-/// What stands behind the clause before it: ELSE and a clause, or nothing; whether an ELSE behind
-/// it would be its own; and the place behind it.
+/// ELSE and a clause, or nothing; whether an ELSE after it would belong to it; and the place after
+/// it.
 #[derive(Drop)]
 pub(crate) struct Otherwise {
     pub clause: Option<Clause>,
@@ -44,7 +46,7 @@ pub(crate) struct Otherwise {
     pub end: usize,
 }
 
-/// Whether a word that opens a level stands at a place.
+/// Returns whether a keyword that opens a level of nesting is at a place.
 #[tactic(auto, using(crate::proofs::ClauseSteps::openings))]
 fn opens(words: &Words<'_>, from: usize, key: Keyword) -> bool
     requires { from ≤ length words.now }
@@ -54,7 +56,7 @@ fn opens(words: &Words<'_>, from: usize, key: Keyword) -> bool
     next_is_key(words, from, key)
 }
 
-/// The number of a line that stands at a place, if one does.
+/// Returns the line number at a place, if there is one.
 #[tactic(auto, using(crate::proofs::ClauseSteps::numbers))]
 fn line_number(words: &Words<'_>, from: usize) -> Option<u16>
     requires { from ≤ length words.now }
@@ -68,7 +70,7 @@ fn line_number(words: &Words<'_>, from: usize) -> Option<u16>
     }
 }
 
-/// The number of a line that a word is.
+/// Returns the line number that a word is, if it is one.
 fn line_of(word: Word<'_>) -> Option<u16>
     ensures { result ≡ line_in (as_word word.entry) }
 {
@@ -88,7 +90,7 @@ fn statement_clause(alloc: Global, statement: Statement) -> Result<Clause, Failu
     ensures clause { IfOk result (λ c. clause_of c ≡ StatementClause (statement_of statement)) }
     ensures lost { IfErr result (λ e. e ≡ NoMemory) }
 {
-    // Not by `?`, whose calls are a third of what this function's proof takes.
+    // Not by `?`, whose calls take a third of the time of this function's proof.
     match Box::new(alloc, statement) {
         Ok(statement) => Ok(Clause::Statement(statement)),
         Err(_) => Err(Failure::NoMemory),
@@ -116,9 +118,9 @@ fn if_goto(condition: Expr, line: u16, otherwise: Option<Clause>) -> Statement
     }
 }
 
-// What stands without a clause of its own
+// Statements without a clause
 
-/// A statement with its modifiers, which may be a clause, and the place behind it.
+/// Reads a statement with its modifiers. It may be a clause.
 pub(crate) fn simple_at(
     alloc: Global,
     words: &Words<'_>,
@@ -138,7 +140,7 @@ pub(crate) fn simple_at(
 
 // IF
 
-/// An IF, from its first word.
+/// Reads an IF, from its first word.
 #[cycle(choices)]
 #[tactic(auto, using(crate::proofs::ClauseSteps::choices))]
 pub(crate) fn if_at(
@@ -165,7 +167,7 @@ pub(crate) fn if_at(
     }
 }
 
-/// What stands behind THEN, whose level is the innermost of so many.
+/// Reads what follows THEN. The level that THEN opened counts among the `levels` that are left.
 #[cycle(choices)]
 #[tactic(auto, using(crate::proofs::ClauseSteps::choices))]
 fn then_at(
@@ -188,7 +190,7 @@ fn then_at(
     })
 }
 
-/// GOTO and what stands behind it.
+/// Reads GOTO and what follows it.
 #[cycle(choices)]
 #[tactic(auto, using(crate::proofs::ClauseSteps::choices))]
 fn goto_at(
@@ -214,7 +216,7 @@ fn goto_at(
     })
 }
 
-/// ELSE and its clause, or nothing: also where an ELSE would belong to the clause before.
+/// Reads ELSE and its clause, or nothing, even if an ELSE would belong to the clause before.
 #[cycle(choices)]
 #[tactic(auto, using(crate::proofs::ClauseSteps::choices))]
 fn else_at(
@@ -252,8 +254,8 @@ fn else_at(
     })
 }
 
-/// A clause, with which its level ends, the innermost of so many: the number of a line, an IF, or
-/// a statement with its modifiers.
+/// Reads a clause: a line number, an IF, or a statement with its modifiers. The clause's own level
+/// ends with it, and counts among the `levels` that are left.
 #[cycle(choices)]
 #[tactic(auto, using(crate::proofs::ClauseSteps::choices))]
 fn clause_at(

@@ -1,4 +1,4 @@
-//! Lines: their statements, one behind another.
+//! Lines: their statements, one after another.
 
 ghost use Rattle.std.specs.Prelude.{◌≤◌, length};
 ghost use Rattle.basic_line.specs.Parsing.{MustRead, MustRefuse, Parses, Reads};
@@ -14,7 +14,7 @@ use basic_values::{LINE_LENGTH, Trouble};
 use statement_parts::Read;
 use std::alloc::Global;
 
-/// The statement of a class that begins at a place of the line, and the place behind it.
+/// Reads a statement of a class, from a place of the line on.
 #[tactic(auto, using(crate::proofs::ParsedLines::statements))]
 fn statement_at(
     alloc: Global,
@@ -39,8 +39,8 @@ fn statement_at(
     }
 }
 
-/// Adds what stands at a place of the line between separators, a statement or nothing, and gives the
-/// place behind it.
+/// Adds what is at a place of the line between separators, a statement or nothing, and returns the
+/// place after it.
 #[tactic(auto, using(crate::proofs::ParsedLines::places))]
 fn add_statement(
     alloc: Global,
@@ -64,7 +64,7 @@ fn add_statement(
     }
 }
 
-/// The statements between the separators, and the place behind them.
+/// Reads the statements between the separators.
 #[tactic(auto, using(crate::proofs::ParsedLines::so_far))]
 fn all_statements(alloc: Global, words: &Words<'_>) -> Result<Read<Vec<Statement>>, Failure>
     ensures { StatesAll words.now result }
@@ -80,9 +80,11 @@ fn all_statements(alloc: Global, words: &Words<'_>) -> Result<Read<Vec<Statement
     })
 }
 
-/// The statements of the line that the tokens are: those between `:` or `\`, of which each place
-/// may be empty. Else the first token that no line has there, or the one that opens level 65 of
-/// nesting, whichever is leftmost.
+/// Returns the line that the tokens spell: its statements, separated by `:` or `\`. Between two
+/// separators there may be none.
+///
+/// If the tokens spell no line, returns the leftmost of these: the first token that no line can
+/// have there, and the token that opens level 65 of nesting.
 #[tactic(auto, using(crate::proofs::ParsedLines::lines))]
 pub fn parse_line(alloc: Global, tokens: &Tokens<'_>) -> Result<Line, Trouble<Refusal>>
     ensures exact { Parses tokens.now result }
@@ -104,15 +106,17 @@ pub fn parse_line(alloc: Global, tokens: &Tokens<'_>) -> Result<Line, Trouble<Re
     }
 }
 
-/// The statements of the line that the bytes spell, at most 255: `scan`, and `parse_line` over its
-/// tokens. Else the first byte that begins no token; where there are tokens, the first of them
-/// that is refused.
+/// Returns the line that the bytes spell, by `scan`, and `parse_line` over its tokens. A line has
+/// at most 255 bytes.
+///
+/// If they spell none, returns the first byte that begins no token. If all bytes are tokens,
+/// returns the first token that is rejected.
 #[tactic(auto, using(crate::proofs::ReadLines::reads))]
 pub fn read_line(alloc: Global, line: &[u8]) -> Result<Line, Trouble<Refusal>>
     requires { length line.now ≤ LINE_LENGTH }
     ensures exact { Reads line.now result }
-    // Bytes that spell a line are read, and those that are refused are refused so, where memory
-    // lasts.
+    // Unless memory runs out, bytes that spell a line are read, and all others are rejected as the
+    // grammar says.
     ensures must_read { MustRead line.now result }
     ensures must_refuse { MustRefuse line.now result }
 {

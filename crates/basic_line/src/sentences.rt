@@ -8,18 +8,18 @@ ghost use Rattle.basic_line.specs.Structure.{Nothing, SentenceAt, class_in, clas
 use basic_expr::{Word, Words};
 use basic_tree::Keyword;
 
-/// Where a statement may stand.
+/// Where a statement is allowed.
 #[derive(Clone, Copy, PartialEq, Eq)]
 pub enum Class {
-    /// An IF: in clauses too, and without modifiers.
+    /// An IF: also in clauses, but without modifiers.
     Choice,
-    /// What stands in no clause, and without modifiers.
+    /// A statement that is allowed in no clause and takes no modifier.
     Head,
     /// Any other.
     Simple,
 }
 
-/// The class of the statement that a keyword begins.
+/// Returns the class of the statement that begins with this keyword, if there is one.
 fn key_class(key: Keyword) -> Option<Class>
     ensures { classes result ≡ class_in (key_sentence key) }
 {
@@ -61,7 +61,7 @@ fn key_class(key: Keyword) -> Option<Class>
     }
 }
 
-/// The class of the statement that a word begins.
+/// Returns the class of the statement that begins with this word, if there is one.
 fn class_of(word: Word<'_>) -> Option<Class>
     ensures { classes result ≡ class_in (sentence_of (as_word word.entry)) }
 {
@@ -72,7 +72,7 @@ fn class_of(word: Word<'_>) -> Option<Class>
     }
 }
 
-/// The class of the statement that begins at a place, if one does.
+/// Returns the class of the statement that begins at a place, if there is one.
 #[tactic(auto, using(crate::proofs::SentencePlaces::sentences_at))]
 pub(crate) fn class_at(words: &Words<'_>, from: usize) -> Option<Class>
     requires { from ≤ length words.now }

@@ -1,4 +1,4 @@
--- Cells behind a renumbering, and which places have a subscript 0.
+-- Cells after a renumbering, and which places have a subscript 0.
 use Rattle.std.proofs.Common.{◌≡◌, ℕ, ◌+◌, ◌<◌, ◌≤◌, Bool, true, false, List, length, Option, Some, None, refl, sym, ap, ◌∙◌, arith}
 use Rattle.std.specs.Prelude.{if◌then◌else◌, nat_le, unwrap_or, slice_index_or, IfSome, ℤ, pos, negsuc}
 use Rattle.std.proofs.Math.Bool.{and-false}

@@ -1,4 +1,4 @@
--- What a look-up finds behind an array that is renumbered.
+-- What a look-up finds after an array was renumbered.
 use Rattle.std.proofs.Common.{◌≡◌, List, [], ◌∷◌, Bool, true, false, cond, Option, Some, refl, sym, ap, ◌∙◌}
 use Rattle.std.specs.Cmp.{alike_right}
 use Rattle.std.specs.Map.{lookup, set_value}

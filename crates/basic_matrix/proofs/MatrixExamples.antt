@@ -1,4 +1,4 @@
--- Statements of MAT, worked out.
+-- Statements of MAT, computed.
 use Rattle.std.proofs.Common.{◌≡◌, ℕ, List, [], ◌∷◌, false, Option, Some, None, Result, Ok, Err, refl}
 use Rattle.std.specs.Prelude.{map, ℤ, pos, negsuc}
 use Rattle.basic_tree.specs.declared.names.Name.{Name}
@@ -11,7 +11,7 @@ use Rattle.basic_matrix.specs.MatrixActs.{assigned, row_numbers}
 abbrev named : ℕ → Name
 named letter = record { letter = letter; digit = None; text = false }
 
--- row 0 and column 0 hold 9
+-- row 0 and column 0 contain 9
 abbrev table_of : ℕ → Option ℕ → List ℕ → Table
 table_of first second cells = record { first = first; second = second; cells = map (λ n. Number (pos n)) cells }
 
@@ -31,7 +31,7 @@ some = record {
   aside = [];
 }
 
--- two matrix_rows of an array behind an assignment, or nothing in place of an error
+-- two matrix_rows of an array after an assignment, or nothing in place of an error
 abbrev rows_behind : ℕ → Result Memory ℕ → List (List ℤ)
 rows_behind letter (Ok m) = row_numbers m (named letter) 1 ∷ row_numbers m (named letter) 2 ∷ []
 rows_behind letter (Err fault) = []
@@ -46,7 +46,7 @@ squared = (pos 7 ∷ pos 10 ∷ []) ∷ (pos 15 ∷ pos 22 ∷ []) ∷ []
 product : rows_behind 66 (assigned (named 66) (Product (named 65) (named 65)) some) ≡ squared
 product = refl
 
--- also where the target is among the arrays
+-- also if the target is among the arrays
 product_onto_itself : rows_behind 65 (assigned (named 65) (Product (named 65) (named 65)) some) ≡ squared
 product_onto_itself = refl
 

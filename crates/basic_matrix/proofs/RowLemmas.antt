@@ -1,4 +1,4 @@
--- The numbers of a row, where they stand.
+-- The places of a row's numbers.
 use Rattle.std.proofs.Common.{◌≡◌, ℕ, ◌+◌, ◌<◌, ◌≤◌, List, length, take, drop, get_or, Option, Some, None, Result, Ok, Err, refl, sym, ap, ◌∙◌, arith}
 use Rattle.std.specs.Prelude.{map, unwrap_or, IsSome, IfOk, ℤ, pos}
 use Rattle.std.specs.List.{range_with_len}
@@ -13,12 +13,12 @@ pub count_in_shape : (bounds : Option (ℕ × Option ℕ)) → IsSome bounds →
 count_in_shape (Some shape) is = refl
 count_in_shape None is = absurd (cc)
 
--- an array that was not made has no elements
+-- an array that does not exist has no elements
 pub count_in-le : (bounds : Option (ℕ × Option ℕ)) → count_in bounds ≤ count (unwrap_or bounds (0, None)).0 (unwrap_or bounds (0, None)).1
 count_in-le (Some shape) = omega arith
 count_in-le None = omega arith
 
--- a row that is there ends within the array
+-- a row that exists ends within the array
 pub row_within : (first : ℕ) (second : Option ℕ) (row : ℕ) → row ≤ first → entry_place second row 1 + unwrap_or second 1 ≤ count first second
 row_within first None row within = omega arith
 row_within first (Some second) row within = omega (arith, mul-le-mul_right (second + 1) within)

@@ -22,7 +22,7 @@ wrap-sum a b =
     wrap-is (wrap a +ℤ wrap b) ∙ (λ i. int_wrap w16 (wrap-is a i +ℤ wrap-is b i))
     ∙ int_wrap-add_left w16 a (int_wrap w16 b) ∙ int_wrap-add_right w16 a b ∙ sym (wrap-is (a +ℤ b))
 
--- one product more
+-- one more product
 pub middle_sum-more : (left right : ℕ → ℕ → ℤ) (count row column : ℕ)
     → wrap (middle_sum left right (count + 1) row column) ≡ wrap (wrap (middle_sum left right count row column) +ℤ wrap (left row (count + 1) *ℤ right (count + 1) column))
 middle_sum-more left right count row column =

@@ -1,4 +1,4 @@
--- What a user relies on, over the definitions alone.
+-- The laws of MAT, about definitions alone.
 use Rattle.std.specs.Prelude.{◌≡◌, ℕ, ◌≤◌, false, length, Some, None, Ok, ℤ, pos}
 use Rattle.basic_tree.specs.declared.names.Name.{Name}
 use Rattle.job_memory.specs.Matrices.{bounds, count_in, numbers}
@@ -23,7 +23,7 @@ abbrev pub EntriesAreElements : Type 0
 EntriesAreElements =
     (m : Memory) (name : Name) (row column : ℕ) → row ≤ matrix_rows (shape_of m name) → HasElement m name row column
 
--- after an assignment the target is the value over the old memory, and all else is as it was
+-- after an assignment the target is the value over the old memory, and everything else is as before
 pub record ChangesTheTarget (target : Name) (value : MatValue) (old new : Memory) : Type 0 where
   pub value_is : (row column : ℕ) → 1 ≤ row → row ≤ matrix_rows (shape_of old target) → 1 ≤ column →
       column ≤ matrix_columns (shape_of old target) → entry new target row column ≡ value_at old value row column

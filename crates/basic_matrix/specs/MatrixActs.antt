@@ -18,7 +18,7 @@ use Rattle.basic_matrix.specs.MatrixValues.{entry, value_at}
 
 -- AN ARRAY THAT A STATEMENT NAMES
 
--- the array that is made where there is none: of two subscripts to 10
+-- the array that is made if there is none: with two subscripts up to 10
 abbrev pub implied_matrix : Name → Shape
 implied_matrix name = record { name = name; first = IMPLIED_BOUND; second = Some IMPLIED_BOUND }
 
@@ -27,7 +27,7 @@ abbrev pub TouchesBy
 TouchesBy (Some shape) name old new result = (new ≡ old) × (result ≡ Ok tt)
 TouchesBy None name old new result = Changes old new (made (implied_matrix name) old) result
 
--- An array that was made stays; one that was not is made, exactly where there is room.
+-- An array that exists stays. Any other is made, exactly if there is room.
 abbrev pub Touches : Name → Memory → Memory → Result Unit (Trouble Halt) → Type 0
 Touches name old new result = TouchesBy (bounds name old) name old new result
 
@@ -37,7 +37,8 @@ Touches name old new result = TouchesBy (bounds name old) name old new result
 abbrev pub at_subscripts : (ℕ → ℕ → ℤ) → ℕ × ℕ → ℤ
 at_subscripts number subscripts = number subscripts.0 subscripts.1
 
--- the elements of the target whose subscripts are all 1 or more are those of the value, which is formed from this memory
+-- the elements of the target whose subscripts are all 1 or more become those of the value, which is
+-- computed from this memory
 abbrev pub with_value : Name → MatValue → Memory → Memory
 with_value target value m =
     renumbered target
@@ -50,7 +51,7 @@ assigned target value m =
     then Ok (with_value target value m)
     else Err SUBSCRIPT_OUT_OF_RANGE
 
--- the answer: what is wanted; or the error, or memory ran out, and nothing changed
+-- the result: what is wanted; or the error, or memory ran out, and nothing changed
 abbrev pub StoresValue : Memory → Memory → Result Memory ℕ → Result Unit Stop → Type 0
 StoresValue old new (Err fault) result = (new ≡ old) × (result ≡ Err (stop.Fault fault))
 StoresValue old new (Ok wanted) (Ok done) = new ≡ wanted
@@ -59,7 +60,7 @@ StoresValue old new (Ok wanted) (Err other) = ⊥
 
 -- A ROW, as MAT PRINT writes it
 
--- the row is there
+-- the row exists
 pub record HasRow (m : Memory) (name : Name) (row : ℕ) : Type 0 where
   pub made : IsSome (bounds name m)
   pub within : row ≤ matrix_rows (shape_of m name)

@@ -1,4 +1,4 @@
--- The bounds of matrices, and where MAT has error 55 by them.
+-- The bounds of matrices, and when MAT has error 55 because of them.
 use Rattle.std.specs.Prelude.{ℕ, ◌==◌, Bool, true, false, ◌&&◌, Option, Some, None, is_some, unwrap_or}
 use Rattle.basic_tree.specs.declared.names.Name.{Name}
 use Rattle.job_memory.specs.Matrices.{bounds}
@@ -6,11 +6,11 @@ use Rattle.job_memory.specs.Memory.{Memory}
 use Rattle.basic_matrix.specs.declared.values.MatValue.{MatValue}
 use Rattle.basic_matrix.specs.declared.values.MatValue.TheVariants.{Zero, One, Identity, Copy, Sum, Difference, Product, Scaled, Transposed}
 
--- the greatest first subscript, and the greatest second one of an array that has two
+-- the first bound, and the second one of an array that has two
 abbrev pub MatrixShape : Type 0
 MatrixShape = ℕ × Option ℕ
 
--- that of an array, which is one without rows where it was not made
+-- that of an array; an array that does not exist has no rows
 abbrev pub shape_of : Memory → Name → MatrixShape
 shape_of m name = unwrap_or (bounds name m) (0, None)
 
@@ -24,7 +24,7 @@ matrix_rows shape = shape.0
 abbrev pub matrix_columns : MatrixShape → ℕ
 matrix_columns shape = unwrap_or shape.1 1
 
--- as many subscripts, with the same bounds
+-- the same number of subscripts, with the same bounds
 abbrev pub same_second : Option ℕ → Option ℕ → Bool
 same_second None None = true
 same_second (Some a) (Some b) = a == b
@@ -51,7 +51,8 @@ is_turned of shape =
     has_two of && has_two shape
     && (matrix_rows shape == matrix_columns of) && (matrix_columns shape == matrix_rows of)
 
--- whether the arrays of the value fit each other, and the target fits the value. Where not, there is error 55.
+-- Whether the arrays of the value fit each other, and the target fits the value. If not, the error
+-- is 55.
 abbrev pub fits : (Name → MatrixShape) → Name → MatValue → Bool
 fits shape target Zero = true
 fits shape target One = true

@@ -1,4 +1,5 @@
--- A value whose arrays were copied out of the memory. A reader of the promises needs nothing of it.
+-- A value whose arrays were copied out of the memory. You need not read this to understand the
+-- contracts.
 use Rattle.std.specs.Prelude.{◌≡◌, ℕ, ◌<◌, ◌==◌, true, if◌then◌else◌, length, List, ℤ, pos, ◌+ℤ◌, ◌-ℤ◌, ◌*ℤ◌}
 use Rattle.basic_values.specs.Numbers.{wrap}
 use Rattle.basic_tree.specs.declared.names.Name.{Name}
@@ -31,7 +32,7 @@ source_at (Product b c) row column =
 source_at (Scaled n b) row column = wrap (n *ℤ grid_at b row column)
 source_at (Turned b) row column = grid_at b column row
 
--- the source has the numbers of the value
+-- the source represents the value: it has its numbers
 abbrev pub StandsFor : Memory → MatValue → Source → Type 0
 StandsFor m value source = (row column : ℕ) → source_at source row column ≡ value_at m value row column
 

@@ -1,4 +1,5 @@
--- The elements of a matrix, which are those of its array whose subscripts are all 1 or more, and of what MAT stores.
+-- The elements of a matrix, which are those of its array whose subscripts are all 1 or more, and of
+-- what MAT stores.
 use Rattle.std.specs.Prelude.{ℕ, ◌+◌, ◌*◌, ◌==◌, if◌then◌else◌, map, fold, Option, Some, None, ℤ, pos, ◌+ℤ◌, ◌-ℤ◌, ◌*ℤ◌}
 use Rattle.std.specs.List.{range_with_len}
 use Rattle.basic_values.specs.Numbers.{wrap}
@@ -9,7 +10,8 @@ use Rattle.basic_matrix.specs.declared.values.MatValue.{MatValue}
 use Rattle.basic_matrix.specs.declared.values.MatValue.TheVariants.{Zero, One, Identity, Copy, Sum, Difference, Product, Scaled, Transposed}
 use Rattle.basic_matrix.specs.MatrixShapes.{shape_of, matrix_columns}
 
--- where the element of a row and a column stands; in an array of one subscript each row has one element
+-- the place of the element in a row and a column; in an array with one subscript each row has one
+-- element
 abbrev pub entry_place : Option ℕ → ℕ → ℕ → ℕ
 entry_place None row column = row
 entry_place (Some second) row column = row * (second + 1) + column
@@ -24,7 +26,8 @@ abbrev pub middle_sum : (ℕ → ℕ → ℤ) → (ℕ → ℕ → ℤ) → ℕ 
 middle_sum left right most row column =
     fold ◌+ℤ◌ (pos 0) (map (λ middle. left row middle *ℤ right middle column) (range_with_len 1 most))
 
--- the number of an element of the value; sums, differences and products are formed over the whole numbers and wrapped
+-- the number of an element of the value; sums, differences and products are computed without a
+-- bound and then wrapped
 abbrev pub value_at : Memory → MatValue → ℕ → ℕ → ℤ
 value_at m Zero row column = pos 0
 value_at m One row column = pos 1

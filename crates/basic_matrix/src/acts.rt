@@ -1,8 +1,9 @@
-//! The acts of MAT on a memory.
+//! What MAT does to a memory.
 
 ghost use Rattle.std.specs.Prelude.{◌≡◌, IfOk};
 ghost use Rattle.job_memory.specs.Matrices.{number_in_list, renumbered};
-ghost use Rattle.basic_matrix.specs.MatrixActs.{assigned, with_value, row_numbers, Touches, StoresValue, HasRow};
+ghost use Rattle.basic_matrix.specs.MatrixActs.{assigned, with_value, row_numbers, Touches};
+ghost use Rattle.basic_matrix.specs.MatrixActs.{StoresValue, HasRow};
 
 use crate::grids::entry_place;
 use crate::shapes::{fits, matrix_columns, shape_of};
@@ -13,7 +14,8 @@ use basic_values::errors::SUBSCRIPT_OUT_OF_RANGE;
 use basic_values::{Fault, Halt, Int, NoMemory, Stop, Trouble};
 use job_memory::{IMPLIED_BOUND, Memory};
 
-/// Makes the array with two subscripts to 10, where it was not made. That room is wanting is the one halt.
+/// Makes the array, with two subscripts up to 10, if it does not exist. The only halt is that there
+/// is no room.
 pub fn touch(memory: &mut Memory, name: Name) -> Result<(), Trouble<Halt>>
     ensures { Touches name memory.old memory.new result }
 {
@@ -27,9 +29,9 @@ pub fn touch(memory: &mut Memory, name: Name) -> Result<(), Trouble<Halt>>
     })
 }
 
-/// Stores a value to the elements of an array whose subscripts are all 1 or more. The value is formed before anything
-/// is stored, so the target may be among its arrays. Error 55 where the bounds do not fit; nothing is stored then. An
-/// array that was not made has no elements.
+/// Stores a value to the elements of an array whose subscripts are all 1 or more. The value is
+/// computed before anything is stored, so the target may be among its arrays. Error 55: the bounds
+/// do not fit; then nothing is stored. An array that does not exist has no elements.
 pub fn assign(memory: &mut Memory, target: Name, value: &MatValue) -> Result<(), Stop>
     ensures { StoresValue memory.old memory.new (assigned target value.now memory.old) result }
 {
@@ -41,7 +43,7 @@ pub fn assign(memory: &mut Memory, target: Name, value: &MatValue) -> Result<(),
     Ok(())
 }
 
-/// The target's numbers, with those of the value at the places without a subscript 0.
+/// Returns the target's numbers, with those of the value at the places without a subscript 0.
 fn new_numbers(memory: &Memory, target: Name, value: &MatValue) -> Result<Vec<Int>, NoMemory>
     ensures { IfOk result (λ list. renumbered target (number_in_list list.items) memory.now
         ≡ with_value target value.now memory.now) }
@@ -52,7 +54,8 @@ fn new_numbers(memory: &Memory, target: Name, value: &MatValue) -> Result<Vec<In
     Ok(numbers)
 }
 
-/// The numbers of a row, from column 1 on; a row of an array of one subscript is one number.
+/// Returns the numbers of a row, from column 1 on. A row of an array with one subscript is one
+/// number.
 pub fn row(memory: &Memory, name: Name, row: u16) -> Result<Vec<Int>, NoMemory>
     requires { HasRow memory.now name row }
     ensures { IfOk result (λ list. list.items ≡ row_numbers memory.now name row) }

@@ -18,7 +18,7 @@ pub(crate) struct Grid {
     pub(crate) shape: Bounds,
 }
 
-/// Where the element of a row and a column stands.
+/// Returns the place of the element in this row and column.
 pub(crate) fn entry_place(second: Option<u16>, row: usize, column: usize) -> usize
     requires row { row < 2 ^ 32 }
     requires column { column < 2 ^ 32 }
@@ -31,7 +31,7 @@ pub(crate) fn entry_place(second: Option<u16>, row: usize, column: usize) -> usi
 }
 
 impl Grid {
-    /// The numbers of an array as they are now.
+    /// Returns the numbers of an array as they are now.
     pub(crate) fn of(memory: &Memory, name: Name) -> Result<Grid, NoMemory>
         ensures { IfOk result (IsGridOf memory.now name) }
     {
@@ -42,7 +42,7 @@ impl Grid {
         })
     }
 
-    /// The number in this row and column.
+    /// Returns the number in this row and column.
     pub(crate) fn at(&self, row: usize, column: usize) -> Int
         requires row { row < 2 ^ 32 }
         requires column { column < 2 ^ 32 }
@@ -53,12 +53,13 @@ impl Grid {
     }
 }
 
-/// The number of the product of two arrays in this row and column.
+/// Returns the number of the product of two arrays in this row and column.
 pub(crate) fn middle_sum(left: &Grid, right: &Grid, row: usize, column: usize) -> Int
     requires row { row < 2 ^ 32 }
     requires column { column < 2 ^ 32 }
     ensures { result ≡ wrap
-        (middle_sum (grid_at left.now) (grid_at right.now) (matrix_columns left.now.shape) row column) }
+        (middle_sum (grid_at left.now) (grid_at right.now)
+        (matrix_columns left.now.shape) row column) }
 {
     let mut sum = Int::new(0);
     for before in 0..usize::from(matrix_columns(left.shape)) {

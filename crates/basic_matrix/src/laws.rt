@@ -1,4 +1,4 @@
-//! What a user relies on, as laws over the definitions: each is the contract of a function that does nothing.
+//! Laws about the definitions of this crate. Each is the contract of a function with an empty body.
 
 ghost use Rattle.basic_matrix.specs.Laws.{EntriesAreElements, AssignmentChangesTheTarget};
 
@@ -7,8 +7,8 @@ pub fn entries_are_elements()
     ensures { EntriesAreElements }
 {}
 
-/// An assignment leaves the value in its target, and every element with a subscript 0, every other array and every
-/// variable as before.
+/// After an assignment the target has the value. Every element with a subscript 0, every other
+/// array and every variable is as before.
 pub fn assignment_changes_the_target()
     ensures { AssignmentChangesTheTarget }
 {}

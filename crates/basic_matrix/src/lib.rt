@@ -1,11 +1,13 @@
 //! MAT: arrays of numbers as matrices.
 //!
-//! It stands on `job_memory`. A matrix is the elements of an array whose subscripts are all 1 or more.
-//! `specs/MatrixShapes` says which bounds fit, `specs/MatrixValues` which number each element of a value
-//! is, `specs/MatrixActs` what a statement does to a memory. `touch` carries that an array that was not
-//! made is made where there is room; `assign` that the target has the numbers of the value, formed from
-//! the old memory, and nothing else changes, or error 55 exactly where the bounds do not fit; `row` which
-//! numbers a row has; `laws` that elements with a subscript 0, other arrays and variables stay.
+//! A matrix is the elements of an array whose subscripts are all 1 or more. `specs/MatrixShapes`
+//! says which bounds fit, `specs/MatrixValues` which number each element of a value is, and
+//! `specs/MatrixActs` what a statement does to a memory.
+//!
+//! `touch` promises that an array that does not exist is made if there is room. `assign` promises
+//! that the target gets the numbers of the value, computed from the old memory, and that nothing
+//! else changes; or error 55 exactly if the bounds do not fit. `row` says which numbers a row has.
+//! `laws` says that elements with a subscript 0, other arrays and variables stay.
 #![tactic(auto)]
 
 mod acts;

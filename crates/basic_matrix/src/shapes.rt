@@ -1,23 +1,25 @@
 //! The bounds of matrices, and whether those of a statement fit.
 
 ghost use Rattle.std.specs.Prelude.{◌≡◌};
-ghost use Rattle.basic_matrix.specs.MatrixShapes.{shape_of, matrix_columns, same_second, same_shape, is_square, is_product, is_turned, fits};
+ghost use Rattle.basic_matrix.specs.MatrixShapes.{shape_of, matrix_columns, same_second};
+ghost use Rattle.basic_matrix.specs.MatrixShapes.{same_shape, is_square, is_product, is_turned};
+ghost use Rattle.basic_matrix.specs.MatrixShapes.{fits};
 
 use crate::values::MatValue;
 use basic_tree::Name;
 use job_memory::Memory;
 
-/// The greatest first subscript, and the greatest second one of an array that has two.
+/// The first bound, and the second one of an array that has two.
 pub(crate) type Bounds = (u16, Option<u16>);
 
-/// The bounds of an array, which has no rows where it was not made.
+/// Returns the bounds of an array; an array that does not exist has no rows.
 pub(crate) fn shape_of(memory: &Memory, name: Name) -> Bounds
     ensures { result ≡ shape_of memory.now name }
 {
     memory.bounds(name).unwrap_or((0, None))
 }
 
-/// How many elements a row has without that of subscript 0: one where there is one subscript.
+/// Returns how many elements a row has, without that of subscript 0; one if there is one subscript.
 pub(crate) fn matrix_columns(shape: Bounds) -> u16
     ensures { result ≡ matrix_columns shape }
 {
@@ -40,7 +42,7 @@ fn same_shape(a: Bounds, b: Bounds) -> bool
     a.0 == b.0 && same_second(a.1, b.1)
 }
 
-/// Whether IDN fits.
+/// Returns whether IDN fits.
 fn is_square(shape: Bounds) -> bool
     ensures { result ≡ is_square shape }
 {
@@ -50,7 +52,7 @@ fn is_square(shape: Bounds) -> bool
     }
 }
 
-/// Whether the product of two arrays has this shape.
+/// Returns whether the product of two arrays has this shape.
 fn is_product(left: Bounds, right: Bounds, shape: Bounds) -> bool
     ensures { result ≡ is_product left right shape }
 {
@@ -62,7 +64,7 @@ fn is_product(left: Bounds, right: Bounds, shape: Bounds) -> bool
     }
 }
 
-/// Whether TRN of an array has this shape.
+/// Returns whether TRN of an array has this shape.
 fn is_turned(of: Bounds, shape: Bounds) -> bool
     ensures { result ≡ is_turned of shape }
 {
@@ -72,7 +74,7 @@ fn is_turned(of: Bounds, shape: Bounds) -> bool
     }
 }
 
-/// Whether the arrays of the value fit each other, and the target fits the value.
+/// Returns whether the arrays of the value fit each other, and the target fits the value.
 pub(crate) fn fits(memory: &Memory, target: Name, value: &MatValue) -> bool
     ensures { result ≡ fits (shape_of memory.now) target value.now }
 {

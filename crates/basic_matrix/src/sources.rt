@@ -1,4 +1,4 @@
-//! A value whose arrays were copied out of the memory, so that a store takes nothing from it.
+//! A value whose arrays were copied out of the memory, so that storing it reads nothing from there.
 
 ghost use Rattle.std.specs.Prelude.{◌≡◌, ◌<◌, ◌≤◌, ◌^◌, length, IfOk};
 ghost use Rattle.record_fields.specs.Bounds.{count};
@@ -25,7 +25,7 @@ pub(crate) enum Source {
 }
 
 impl Source {
-    /// The value over the numbers as they are now.
+    /// Returns the value over the numbers as they are now.
     pub(crate) fn of(memory: &Memory, value: &MatValue) -> Result<Source, NoMemory>
         ensures { IfOk result (StandsFor memory.now value.now) }
     {
@@ -46,7 +46,7 @@ impl Source {
         }
     }
 
-    /// The number in this row and column.
+    /// Returns the number in this row and column.
     fn at(&self, row: usize, column: usize) -> Int
         requires row { row < 2 ^ 32 }
         requires column { column < 2 ^ 32 }
@@ -64,7 +64,7 @@ impl Source {
         }
     }
 
-    /// Writes the numbers of an array with these bounds to their places, but for those with a
+    /// Writes the numbers of an array with these bounds to their places, except those with a
     /// subscript 0.
     pub(crate) fn fill(&self, shape: Bounds, numbers: &mut [Int])
         requires { length numbers.old ≤ count shape.0 shape.1 }

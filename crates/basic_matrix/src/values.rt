@@ -3,14 +3,14 @@
 use basic_tree::Name;
 use basic_values::Int;
 
-/// What MAT stores in an array: made of nothing, or of arrays by their names.
+/// What MAT stores in an array: a constant, or computed from arrays by their names.
 #[derive(Clone, Copy)]
 pub enum MatValue {
-    /// ZER, 0 everywhere.
+    /// ZER: 0 everywhere.
     Zero,
-    /// CON, 1 everywhere.
+    /// CON: 1 everywhere.
     One,
-    /// IDN, 1 where both subscripts are equal, else 0.
+    /// IDN: 1 where both subscripts are equal, else 0.
     Identity,
     Copy(Name),
     Sum(Name, Name),
@@ -18,6 +18,6 @@ pub enum MatValue {
     Product(Name, Name),
     /// A number times an array.
     Scaled(Int, Name),
-    /// TRN, the subscripts exchanged.
+    /// TRN: the array with its subscripts exchanged.
     Transposed(Name),
 }

@@ -1,4 +1,4 @@
--- What stands at a letter and at a digit, by what the tests on the way to it found.
+-- What a line has at a letter and at a digit, by what the tests before found.
 use Rattle.std.proofs.Common.{◌≡◌, ℕ, ◌+◌, ◌<◌, ◌≤◌, Bool, true, false, List, take, drop, sym, ap, ◌∙◌, lt-ltb}
 use Rattle.std.proofs.lemmas.Bool.{le-ltb, eq-eqb, ne_eqb}
 use Rattle.std.specs.Prelude.{◌==◌, min, nat_lt, if◌then◌else◌, slice_index}
@@ -53,7 +53,7 @@ module _ (rest : List ℕ) where
     abbrev number : Front
     number = if nat_lt MOST_NUMBER (digits_value 10 (take n rest)) then front.Refused cause.NumberTooWide else literal
 
-    -- at a digit, by the length of the run of digits
+    -- at a digit, by the number of digits
     digit_by : digit_front rest ≡ (if is_floating (drop n rest) then front.Refused cause.FloatingLiteral else number)
     unfolding digit_front
     digit_by = ap (λ m. if is_floating (drop m rest) then front.Refused cause.FloatingLiteral else (if nat_lt MOST_NUMBER (digits_value 10 (take m rest)) then front.Refused cause.NumberTooWide else front.Token kind.Literal (if slice_index rest m == 37 then m + 1 else m))) (sym at)

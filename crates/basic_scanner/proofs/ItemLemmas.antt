@@ -23,7 +23,7 @@ module _ (start place : ℕ) (line : List ℕ) (quote : Option ℕ) (behind : st
       ∙ take_more (drop start line) (place - start) 0 (omega (arith, length-drop start line))
       ∙ ap (λ b. take (place - start) (drop start line) ++ b ∷ []) (get_or-drop start line (place - start) 0 ∙ ap (λ k. get_or line k 0) there)
 
-  -- a byte that does not cut is one more of the item
+  -- a byte that does not cut is added to the item
   pub item_goes_on : cuts quote (get_or line place 0) ≡ false → items_from start (take (place - start) (drop start line)) quote (drop place line) ≡ items_from start (take (place + 1 - start) (drop start line)) (quote_after quote (get_or line place 0)) (drop (place + 1) line)
   item_goes_on e =
       items_step start (take (place - start) (drop start line)) quote line place inside
@@ -48,5 +48,5 @@ item_last start line quote =
     items_end start item quote line (length line) (omega arith)
     ∙ ap (λ b. record { kind = kind.DataItem; start = start; bytes = item } ∷ (if b then items_from (length line + 1) [] None (drop (length line + 1) line) else [])) (sym (le-ltb (length line) (length line) (omega arith)))
 
--- what the search over an item goes by
+-- the rules of the search for the end of an item
 pub ruleset item_steps = (item_start, item_goes_on, item_cut, item_last)

@@ -24,11 +24,11 @@ stands_short (letter ∷ word) [] lt = refl
 stands_short (letter ∷ word) (b ∷ rest) lt =
     ap (λ s. to_ascii_uppercase b == letter && s) (stands_short word rest (omega arith)) ∙ and_false (to_ascii_uppercase b == letter)
 
--- whether the words agree from a place on is decided by the letters there and by what stands behind
+-- whether the words agree from a place on is decided by the letters there and by what follows
 pub stands_step : (k : ℕ) (word rest : List ℕ) → k < length word → k < length rest → is_at_front (drop k word) (drop k rest) ≡ (to_ascii_uppercase (get_or rest k 0) == get_or word k 0 && is_at_front (drop (k + 1) word) (drop (k + 1) rest))
 stands_step k word rest in_word in_rest = rw (add-one, drop-cons word k 0, drop-cons rest k 0) refl
 
--- one entry more of a table
+-- one more entry of a table
 longest_more : {W : Type 0} (table : List (W × Bor (List ℕ))) (rest : List ℕ) (i : ℕ) (d : W × Bor (List ℕ)) → i < length table → longest_length (entries (take (i + 1) table)) rest ≡ (if is_at_front (get_or table i d).1.now rest then max (longest_length (entries (take i table)) rest) (length (get_or table i d).1.now) else longest_length (entries (take i table)) rest)
 longest_more table rest i d lt = ap (λ front. longest_length front rest) (map_more (λ entry. (entry.0, entry.1.now)) table i d lt) ∙ fold_push _ 0 (entries (take i table)) ((get_or table i d).0, (get_or table i d).1.now)
 
@@ -38,7 +38,7 @@ longest_by {W} table rest i longest entry lt at so_far =
     ∙ ap (λ (e : W × Bor (List ℕ)). if is_at_front e.1.now rest then max (longest_length (entries (take i table)) rest) (length e.1.now) else longest_length (entries (take i table)) rest) (sym at)
     ∙ ap (λ n. if is_at_front entry.1.now rest then max n (length entry.1.now) else n) (sym so_far)
 
--- a word that stands there is no longer than the rest
+-- a word at the front is no longer than the rest
 pub stands_within : (word rest : List ℕ) → is_at_front word rest ≡ true → length word ≤ length rest
 stands_within [] rest e = omega arith
 stands_within (letter ∷ word) [] e = absurd (cc)
@@ -60,6 +60,6 @@ module _ {W : Type 0} (table : List (W × Bor (List ℕ))) (bytes : List ℕ) (i
       ∙ ap (λ (e : W × Bor (List ℕ)). if is_word e.1.now bytes then Some e.0 else spelled (entries (drop (i + 1) table)) bytes) (sym at)
       ∙ ap (λ (it : Bool). if it then Some entry.0 else spelled (entries (drop (i + 1) table)) bytes) (sym is)
 
-  -- behind the last entry nothing is found
+  -- after the last entry nothing is found
   pub spelled_end : length table ≤ i → spelled (entries (drop i table)) bytes ≡ None
   spelled_end le = ap (λ (rest : List (W × Bor (List ℕ))). spelled (entries rest) bytes) (drop_all i table le)

@@ -1,4 +1,4 @@
--- A table of words, without where the words lie in memory.
+-- A table of words, without pointers.
 use Rattle.std.specs.Prelude.{ℕ, List, map}
 use Rattle.std.specs.Borrow.{Bor}
 

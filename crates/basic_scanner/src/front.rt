@@ -1,20 +1,24 @@
-//! What stands at the front of the rest of a line.
+//! What the rest of a line begins with.
 
-ghost use Rattle.std.specs.Prelude.{◌≡◌, ◌≤◌, ◌<◌, ◌==◌, IfSome, position, min, take, length, slice_index};
+ghost use Rattle.std.specs.Prelude.{◌≡◌, ◌≤◌, ◌<◌, ◌==◌, IfSome, position, min, take, length};
+ghost use Rattle.std.specs.Prelude.{slice_index};
 ghost use Rattle.std.specs.Char.{is_ascii_digit};
 ghost use Rattle.std.specs.List.{prefix_len};
 ghost use Rattle.std.specs.Str.Parse.{AllDigits, digits_value};
-ghost use Rattle.basic_tree.specs.Tokens.{is_quote, is_type_mark, keyword_front, name_end, name_front, begins_function, letter_front, has_exponent, is_floating, digit_front, quote_front, sign_front, front_of};
+ghost use Rattle.basic_tree.specs.Tokens.{is_quote, is_type_mark, keyword_front, name_end};
+ghost use Rattle.basic_tree.specs.Tokens.{name_front, begins_function, letter_front, has_exponent};
+ghost use Rattle.basic_tree.specs.Tokens.{is_floating, digit_front, quote_front, sign_front};
+ghost use Rattle.basic_tree.specs.Tokens.{front_of};
 ghost use Rattle.basic_scanner.specs.Scan.{value_in_front};
 
 use crate::words::{is_at_front, is_word, keyword_length, sign_length};
 use basic_tree::{Cause, Front, TokenKind};
 use basic_values::{digits_in_front, is_blank};
 
-/// The least number that is too wide for a literal.
+/// The least number that is too large for a literal.
 const TOO_WIDE: u32 = 32768;
 
-/// The byte at a place, 0 past the end.
+/// Returns the byte at a place, or 0 past the end.
 fn byte_at(rest: &[u8], place: usize) -> u8
     ensures { result ≡ slice_index rest.now place }
 {
@@ -33,7 +37,8 @@ fn is_type_mark(byte: u8) -> bool
     byte == b'%' || byte == b'$'
 }
 
-/// REM begins a comment, DATA its items, and every other keyword is a token.
+/// Returns what a keyword is: REM begins a comment, DATA its items, and every other keyword is a
+/// token.
 fn keyword_front(word: &[u8]) -> Front
     ensures { result ≡ keyword_front word.now }
 {
@@ -46,7 +51,7 @@ fn keyword_front(word: &[u8]) -> Front
     }
 }
 
-/// The end of a name whose letter stands at this place.
+/// Returns the place after a name whose letter is at this place.
 fn name_end(letter: usize, rest: &[u8]) -> usize
     requires { letter < 3 }
     ensures value { result ≡ name_end letter rest.now }
@@ -59,7 +64,7 @@ fn name_end(letter: usize, rest: &[u8]) -> usize
     }
 }
 
-/// A name that ends there is followed at once by `%` or `$`.
+/// Returns the name that ends there, if `%` or `$` follows at once.
 fn name_front(kind: TokenKind, end: usize, rest: &[u8]) -> Front
     requires { end < 6 }
     ensures { result ≡ name_front kind end rest.now }
@@ -71,14 +76,14 @@ fn name_front(kind: TokenKind, end: usize, rest: &[u8]) -> Front
     }
 }
 
-/// FN and a letter.
+/// Returns whether the rest begins with FN and a letter.
 fn begins_function(rest: &[u8]) -> bool
     ensures { result ≡ begins_function rest.now }
 {
     is_at_front(b"FN", rest) && byte_at(rest, 2).is_ascii_alphabetic()
 }
 
-/// The longest keyword, else a name.
+/// Returns the longest keyword, or else a name.
 fn letter_front(rest: &[u8]) -> Front
     ensures { result ≡ letter_front rest.now }
 {
@@ -92,7 +97,7 @@ fn letter_front(rest: &[u8]) -> Front
     }
 }
 
-/// A digit, or a sign and a digit, behind an E.
+/// Returns whether an exponent follows the digits: E and a digit, or E, a sign and a digit.
 fn has_exponent(behind: &[u8]) -> bool
     ensures { result ≡ has_exponent behind.now }
 {
@@ -100,7 +105,7 @@ fn has_exponent(behind: &[u8]) -> bool
     sign.is_ascii_digit() || ((sign == b'+' || sign == b'-') && byte_at(behind, 2).is_ascii_digit())
 }
 
-/// What stands behind the digits makes a floating number of them.
+/// Returns whether what follows the digits makes a floating number of them.
 fn is_floating(behind: &[u8]) -> bool
     ensures { result ≡ is_floating behind.now }
 {
@@ -108,7 +113,7 @@ fn is_floating(behind: &[u8]) -> bool
     next == b'.' || (next.to_ascii_uppercase() == b'E' && has_exponent(behind))
 }
 
-/// The length of the run of digits at the front.
+/// Returns the number of digits at the front.
 fn digits_length(rest: &[u8]) -> usize
     ensures value { result ≡ prefix_len is_ascii_digit rest.now }
     ensures within { result ≤ length rest.now }
@@ -117,7 +122,7 @@ fn digits_length(rest: &[u8]) -> usize
     digits_in_front(rest)
 }
 
-/// The value of the digits, where it is too wide the least such value.
+/// Returns the value of the digits, or the least value that is too large.
 fn capped_value(digits: &[u8]) -> u32
     requires { AllDigits 10 digits.now }
     ensures { result ≡ min (digits_value 10 digits.now) TOO_WIDE }
@@ -129,14 +134,14 @@ fn capped_value(digits: &[u8]) -> u32
     value
 }
 
-/// The value of the digits at the front, 32768 for any above 32767.
+/// Returns the value of the digits at the front, or 32768 for any above 32767.
 pub fn literal_value(bytes: &[u8]) -> u16
     ensures { result ≡ value_in_front bytes.now }
 {
     capped_value(&bytes[..digits_length(bytes)]) as u16
 }
 
-/// The run of digits, and `%` where it stands behind them.
+/// Returns the digits as a literal, with a `%` right after them.
 fn digit_front(rest: &[u8]) -> Front
     ensures { result ≡ digit_front rest.now }
 {
@@ -152,7 +157,7 @@ fn digit_front(rest: &[u8]) -> Front
     }
 }
 
-/// The place of the quote in the bytes behind the opening one.
+/// Returns the place of the closing quote in the bytes after the opening one.
 fn closing_place(quote: u8, behind: &[u8]) -> Option<usize>
     ensures value { result ≡ position (λ b. b == quote) behind.now }
     ensures within { IfSome result (λ place. place < length behind.now) }
@@ -160,7 +165,7 @@ fn closing_place(quote: u8, behind: &[u8]) -> Option<usize>
     behind.iter().position(|byte| *byte == quote)
 }
 
-/// All up to the next quote of its kind.
+/// Returns everything up to the next quote of the same kind.
 #[tactic(auto, unfolding(basic_tree::specs::Tokens::quote_front))]
 fn quote_front(rest: &[u8]) -> Front
     requires { 0 < length rest.now }
@@ -172,7 +177,7 @@ fn quote_front(rest: &[u8]) -> Front
     }
 }
 
-/// The longest sign.
+/// Returns the longest sign.
 #[tactic(auto, unfolding(basic_tree::specs::Tokens::sign_front))]
 fn sign_front(rest: &[u8]) -> Front
     ensures { result ≡ sign_front rest.now }
@@ -185,7 +190,7 @@ fn sign_front(rest: &[u8]) -> Front
     }
 }
 
-/// What stands there, by the first byte.
+/// Returns what the rest begins with, by its first byte.
 #[tactic(auto, unfolding(basic_tree::specs::Tokens::front_of))]
 pub fn front_of(rest: &[u8]) -> Front
     requires { 0 < length rest.now }

@@ -1,6 +1,7 @@
-//! From the bytes of a line to its tokens. It stands on the grammar's tokens in `basic_tree`.
-//! `scan` carries the promise: the tokens of the line exactly, or the first place that is refused.
-//! It takes no memory: the tokens lie in an `ArrayVec`, in the value itself.
+//! The scanner: from the bytes of a line to its tokens.
+//!
+//! `scan` promises exactly the tokens that `basic_tree` defines, or the first place that is
+//! rejected. It takes no memory: the tokens are in an `ArrayVec`, in the returned value itself.
 #![tactic(auto)]
 
 mod front;

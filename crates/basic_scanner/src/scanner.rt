@@ -1,6 +1,7 @@
-//! The tokens of a line. They lie in the value itself: a line of 255 bytes has no more tokens.
+//! The tokens of a line. They are in the value itself: a line of 255 bytes has no more tokens.
 
-ghost use Rattle.std.specs.Prelude.{◌≡◌, ◌≤◌, ◌<◌, ◌+◌, ◌^◌, ◌++◌, ◌∷◌, [], take, drop, length, slice_get, None, Some, Ok, Err, IfOk, IfErr};
+ghost use Rattle.std.specs.Prelude.{◌≡◌, ◌≤◌, ◌<◌, ◌+◌, ◌^◌, ◌++◌, ◌∷◌, [], take, drop, length};
+ghost use Rattle.std.specs.Prelude.{slice_get, None, Some, Ok, Err, IfOk, IfErr};
 ghost use Rattle.arrayvec.specs.ArrayVec.{array_vec_len};
 ghost use Rattle.basic_tree.specs.Tokens.{quote_after, cuts, tokens_of, front_of};
 ghost use Rattle.basic_tree.specs.TokenLaws.{LiesIn, AreCut};
@@ -13,7 +14,7 @@ use basic_tree::{Front, Refusal, TokenKind};
 use basic_values::LINE_LENGTH;
 use std::marker::Model;
 
-/// A token: its sort, the place of its first byte in the line, and its bytes, a slice of the line.
+/// A token: its kind, the place of its first byte in the line, and its bytes, a slice of the line.
 #[derive(Clone, Copy)]
 pub struct Token<'a> {
     pub kind: TokenKind,
@@ -21,7 +22,7 @@ pub struct Token<'a> {
     pub bytes: &'a [u8],
 }
 
-/// A token of no bytes, for the places that no token takes.
+/// A token without bytes, for the unused places.
 impl<'a> Default for Token<'a> {
     fn default() -> Token<'a> {
         Token {
@@ -32,7 +33,7 @@ impl<'a> Default for Token<'a> {
     }
 }
 
-/// The tokens of a line, one for each byte at the most.
+/// The tokens of a line, at most one for each byte.
 #[derive(Drop)]
 pub struct Tokens<'a> {
     tokens: ArrayVec<Token<'a>, LINE_LENGTH>,
@@ -52,7 +53,7 @@ impl<'a> Model for Tokens<'a> {
 }
 
 impl<'a> Tokens<'a> {
-    /// How many there are.
+    /// Returns the number of tokens.
     pub fn len(&self) -> u16
         ensures value { result ≡ length self.now }
         ensures few { result ≤ LINE_LENGTH }
@@ -60,7 +61,7 @@ impl<'a> Tokens<'a> {
         self.tokens.len() as u16
     }
 
-    /// The one at a place, from 0.
+    /// Returns the token at a place, from 0.
     pub fn token(&self, k: u16) -> Token<'a>
         requires { k < length self.now }
         ensures value { slice_get self.now k ≡ Some (lexeme_of result) }
@@ -70,7 +71,7 @@ impl<'a> Tokens<'a> {
     }
 }
 
-/// The quote that is open behind a byte.
+/// Returns the quote that is open after a byte.
 fn quote_after(quote: Option<u8>, byte: u8) -> Option<u8>
     ensures { result ≡ quote_after quote byte }
 {
@@ -80,7 +81,7 @@ fn quote_after(quote: Option<u8>, byte: u8) -> Option<u8>
     }
 }
 
-/// A comma outside quotes ends an item.
+/// Returns whether the byte ends an item: a comma outside quotes does.
 fn cuts(quote: Option<u8>, byte: u8) -> bool
     ensures { result ≡ cuts quote byte }
 {
@@ -90,7 +91,7 @@ fn cuts(quote: Option<u8>, byte: u8) -> bool
     }
 }
 
-/// The end of the item of DATA that begins at a place.
+/// Returns the end of the item of DATA that begins at a place.
 #[tactic(auto, using(crate::proofs::ItemLemmas::item_steps))]
 fn item_end(line: &[u8], start: usize) -> usize
     requires { start ≤ length line.now }
@@ -107,7 +108,7 @@ fn item_end(line: &[u8], start: usize) -> usize
     line.len()
 }
 
-/// One token more, of so many bytes of the line from its start on.
+/// Adds a token with this many bytes of the line, from its start on.
 fn push<'a>(
     tokens: &mut ArrayVec<Token<'a>, LINE_LENGTH>,
     kind: TokenKind,
@@ -129,7 +130,7 @@ fn push<'a>(
     });
 }
 
-/// The items of DATA, from a place to the end of the line.
+/// Adds the items of DATA, from a place to the end of the line.
 fn push_items<'a>(tokens: &mut ArrayVec<Token<'a>, LINE_LENGTH>, line: &'a [u8], from: usize)
     requires within { from ≤ length line.now }
     requires short { length line.now ≤ LINE_LENGTH }
@@ -147,7 +148,7 @@ fn push_items<'a>(tokens: &mut ArrayVec<Token<'a>, LINE_LENGTH>, line: &'a [u8],
     }
 }
 
-/// What stands at a place of the line.
+/// Returns what the line has at a place.
 fn front_at(line: &[u8], place: usize) -> Front
     requires { place < length line.now }
     ensures value { front_of (drop place line.now) ≡ result }
@@ -156,7 +157,7 @@ fn front_at(line: &[u8], place: usize) -> Front
     front_of(&line[place..])
 }
 
-/// The tokens of the line, or the first place that is refused.
+/// Returns the tokens of the line, or the first place that is rejected.
 fn read<'a>(line: &'a [u8]) -> Result<ArrayVec<Token<'a>, LINE_LENGTH>, Refusal>
     requires { length line.now ≤ LINE_LENGTH }
     ensures found { IfOk result (λ tokens. tokens_of line.entry.now ≡ Ok (lexemes tokens.items)) }
@@ -188,7 +189,7 @@ fn read<'a>(line: &'a [u8]) -> Result<ArrayVec<Token<'a>, LINE_LENGTH>, Refusal>
     Ok(tokens)
 }
 
-/// The tokens of the line, or the first place that is refused and why. It takes no memory.
+/// Returns the tokens of the line, or the first place that is rejected and why. It takes no memory.
 pub fn scan<'a>(line: &'a [u8]) -> Result<Tokens<'a>, Refusal>
     requires { length line.now ≤ LINE_LENGTH }
     ensures exact { result ≡ tokens_of line.entry.now }

@@ -1,7 +1,8 @@
 //! The words of the language, as the bytes that spell them.
 
 ghost use Rattle.std.specs.Prelude.{◌≡◌, ◌≤◌, length, max, if◌then◌else◌};
-ghost use Rattle.basic_tree.specs.Tokens.{is_at_front, is_word, longest_length, spelled, keyword_of, sign_of};
+ghost use Rattle.basic_tree.specs.Tokens.{is_at_front, is_word, longest_length, spelled};
+ghost use Rattle.basic_tree.specs.Tokens.{keyword_of, sign_of};
 ghost use Rattle.basic_tree.specs.Words.{keywords, signs};
 ghost use Rattle.basic_scanner.specs.Tables.{entries};
 
@@ -124,7 +125,7 @@ static SIGNS: [(Sign, &[u8]); 20] = [
     (Sign::Different, b"<>"),
 ];
 
-/// Whether the word stands at the front of the rest, in letters of either case.
+/// Returns whether the rest begins with the word, in letters of either case.
 #[tactic(auto, using(crate::proofs::WordLemmas::stands_step))]
 pub fn is_at_front(word: &[u8], rest: &[u8]) -> bool
     ensures { result ≡ is_at_front word.now rest.now }
@@ -140,15 +141,15 @@ pub fn is_at_front(word: &[u8], rest: &[u8]) -> bool
     true
 }
 
-/// Whether the bytes are this word.
+/// Returns whether the bytes are this word, in letters of either case.
 pub fn is_word(word: &[u8], bytes: &[u8]) -> bool
     ensures { result ≡ is_word word.now bytes.now }
 {
     bytes.len() == word.len() && is_at_front(word, bytes)
 }
 
-/// The greater of the length so far and that of the word, where the word stands at the front of
-/// the rest.
+/// Returns the length so far or that of the word, whichever is greater, if the rest begins with the
+/// word.
 #[tactic(auto, using(crate::proofs::WordLemmas::stands_within))]
 fn longer(longest: usize, word: &[u8], rest: &[u8]) -> usize
     ensures value { let more = max longest (length word.now) in
@@ -162,7 +163,7 @@ fn longer(longest: usize, word: &[u8], rest: &[u8]) -> usize
     }
 }
 
-/// The length of the longest word of the table that stands at the front of the rest.
+/// Returns the length of the longest word of the table with which the rest begins.
 fn longest_length<W>(table: &[(W, &[u8])], rest: &[u8]) -> usize
     ensures value { result ≡ longest_length (entries table.now) rest.now }
     ensures within { result ≤ length rest.now }
@@ -174,8 +175,8 @@ fn longest_length<W>(table: &[(W, &[u8])], rest: &[u8]) -> usize
     longest
 }
 
-/// The keywords with their bytes.
-// The check of a function that names the table goes through all its rows: this one alone names it.
+/// Returns the keywords with their bytes.
+// The proof of a function that names the table goes through all its entries, so only this one does.
 #[tactic(auto, unfolding(basic_tree::specs::Words::keywords))]
 fn keyword_table() -> &'static [(Keyword, &'static [u8])]
     ensures { entries result.now ≡ keywords }
@@ -183,7 +184,7 @@ fn keyword_table() -> &'static [(Keyword, &'static [u8])]
     &KEYWORDS
 }
 
-/// The length of the longest keyword that stands at the front of the rest.
+/// Returns the length of the longest keyword with which the rest begins.
 pub fn keyword_length(rest: &[u8]) -> usize
     ensures value { result ≡ longest_length keywords rest.now }
     ensures within { result ≤ length rest.now }
@@ -191,7 +192,7 @@ pub fn keyword_length(rest: &[u8]) -> usize
     longest_length(keyword_table(), rest)
 }
 
-/// The length of the longest sign that stands at the front of the rest.
+/// Returns the length of the longest sign with which the rest begins.
 #[tactic(auto, unfolding(basic_tree::specs::Words::signs))]
 pub fn sign_length(rest: &[u8]) -> usize
     ensures { result ≡ longest_length signs rest.now }
@@ -199,7 +200,7 @@ pub fn sign_length(rest: &[u8]) -> usize
     longest_length(&SIGNS, rest)
 }
 
-/// What the bytes spell in the table.
+/// Returns the word of the table that the bytes spell.
 fn spelled<W: Copy>(table: &[(W, &[u8])], bytes: &[u8]) -> Option<W>
     ensures { result ≡ spelled (entries table.now) bytes.now }
 {
@@ -211,14 +212,14 @@ fn spelled<W: Copy>(table: &[(W, &[u8])], bytes: &[u8]) -> Option<W>
     None
 }
 
-/// The keyword that the bytes spell, in letters of either case.
+/// Returns the keyword that the bytes spell, in letters of either case.
 pub fn keyword_of(bytes: &[u8]) -> Option<Keyword>
     ensures { result ≡ keyword_of bytes.now }
 {
     spelled(keyword_table(), bytes)
 }
 
-/// The sign that the bytes spell.
+/// Returns the sign that the bytes spell.
 #[tactic(auto, unfolding(basic_tree::specs::Words::signs))]
 pub fn sign_of(bytes: &[u8]) -> Option<Sign>
     ensures { result ≡ sign_of bytes.now }

@@ -1,4 +1,4 @@
--- Statements without modifiers that are no IF: what is read at a place where one stands.
+-- Statements without modifiers that are not an IF: what is read at a place.
 use Rattle.std.specs.Prelude.{◌≡◌, ℕ, Bool, true, false, List, ◌∷◌, drop, Some, Result, Ok, Err}
 use Rattle.basic_expr.specs.declared.failures.Failure.{Failure}
 use Rattle.basic_tree.specs.SpellingWords.{Word}

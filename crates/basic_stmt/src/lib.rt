@@ -1,12 +1,11 @@
-//! The statements of the language, each read from the words of a line: all but IF, and without
-//! their modifiers.
+//! Reads the statements of the language, except IF and without their modifiers, from the words of a
+//! line.
 //!
-//! It stands on `statement_rows`, which reads those that are rows, on `statement_lists`, which reads
-//! CHAIN and PRINT USING, and on `statement_parts`, of whose parts the others are made here: PRINT,
-//! DEF, assignments and results of functions.
-//! `plain_at` carries the promise: what it reads is the statement that the words spell, and where
-//! it stops no line goes on. Modifiers are read in `statement_modifiers`, IF and the statements of a
-//! line in `basic_line`.
+//! The crate builds on `statement_rows` for the statements of the table, on `statement_lists` for
+//! CHAIN and PRINT USING, and on `statement_parts` for the others: PRINT, DEF, assignments and
+//! results of functions. `plain_at` promises that it reads the statement that the words spell, and
+//! that no line continues where it stops. `statement_modifiers` reads modifiers; `basic_line` reads
+//! IF and lines.
 #![tactic(auto)]
 
 mod plain;

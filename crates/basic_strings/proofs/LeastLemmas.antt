@@ -10,7 +10,7 @@ use Rattle.basic_strings.specs.Laws.{StandsAt, IsLeastPlace, StandsNowhere}
 use Rattle.basic_strings.specs.Places.{stands_at, place_of}
 use Rattle.basic_strings.proofs.PlaceLemmas.{place_given-positive}
 
--- no number from one to another passes
+-- no number in this range passes
 abbrev NonePasses : (ℕ → Bool) → ℕ → ℕ → Type 0
 NonePasses P from end = (j : ℕ) → from ≤ j → j < end → P j ≡ false
 
@@ -67,7 +67,7 @@ finds_first P from (suc count) =
       | inr failing ↦ later P from count failing (finds_first P (from + 1) count)
     ]
 
--- the test says where the text stands
+-- the test says whether the string is there
 stands : (text sought : List ℕ) (place : ℕ) → 1 ≤ place → place ≤ length text + 1 → stands_at text sought place ≡ true → StandsAt text sought place
 stands text sought place low high passing =
     let rest = drop (place - 1) text in

@@ -1,4 +1,4 @@
--- The first place at which a text stands in another.
+-- The first place at which a string is in another.
 use Rattle.std.proofs.Common.{◌≡◌, ℕ, suc, ◌+◌, ◌-◌, ◌<◌, ◌≤◌, Bool, true, false, cond, List, length, Some, None, ℤ, pos, negsuc, sym, ap, ◌∙◌, arith}
 use Rattle.std.specs.Prelude.{unwrap_or}
 use Rattle.std.specs.List.{find, range_with_len}
@@ -9,19 +9,19 @@ pub place_given-positive : (n : ℤ) → 1 ≤ place_given n
 place_given-positive (pos n) = omega arith
 place_given-positive (negsuc n) = omega arith
 
--- one place is tried before the rest
+-- one place is tried before the others
 pub find-first : (P : ℕ → Bool) (place : ℕ) (text : List ℕ) → place ≤ length text + 1 → find P (places_from place text) ≡ cond (P place) (Some place) (find P (places_from (place + 1) text))
 find-first P place text within =
     let count : length text + 2 - place ≡ suc (length text + 2 - (place + 1)) = omega arith in
     ap (λ k. find P (range_with_len place k)) count
 
--- behind the last place there is none
+-- after the last place there is none
 pub find-behind : (P : ℕ → Bool) (place : ℕ) (text : List ℕ) → length text + 1 < place → find P (places_from place text) ≡ None
 find-behind P place text past =
     let count : length text + 2 - place ≡ 0 = omega arith in
     ap (λ k. find P (range_with_len place k)) count
 
--- the places from the given one on, once those before are tried
+-- the places before the given one have been tried, without success
 abbrev pub NothingBefore : ℤ → List ℕ → List ℕ → ℕ → Type 0
 NothingBefore from text sought before = find (stands_at text sought) (places_from (before + 1) text) ≡ find (stands_at text sought) (places_from (place_given from) text)
 

@@ -1,4 +1,4 @@
--- What a search of the kit finds behind a start, as a place of INSTR.
+-- What a search of the standard library finds from a start on, as a place of INSTR.
 use Rattle.std.proofs.Common.{◌≡◌, ◌≤◌, ◌<◌, ◌+◌, ◌-◌, ℕ, zero, suc, true, false, List, length, take, drop, ℤ, pos, sym, ap, subst, ◌∙◌, inl, inr, [], ◌∷◌, arith}
 use Rattle.std.proofs.lemmas.Bool.{cases_Bool}
 use Rattle.std.proofs.lemmas.List.{drop-drop, length-take, length-drop}
@@ -35,7 +35,7 @@ stands_not text sought start before within nowhere =
       | inr not ↦ not
     ]
 
--- no place of these stands, so all of them are tried
+-- the string is at none of these places, so all of them have been tried
 pub all_tried : (from : ℤ) (text sought : List ℕ) (start : ℕ) → start ≤ length text → NothingBefore from text sought start → (count : ℕ) → count ≤ length (drop start text) + 1 → Nowhere (OccursAt (drop start text) sought) 0 count → NothingBefore from text sought (start + count)
 all_tried from text sought start within tried zero few nowhere =
     let same : start ≡ start + 0 = omega arith in
@@ -57,7 +57,7 @@ no_place_found from text sought start within tried nowhere =
     no_place from text sought past (all_tried from text sought start within tried (length (drop start text) + 1) (omega arith) nowhere)
     (find-behind (stands_at text sought) (past + 1) text (omega (arith, within, length-drop start text)))
 
--- an empty text is found at once, and another before the text's last byte is passed
+-- an empty string is found at once; any other before the text's last byte is passed
 pub found_early : (text sought : List ℕ) (start before : ℕ) → start ≤ 32766 → length text ≤ 32767 → start ≤ length text → Nowhere (OccursAt (drop start text) sought) 0 before → OccursAt (drop start text) sought before → start + before ≤ 32766
 found_early text [] start zero small short within nowhere occurs = omega (arith, small)
 found_early text [] start (suc before) small short within nowhere occurs =

@@ -1,4 +1,4 @@
--- What stands in a part of a text.
+-- The bytes of a part of a string.
 use Rattle.std.specs.Prelude.{ℕ, List, take, drop}
 use Rattle.basic_strings.specs.declared.cuts.Cut.{Cut}
 

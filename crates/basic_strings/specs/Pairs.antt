@@ -6,7 +6,6 @@ use Rattle.basic_values.specs.Numbers.{low_bits, signed}
 abbrev pub pair_of : ℤ → List ℕ
 pair_of n = (low_bits n / 256) ∷ (low_bits n % 256) ∷ []
 
--- the number whose high byte and low byte come first in the text; a byte that is not there
--- counts as 0
+-- the number whose high and low byte are the first two of the string; a missing byte counts as 0
 abbrev pub number_in : List ℕ → ℤ
 number_in text = signed (slice_index text 0 * 256 + slice_index text 1)

@@ -1,8 +1,8 @@
--- Texts whose bytes are looked up in a table.
+-- Strings whose bytes are looked up in a table.
 use Rattle.std.specs.Prelude.{ℕ, ◌==◌, if◌then◌else◌, List, [], ◌∷◌, slice_index}
 use Rattle.std.specs.List.{flat_map}
 
--- the byte of the table at the place behind the given number; nothing where none is there, or 0
+-- the byte of the table with this index; nothing if it is missing or 0
 abbrev pub looked_up : List ℕ → ℕ → List ℕ
 looked_up table byte = if slice_index table byte == 0 then [] else slice_index table byte ∷ []
 

@@ -1,4 +1,4 @@
-//! Texts of one byte, once or many times.
+//! Strings of one byte, once or many times.
 
 ghost use Rattle.std.specs.Prelude.{◌≡◌, [], ◌∷◌, IfOk};
 ghost use Rattle.basic_values.specs.Texts.{MakesText, space};
@@ -8,7 +8,7 @@ use crate::cuts::count_of;
 use basic_values::{Halt, Int, NoMemory, Text, Trouble};
 use std::alloc::Global;
 
-/// The number of the first byte, 0 for an empty text. The manual's ASCII.
+/// Returns the code of the first byte, or 0 for an empty string: the manual's ASCII.
 pub fn ascii(bytes: &[u8]) -> Int
     ensures { result ≡ first_byte bytes.now }
 {
@@ -18,14 +18,14 @@ pub fn ascii(bytes: &[u8]) -> Int
     }
 }
 
-/// The one byte whose number is `n` modulo 256. The manual's CHR$.
+/// Returns the string of one byte, `n` modulo 256: the manual's CHR$.
 pub fn chr(alloc: Global, n: Int) -> Result<Text, Trouble<Halt>>
     ensures { MakesText (byte_of n ∷ []) result }
 {
     Text::of(alloc, &[low_byte(n)])
 }
 
-/// `n` spaces. The manual's SPACE$.
+/// Returns `n` spaces: the manual's SPACE$.
 pub fn space(alloc: Global, n: Int) -> Result<Text, Trouble<Halt>>
     ensures { MakesText (repeated n space) result }
 {
@@ -33,7 +33,7 @@ pub fn space(alloc: Global, n: Int) -> Result<Text, Trouble<Halt>>
     Text::of(alloc, &bytes)
 }
 
-/// `n` times the byte whose number is `k` modulo 256. The manual's STRING$.
+/// Returns `n` times the byte `k` modulo 256: the manual's STRING$.
 pub fn string(alloc: Global, n: Int, k: Int) -> Result<Text, Trouble<Halt>>
     ensures { MakesText (repeated n (byte_of k)) result }
 {

@@ -1,4 +1,4 @@
-//! The length of a text, and its parts by length and place. Bytes are numbered from 1.
+//! The length of a string, and its parts by length and place. Bytes are numbered from 1.
 
 ghost use Rattle.std.specs.Prelude.{◌≡◌, ◌≤◌, ◌-◌, ℕ, List, length, take, drop, pos};
 ghost use Rattle.basic_values.specs.Texts.{MakesText};
@@ -8,7 +8,7 @@ ghost use Rattle.basic_strings.specs.CutParts.{part_at};
 use basic_values::{Halt, Int, MOST_BYTES, Text, Trouble};
 use std::alloc::Global;
 
-/// How many bytes the text has. The manual's LEN.
+/// Returns the number of bytes: the manual's LEN.
 pub fn len(bytes: &[u8]) -> Int
     requires { length bytes.now ≤ MOST_BYTES }
     ensures { result ≡ pos (length bytes.now) }
@@ -16,35 +16,35 @@ pub fn len(bytes: &[u8]) -> Int
     Int::new(bytes.len() as i16)
 }
 
-/// The first `n` bytes, or all where there are fewer. The manual's LEFT.
+/// Returns the first `n` bytes, or all if there are fewer: the manual's LEFT.
 pub fn left(alloc: Global, bytes: &[u8], n: Int) -> Result<Text, Trouble<Halt>>
     ensures { MakesText (left_of bytes.now n) result }
 {
     Text::of(alloc, first(bytes, count_of(n)))
 }
 
-/// What stands from place `n` on. The manual's RIGHT.
+/// Returns the bytes from place `n` to the end: the manual's RIGHT.
 pub fn right(alloc: Global, bytes: &[u8], n: Int) -> Result<Text, Trouble<Halt>>
     ensures { MakesText (right_of bytes.now n) result }
 {
     Text::of(alloc, behind(bytes, bytes_before(n)))
 }
 
-/// `k` bytes from place `n` on, or all that are there. The manual's MID.
+/// Returns `k` bytes from place `n` on, or as many as there are: the manual's MID.
 pub fn mid(alloc: Global, bytes: &[u8], n: Int, k: Int) -> Result<Text, Trouble<Halt>>
     ensures { MakesText (mid_of bytes.now n k) result }
 {
     Text::of(alloc, first(behind(bytes, bytes_before(n)), count_of(k)))
 }
 
-/// A part of a text: so many bytes behind the first ones, or all that are there.
+/// A part of a string: `count` bytes after the first `before`, or as many as there are.
 #[derive(Clone, Copy)]
 pub struct Cut {
     pub before: usize,
     pub count: usize,
 }
 
-/// The part that the manual's LEFT gives.
+/// Returns the part that the manual's LEFT takes.
 pub fn left_cut(n: Int) -> Cut
     ensures { (text : List ℕ) → part_at result text ≡ left_of text n }
 {
@@ -54,7 +54,7 @@ pub fn left_cut(n: Int) -> Cut
     }
 }
 
-/// The part that the manual's RIGHT gives.
+/// Returns the part that the manual's RIGHT takes.
 pub fn right_cut(n: Int) -> Cut
     ensures { (text : List ℕ) → length text ≤ MOST_BYTES → part_at result text ≡ right_of text n }
 {
@@ -64,7 +64,7 @@ pub fn right_cut(n: Int) -> Cut
     }
 }
 
-/// The part that the manual's MID gives.
+/// Returns the part that the manual's MID takes.
 pub fn mid_cut(n: Int, k: Int) -> Cut
     ensures { (text : List ℕ) → part_at result text ≡ mid_of text n k }
 {
@@ -74,7 +74,7 @@ pub fn mid_cut(n: Int, k: Int) -> Cut
     }
 }
 
-/// How many bytes a length names: below 0 it counts as 0.
+/// Returns the number of bytes of a length; below 0 it counts as 0.
 pub(crate) fn count_of(n: Int) -> usize
     ensures value { result ≡ length_given n }
     ensures bound { result ≤ MOST_BYTES }
@@ -86,7 +86,7 @@ pub(crate) fn count_of(n: Int) -> usize
     }
 }
 
-/// How many bytes stand before a place: below 1 it counts as 1.
+/// Returns the number of bytes before a place; below 1 it counts as 1.
 pub(crate) fn bytes_before(n: Int) -> usize
     ensures value { result ≡ place_given n - 1 }
     ensures bound { result ≤ 32766 }

@@ -1,5 +1,5 @@
-//! The string functions of BASIC-PLUS, over bytes and whole numbers. It stands on `basic_values`.
-//! Each call has the manual's function as its clause; `laws` says how they go together.
+//! The string functions of BASIC-PLUS, over byte strings and integers. Each call promises what the
+//! manual's function of that name gives; `laws` says how the functions relate to each other.
 #![tactic(auto)]
 
 mod bytes;

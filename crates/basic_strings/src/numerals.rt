@@ -10,7 +10,7 @@ use basic_values::{Halt, Int, Text, Trouble};
 use itoa::Buffer;
 use std::alloc::Global;
 
-/// A minus or nothing, and the decimal digits.
+/// Returns a minus if the number is below 0, and its decimal digits.
 pub fn digits(n: Int) -> ArrayVec<u8, 6>
     ensures { result.items ≡ signed_decimal n }
 {
@@ -21,14 +21,15 @@ pub fn digits(n: Int) -> ArrayVec<u8, 6>
     text
 }
 
-/// A minus or nothing, and the decimal digits. The manual's NUM1$.
+/// Returns a minus if the number is below 0, and its decimal digits: the manual's NUM1$.
 pub fn num1(alloc: Global, n: Int) -> Result<Text, Trouble<Halt>>
     ensures { MakesText (signed_decimal n) result }
 {
     Text::of(alloc, digits(n).as_slice())
 }
 
-/// The number as PRINT writes it: a space or a minus, the digits, and a space. The manual's NUM$.
+/// Returns the number as PRINT writes it, a space or a minus, the digits, and a space: the manual's
+/// NUM$.
 pub fn num(alloc: Global, n: Int) -> Result<Text, Trouble<Halt>>
     ensures { MakesText (printed n) result }
 {

@@ -7,15 +7,14 @@ ghost use Rattle.basic_strings.specs.Pairs.{pair_of, number_in};
 use basic_values::{Halt, Int, Text, Trouble};
 use std::alloc::Global;
 
-/// The high byte and the low byte of the number. The manual's CVT%$.
+/// Returns the high byte and the low byte of the number: the manual's CVT%$.
 pub fn text_of(alloc: Global, n: Int) -> Result<Text, Trouble<Halt>>
     ensures { MakesText (pair_of n) result }
 {
     Text::of(alloc, &n.value().to_be_bytes())
 }
 
-/// The number of the text's first two bytes, where a byte that is not there counts as 0.
-/// The manual's CVT$%.
+/// Returns the number of the first two bytes; a missing byte counts as 0. The manual's CVT$%.
 pub fn number_of(bytes: &[u8]) -> Int
     ensures { result ≡ number_in bytes.now }
 {

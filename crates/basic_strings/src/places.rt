@@ -1,4 +1,4 @@
-//! Where a text stands in another. Places are numbered from 1.
+//! The place of a string in another. Places are numbered from 1.
 
 ghost use Rattle.std.specs.Prelude.{◌≡◌, ◌≤◌, length};
 ghost use Rattle.basic_strings.specs.Places.{place_of};
@@ -7,8 +7,8 @@ use crate::cuts::bytes_before;
 use basic_values::{Int, MOST_BYTES};
 use memchr::memmem;
 
-/// The least place from `n` on where `b` stands in `a`, or 0. An empty `b` stands at each place to
-/// the one behind the last byte. The manual's INSTR. The search is linear in both texts.
+/// Returns the least place from `n` on at which `b` is in `a`, or 0: the manual's INSTR. An empty
+/// `b` is at each place, and also after the last byte. The search is linear in both strings.
 pub fn instr(n: Int, a: &[u8], b: &[u8]) -> Int
     requires text { length a.now ≤ MOST_BYTES }
     requires sought { length b.now ≤ MOST_BYTES }

@@ -1,16 +1,17 @@
-//! Numbers that texts spell.
+//! Numbers that strings spell.
 
 ghost use Rattle.std.specs.Prelude.{◌≡◌, min, option_map};
-ghost use Rattle.basic_strings.specs.Readings.{value_read, item_read, judged, number_spelled, size_spelled, with_sign, without_blanks};
+ghost use Rattle.basic_strings.specs.Readings.{value_read, item_read, judged, number_spelled};
+ghost use Rattle.basic_strings.specs.Readings.{size_spelled, with_sign, without_blanks};
 
 use basic_values::errors::{DATA_FORMAT_ERROR, ILLEGAL_NUMBER, INTEGER_ERROR};
 use basic_values::{Fault, Int, without_end_blanks, without_front_blanks};
 
-/// The least size that no number of 16 bits has, with either sign.
+/// The least absolute value that no 16-bit number has, with either sign.
 const BEYOND_SIZE: u32 = 32769;
 
-/// The number that the text spells: blanks around, a sign or none, and digits. Error 52 where it
-/// spells none, 51 where the number has more than 16 bits. The manual's VAL.
+/// Returns the number that the string spells, an optional sign and digits with blanks around them:
+/// the manual's VAL. Error 52: it spells no number; 51: the number does not have 16 bits.
 #[tactic(auto, unfolding(crate::specs::Readings::value_read))]
 pub fn val(bytes: &[u8]) -> Result<Int, Fault>
     ensures { result ≡ value_read bytes.now }
@@ -18,8 +19,8 @@ pub fn val(bytes: &[u8]) -> Result<Int, Fault>
     number(trimmed(bytes), Fault::new(ILLEGAL_NUMBER))
 }
 
-/// The number that an item of INPUT or READ spells: a sign or none, digits, and a percent sign or
-/// none. Error 50 where it spells none, 51 where the number has more than 16 bits.
+/// Returns the number that an item of INPUT or READ spells: an optional sign, digits, and an
+/// optional percent sign. Error 50: it spells no number; 51: the number does not have 16 bits.
 #[tactic(auto, unfolding(crate::specs::Readings::item_read))]
 pub fn item_number(bytes: &[u8]) -> Result<Int, Fault>
     ensures { result ≡ item_read bytes.now }
@@ -30,14 +31,14 @@ pub fn item_number(bytes: &[u8]) -> Result<Int, Fault>
     }
 }
 
-/// The text without the blanks around it.
+/// Returns the text without the blanks around it.
 fn trimmed(bytes: &[u8]) -> &[u8]
     ensures { result.now ≡ without_blanks bytes.now }
 {
     without_end_blanks(without_front_blanks(bytes))
 }
 
-/// Whether a minus stands before the digits of a text, and what stands behind its sign.
+/// Returns whether the text begins with a minus, and what follows its sign.
 fn signed(text: &[u8]) -> (bool, &[u8])
     ensures { option_map (with_sign result.0) (size_spelled result.1.now) ≡
         number_spelled text.entry.now }
@@ -49,7 +50,7 @@ fn signed(text: &[u8]) -> (bool, &[u8])
     }
 }
 
-/// The number that a sign or none and digits spell.
+/// Returns the number that an optional sign and digits spell.
 fn number(text: &[u8], no_number: Fault) -> Result<Int, Fault>
     ensures { result ≡ judged no_number (number_spelled text.now) }
 {
@@ -57,7 +58,7 @@ fn number(text: &[u8], no_number: Fault) -> Result<Int, Fault>
     in_range(is_negative, size(digits), no_number)
 }
 
-/// The number of this sign and size; the error 51 where it has more than 16 bits.
+/// Returns the number with this sign and absolute value, or error 51 if it does not have 16 bits.
 fn in_range(is_negative: bool, size: Option<u32>, no_number: Fault) -> Result<Int, Fault>
     ensures { result ≡ judged no_number (option_map (with_sign is_negative) size) }
 {
@@ -75,8 +76,8 @@ fn in_range(is_negative: bool, size: Option<u32>, no_number: Fault) -> Result<In
     }
 }
 
-/// The number that one digit or more spell, if they do; one that is too great for either sign
-/// counts as the least of those.
+/// Returns the number that one or more digits spell, if the text is such digits. One that is too
+/// large for either sign counts as the least of those.
 fn size(text: &[u8]) -> Option<u32>
     ensures { result ≡ option_map (min 32769) (size_spelled text.now) }
 {

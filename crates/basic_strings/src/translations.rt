@@ -1,4 +1,4 @@
-//! Texts whose bytes are looked up in a table.
+//! Strings whose bytes are looked up in a table.
 
 ghost use Rattle.std.specs.Prelude.{◌≡◌, IfOk, slice_index};
 ghost use Rattle.basic_values.specs.Texts.{MakesText};
@@ -7,8 +7,8 @@ ghost use Rattle.basic_strings.specs.Translations.{translated};
 use basic_values::{Halt, NoMemory, Text, Trouble};
 use std::alloc::Global;
 
-/// For each byte of `a` the byte of `b` that stands behind so many others; none where none is
-/// there, or 0. The manual's XLATE.
+/// Returns, for each byte n of `a`, byte n of `b`, counted from 0; nothing if that is missing or 0.
+/// The manual's XLATE.
 pub fn xlate(alloc: Global, a: &[u8], b: &[u8]) -> Result<Text, Trouble<Halt>>
     ensures { MakesText (translated b.now a.now) result }
 {
@@ -16,14 +16,14 @@ pub fn xlate(alloc: Global, a: &[u8], b: &[u8]) -> Result<Text, Trouble<Halt>>
     Text::of(alloc, &bytes)
 }
 
-/// The byte of the table behind so many others, 0 past the end.
+/// Returns the byte of the table at this place, counted from 0; 0 past the end.
 fn byte_behind(table: &[u8], count: u8) -> u8
     ensures { result ≡ slice_index table.now count }
 {
     table.get(usize::from(count)).copied().unwrap_or(0)
 }
 
-/// The bytes that are found for those of the text.
+/// Returns the bytes that are found for those of the text.
 fn translation(alloc: Global, text: &[u8], table: &[u8]) -> Result<Vec<u8>, NoMemory>
     ensures { IfOk result (λ bytes. bytes.items ≡ translated table.now text.now) }
 {

@@ -1,4 +1,4 @@
--- What stands at the front of the rest of a line lies in it.
+-- What the rest of a line begins with lies in the rest.
 use Rattle.std.proofs.Common.{◌≡◌, ℕ, zero, suc, ◌+◌, ◌<◌, ◌≤◌, Bool, true, false, List, [], ◌∷◌, length, take, drop, refl, sym, ap, ◌∙◌, subst, arith, ltb-true, length-take, length-drop}
 use Rattle.std.specs.Prelude.{map, Contains, slice_index_or, ◌==◌, ◌&&◌, nat_lt, max, if◌then◌else◌, slice_index, position, fold, codes, Option, Some, None}
 use Rattle.std.specs.Char.{is_ascii_digit, to_ascii_uppercase, is_ascii_alphabetic}
@@ -24,12 +24,12 @@ and_left : (a b : Bool) → (a && b) ≡ true → a ≡ true
 and_left true b e = refl
 and_left false b e = absurd (cc)
 
--- a number has a bound where each side of the choice has it
+-- a number has a bound if both sides of the choice have it
 at_most : (most : ℕ) (b : Bool) (x y : ℕ) → (b ≡ true → x ≤ most) → (b ≡ false → y ≤ most) → (if b then x else y) ≤ most
 at_most most true x y first second = first refl
 at_most most false x y first second = second refl
 
--- what stands there lies in the rest
+-- what the rest begins with lies in it
 record Within (f : Front) (rest : List ℕ) : Type 0 where
   pub fits : LiesIn f rest
 
@@ -42,7 +42,7 @@ chosen_length : (b : Bool) (m n : ℕ) (rest : List ℕ) → (b ≡ true → Wit
 chosen_length true m n rest first second = first refl
 chosen_length false m n rest first second = second refl
 
--- a word that stands there is no longer than the rest
+-- a word at the front is no longer than the rest
 pub stands_within : (word rest : List ℕ) → is_at_front word rest ≡ true → length word ≤ length rest
 stands_within [] rest e = omega arith
 stands_within (letter ∷ word) [] e = absurd (cc)
@@ -58,7 +58,7 @@ longest_from (entry ∷ table) rest n le =
 pub longest_within : {W : Type 0} (table : List (W × List ℕ)) (rest : List ℕ) → longest_length table rest ≤ length rest
 longest_within table rest = longest_from table rest 0 (omega arith)
 
--- what ends a name stands before the end of the line
+-- the end of a name is before the end of the line
 mark_within : (rest : List ℕ) (i : ℕ) → is_type_mark (slice_index rest i) ≡ true → i < length rest
 mark_within [] zero e = absurd (cc)
 mark_within [] (suc i) e = absurd (cc)
@@ -171,6 +171,6 @@ most_from (entry ∷ table) word rest n zero inside at e =
     omega (arith, longest_grows table rest m)
 most_from (entry ∷ table) word rest n (suc k) inside at e = most_from table word rest _ k (omega arith) at e
 
--- no word of a table that stands there is longer than the longest
+-- no word of a table at the front is longer than the longest
 pub longest_is_most : {W : Type 0} (table : List (W × List ℕ)) (word rest : List ℕ) → Contains (map (λ entry. entry.1) table) word → is_at_front word rest ≡ true → length word ≤ longest_length table rest
 longest_is_most table word rest inside e = most_from table word rest 0 inside.0 inside.1 inside.2 e

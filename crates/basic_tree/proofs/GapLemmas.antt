@@ -1,4 +1,4 @@
--- A blank behind a token changes nothing of the token.
+-- A blank after a token changes nothing of the token.
 use Rattle.std.proofs.Common.{◌≡◌, ℕ, ◌+◌, ◌<◌, ◌≤◌, Bool, true, false, List, [], ◌∷◌, ◌++◌, length, take, refl, sym, ap, ◌∙◌, subst, arith, ltb-true, ltb-false, inl, inr}
 use Rattle.std.specs.Prelude.{◌⊎◌, ◌==◌, ◌&&◌, ◌||◌, not, nat_lt, max, if◌then◌else◌, slice_index, fold, codes}
 use Rattle.std.specs.Char.{is_ascii_digit, to_ascii_uppercase, is_ascii_alphabetic}
@@ -34,7 +34,7 @@ pub denied : (a : Bool) → not a ≡ true → a ≡ false
 denied true e = absurd (cc)
 denied false e = refl
 
--- the byte is in no word: whether a word stands there is seen before it
+-- the byte is in no word, so whether a word is at the front is decided before the byte
 stands_same : (g : ℕ) (word x y : List ℕ) → lacks g word ≡ true → (is_at_front word (x ++ y) ≡ true → length word ≤ length x) → is_at_front word (x ++ g ∷ y) ≡ is_at_front word (x ++ y)
 stands_same g [] x y free fits = refl
 stands_same g (letter ∷ word) [] y free fits =
@@ -47,7 +47,7 @@ stands_same g (letter ∷ word) (b ∷ x) y free fits =
       go true inner again = again (λ e. let le = inner e in omega arith)
       go false inner again = refl
 
--- so is the longest word of a table
+-- the same for the longest word of a table
 longest_from_same : {W : Type 0} (g : ℕ) (table : List (W × List ℕ)) (x y : List ℕ) (n : ℕ) → all_lack g table ≡ true → fold (λ longest word. if is_at_front word.1 (x ++ y) then max longest (length word.1) else longest) n table ≤ length x → fold (λ longest word. if is_at_front word.1 (x ++ g ∷ y) then max longest (length word.1) else longest) n table ≡ fold (λ longest word. if is_at_front word.1 (x ++ y) then max longest (length word.1) else longest) n table
 longest_from_same g [] x y n free small = refl
 longest_from_same {W} g (entry ∷ table) x y n free small =
@@ -68,7 +68,7 @@ byte_same g x y i lt = get_or_append_left x (g ∷ y) 0 i lt ∙ sym (get_or_app
 pub front_same : (g : ℕ) (x y : List ℕ) (n : ℕ) → n ≤ length x → take n (x ++ g ∷ y) ≡ take n (x ++ y)
 front_same g x y n le = take-append-le n x (g ∷ y) le ∙ sym (take-append-le n x y le)
 
--- ---- choices that come to a token
+-- ---- choices that result in a token
 
 -- which way a choice went
 pub went : (b : Bool) (u v t : Front) → (if b then u else v) ≡ t → ((b ≡ true) × (u ≡ t)) ⊎ ((b ≡ false) × (v ≡ t))
@@ -88,7 +88,7 @@ keyword_len word k len h = go (is_word (codes "REM") word) (is_word (codes "DATA
   go false true h' = absurd (cc)
   go false false h' = cc
 
--- a byte that stands in no word, no name and no number
+-- a byte that is in no word, no name and no number
 pub record Gap (g : ℕ) : Type 0 where
   pub in_keywords : all_lack g keywords ≡ true
   pub in_signs : all_lack g signs ≡ true
@@ -101,7 +101,7 @@ pub record Gap (g : ℕ) : Type 0 where
   pub minus : (g == 45) ≡ false
   pub percent : (g == 37) ≡ false
 
--- a blank is one
+-- a blank is such a byte
 pub blank_is_gap : (g : ℕ) → is_blank g ≡ true → Gap g
 unfolding keywords signs
 blank_is_gap g e = go (g == 32) (g == 9) refl refl e where
@@ -152,7 +152,7 @@ and_false : (a : Bool) → (a && false) ≡ false
 and_false true = refl
 and_false false = refl
 
--- FN and a letter stand there or not, as before
+-- whether the rest begins with FN and a letter is as before
 function_same : (g : ℕ) (x y : List ℕ) → Gap g → 2 < length x → begins_function (x ++ g ∷ y) ≡ begins_function (x ++ y)
 function_same g x y gap lt =
     ap (λ s. s && is_ascii_alphabetic (slice_index (x ++ g ∷ y) 2)) (stands_same g (codes "FN") x y gap.in_fn (λ _. omega arith))

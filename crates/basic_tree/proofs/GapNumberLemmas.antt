@@ -1,4 +1,4 @@
--- A blank behind a number or a string changes nothing of it.
+-- A blank after a number or a string changes nothing of it.
 use Rattle.std.proofs.Common.{◌≡◌, ℕ, suc, ◌+◌, ◌<◌, ◌≤◌, Bool, true, false, List, [], ◌∷◌, ◌++◌, length, take, drop, refl, sym, ap, ◌∙◌, arith, ltb-true, ltb-false, lt-ltb, inl, inr, length-append}
 use Rattle.std.specs.Prelude.{◌⊎◌, ◌==◌, ◌&&◌, ◌||◌, not, nat_lt, if◌then◌else◌, slice_index, Some, None}
 use Rattle.std.specs.Char.{is_ascii_digit, to_ascii_uppercase}
@@ -34,13 +34,13 @@ and_right_false : (a b : Bool) → b ≡ false → (a && b) ≡ false
 and_right_false true b e = e
 and_right_false false b e = refl
 
--- the digit behind a sign is gone
+-- without the digit after a sign
 exponent_gone : (e d s q g : Bool) → g ≡ false → (e && (d || (s && q))) ≡ false → (e && (d || (s && g))) ≡ false
 exponent_gone false d s q g gone h = refl
 exponent_gone true true s q g gone h = h
 exponent_gone true false s q g gone h = and_right_false s g gone
 
--- a run of digits that makes no floating number makes none before a gap
+-- digits that are no floating number are none before a gap either
 floating_stays : (g : ℕ) (z y : List ℕ) → Gap g → is_floating (z ++ y) ≡ false → is_floating (z ++ g ∷ y) ≡ false
 floating_stays g [] y gap h =
     or_false (g == 46) (to_ascii_uppercase g == 69 && has_exponent (g ∷ y)) gap.point (and_left_false (to_ascii_uppercase g == 69) (has_exponent (g ∷ y)) gap.exponent)
@@ -63,7 +63,7 @@ run_same g (b ∷ x) y none le = go (is_ascii_digit b) le (run_same g x y none) 
   go true le' again = ap (λ n. 1 + n) (again (omega arith))
   go false le' again = refl
 
--- the length of a literal: its run, and `%`
+-- the length of a literal: its digits, and `%`
 literal_len : (m : Bool) (n len : ℕ) (k : TokenKind) → front.Token kind.Literal (if m then n + 1 else n) ≡ front.Token k len → (n ≤ len) × (m ≡ true → n + 1 ≡ len) × (kind.Literal ≡ k) × ((if m then n + 1 else n) ≡ len)
 literal_len true n len k h = let is : n + 1 ≡ len = cc in let same : kind.Literal ≡ k = cc in (omega arith, λ _. is, same, is)
 literal_len false n len k h = let is : n ≡ len = cc in let same : kind.Literal ≡ k = cc in (omega arith, λ e. absurd (cc), same, is)

@@ -1,4 +1,4 @@
--- Bytes that spell numbers, texts, items and whole lines of words.
+-- Bytes that spell numbers, strings, items and whole lines of words.
 use Rattle.std.proofs.Common.{◌≡◌, ℕ, suc, ◌+◌, ◌-◌, ◌<◌, ◌≤◌, Bool, true, false, List, [], ◌∷◌, ◌++◌, length, take, drop, refl, sym, ap, ◌∙◌, subst, arith, inl, inr, append_assoc, append-nil, length-append}
 use Rattle.std.specs.Prelude.{◌≢◌, ◌==◌, nat_lt, min, All, not, if◌then◌else◌, cond, slice_index, position, Option, Some, None, Ok, codes}
 use Rattle.std.specs.List.{prefix_len, position_or_len}
@@ -44,7 +44,7 @@ digit_byte c low high = record {
   digit = rw (le-leb 48 c low, le-leb c 57 high) refl;
 }
 
--- all digits are in the run at the front
+-- all digits are counted at the front
 run_length : (ds rest : List ℕ) → AllDigits 10 ds → prefix_len is_ascii_digit (ds ++ 32 ∷ rest) ≡ length ds
 run_length [] rest h = refl
 run_length (c ∷ ds) rest h =
@@ -111,7 +111,7 @@ number_spelled n small =
       least : (n : ℕ) → n ≤ MOST_NUMBER → min (MOST_NUMBER + 1) n ≡ n
       least n h = omega (arith, h)
 
--- ---- texts
+-- ---- strings
 
 closes : (q : ℕ) (text rest : List ℕ) → All (λ b. b ≢ q) text → position_or_len (λ b. b == q) (text ++ q ∷ rest) ≡ length text
 closes q [] rest h = rw (eq-eqb q q refl) refl
@@ -173,7 +173,7 @@ word_spelled (Item bytes) h = absurd h
 
 -- ---- the items of DATA
 
--- bytes that no comma cuts are one item's
+-- bytes that no comma splits are one item
 item_goes_on : (start : ℕ) (item : List ℕ) (quote : Option ℕ) (bytes rest : List ℕ) → IsUncut quote bytes → items_from start item quote (bytes ++ rest) ≡ items_from start (item ++ bytes) (quote_behind quote bytes) rest
 unfolding items_from
 item_goes_on start item quote [] rest h = ap (λ x. items_from start x quote rest) (sym (append-nil item))

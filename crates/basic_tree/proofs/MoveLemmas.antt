@@ -1,4 +1,4 @@
--- A line behind further bytes: its tokens move.
+-- If a line comes after further bytes, its tokens move.
 use Rattle.std.proofs.Common.{◌≡◌, ℕ, zero, suc, ◌+◌, ◌-◌, Bool, true, false, List, [], ◌∷◌, ◌++◌, length, drop, refl, ap, ◌∙◌, arith}
 use Rattle.std.specs.Prelude.{Ok, Err, Option, None, map, take, if◌then◌else◌}
 use Rattle.basic_tree.specs.Tokens.{Lexeme, Reading, front_of, is_blank, cuts, quote_after, items_from, width, with_tokens, read_on, tokens_from}

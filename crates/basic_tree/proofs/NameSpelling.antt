@@ -1,4 +1,4 @@
--- Bytes that spell names, with what may stand behind them.
+-- Bytes that spell names, with what may follow them.
 use Rattle.std.proofs.Common.{◌≡◌, ℕ, ◌<◌, ◌≤◌, Bool, true, false, List, [], ◌∷◌, length, take, refl, ap, ◌∙◌, arith, lt-ltb}
 use Rattle.std.specs.Prelude.{◌==◌, ◌&&◌, ◌||◌, not, nat_lt, nat_le, max, if◌then◌else◌, slice_index, fold, Option, Some, None, codes}
 use Rattle.std.specs.Char.{is_ascii_digit, is_ascii_alphabetic, to_ascii_uppercase}
@@ -24,7 +24,7 @@ capital_alphabetic l low high = rw (le-leb 65 l low, le-leb l 90 high) refl
 digit_below : (d : ℕ) → is_ascii_digit d ≡ true → d < 65
 digit_below d e = omega (arith, leb-true d 57 (and_right (nat_le 48 d) (nat_le d 57) e))
 
--- ---- no word of a table stands there
+-- ---- no word of a table is at the front
 
 -- all words of the table pass the test
 abbrev every : {W : Type 0} → (List ℕ → Bool) → List (W × List ℕ) → Bool
@@ -41,7 +41,7 @@ and_false : (a b : Bool) → b ≡ false → (a && b) ≡ false
 and_false true b e = e
 and_false false b e = refl
 
--- the byte is no letter, so none of a word
+-- the byte is no letter, so it is in no word
 no_letter : (c y : ℕ) → c < 65 → nat_le 65 y ≡ true → (to_ascii_uppercase c == y) ≡ false
 no_letter c y low e = ap (λ x. x == y) (capital_same c (omega (arith, low))) ∙ ne_eqb c y (λ same. omega (arith, low, same, leb-true 65 y e))
 

@@ -19,7 +19,7 @@ number_name letter = record { letter = letter; digit = None; text = false }
 abbrev text_name : ℕ → Name
 text_name letter = record { letter = letter; digit = None; text = true }
 
--- ---- lines and what is none
+-- ---- lines, and what is not a line
 
 a_sum : IsAdmissible (alone (Print None [] (Some (Value (Operation (Literal 2) operator.Plus (Literal 3))))))
 a_sum = grind arith
@@ -53,7 +53,7 @@ items_behind_data = grind arith
 a_statement_behind_data : AreReadable (words (line_steps (record { first = Some (Data ((49 ∷ []) ∷ [])); others = Some Stop ∷ [] }))) → ⊥
 a_statement_behind_data = grind arith
 
--- ---- levels of operators
+-- ---- precedence of operators
 
 powers_from_the_left : IsTree (Operation (Operation (Variable (number_name 65)) operator.Power (Variable (number_name 66))) operator.Power (Variable (number_name 67)))
 powers_from_the_left = grind arith
@@ -93,11 +93,11 @@ sixty_four_parentheses = refl
 sixty_five_parentheses : too_deep (steps_of (in_parentheses 65 (Literal 1))) ≡ Some 64
 sixty_five_parentheses = refl
 
--- the word NOT behind 64 parentheses opens the level
+-- the word NOT after 64 parentheses opens the level
 not_in_parentheses : too_deep (steps_of (in_parentheses 64 (Not (Literal 1)))) ≡ Some 64
 not_in_parentheses = refl
 
--- LEN stands in level 64, its parenthesis opens the next
+-- LEN is in level 64, and its parenthesis opens the next
 a_function_in_parentheses : too_deep (steps_of (in_parentheses 64 (FunctionOf function.Len (AndTrees (Quoted []) NoTrees)))) ≡ Some 65
 a_function_in_parentheses = refl
 

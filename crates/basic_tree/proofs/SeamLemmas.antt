@@ -1,4 +1,4 @@
--- A blank where a token starts, or at the end of a line, changes no token's sort and bytes.
+-- A blank before a token, or at the end of a line, changes no token's kind and bytes.
 use Rattle.std.proofs.Common.{◌≡◌, ℕ, zero, suc, ◌+◌, ◌-◌, ◌<◌, ◌≤◌, Bool, true, false, List, [], ◌∷◌, ◌++◌, length, take, drop, refl, sym, ap, ◌∙◌, subst, arith, inl, inr, length-append, lt-ltb, ltb-true, ltb-false, replicate}
 use Rattle.std.specs.Prelude.{◌==◌, nat_lt, max, map, if◌then◌else◌, slice_index, position, codes, Ok, Option, Some, None}
 use Rattle.std.specs.List.{prefix_len}
@@ -21,7 +21,7 @@ use Rattle.basic_tree.proofs.SliceLemmas.{with_ok, tokens_cut}
 use Rattle.basic_tree.proofs.GapLemmas.{Gap, blank_is_gap, byte_same, front_same, letter_stays, sign_stays}
 use Rattle.basic_tree.proofs.GapNumberLemmas.{digit_stays, quote_stays}
 
--- ---- what stands at the front stays
+-- ---- the front stays as it is
 
 module _ (g : ℕ) (x y : List ℕ) (k : TokenKind) (len : ℕ) (gap : Gap g) (some : 0 < len) (le : len ≤ length x) where
   abbrev old : List ℕ

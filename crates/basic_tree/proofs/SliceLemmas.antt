@@ -1,4 +1,4 @@
--- The tokens of a line are slices of it, one behind the other.
+-- The tokens of a line are slices of it, one after the other.
 use Rattle.std.proofs.Common.{◌≡◌, ℕ, zero, suc, ◌+◌, ◌-◌, ◌<◌, ◌≤◌, Bool, true, false, List, [], ◌∷◌, ◌++◌, length, take, drop, refl, sym, ap, ◌∙◌, subst, arith, append_assoc, length-drop, length-append}
 use Rattle.std.specs.Prelude.{Ok, Err, Option, None, max, if◌then◌else◌}
 use Rattle.std.proofs.lemmas.List.{drop-drop, length-take-le, take_at, drop_at}
@@ -10,12 +10,12 @@ use Rattle.basic_tree.specs.declared.tokens.Front.{Front}
 use Rattle.basic_tree.specs.declared.tokens.Front.TheVariants as front
 use Rattle.basic_tree.proofs.FrontLemmas.{front_fits}
 
--- what is cut from a place on is cut from an earlier one on
+-- tokens cut from a place on are also cut from an earlier place on
 cut_earlier : (line : List ℕ) (early late : ℕ) (ts : List Lexeme) → early ≤ late → AreCut line late ts → AreCut line early ts
 cut_earlier line early late [] le cut = tt
 cut_earlier line early late (t ∷ ts) le cut = (omega (arith, cut.0), cut.1, cut.2)
 
--- so many bytes at the front of what is left are a slice
+-- bytes at the front of the rest are a slice of the line
 front_slice : (line rest : List ℕ) (place len : ℕ) (k : TokenKind) → rest ≡ drop place line → place ≤ length line → len ≤ length rest → IsSlice line (record { kind = k; start = place; bytes = take len rest })
 front_slice line rest place len k e inside le =
     let taken : length (take len rest) ≡ len = length-take-le len rest le in
@@ -25,7 +25,7 @@ front_slice line rest place len k e inside le =
       bytes = ap (λ r. take (length (take len rest)) r) (sym e) ∙ ap (λ n. take n rest) taken;
     }
 
--- what was read of an item, and what is left, are what the line has there
+-- what was read of an item, followed by the rest, are the bytes that the line has there
 item_slice : (line item bytes : List ℕ) (start : ℕ) → item ++ bytes ≡ drop start line → start ≤ length line → IsSlice line (record { kind = kind.DataItem; start = start; bytes = item })
 item_slice line item bytes start e inside =
     let left : length (item ++ bytes) ≡ length line - start = ap length e ∙ length-drop start line in
@@ -56,7 +56,7 @@ items_cut line (b ∷ bytes) item start quote e inside =
     (omega arith, item_slice line item (b ∷ bytes) start e inside, cut_earlier line (start + max 1 (length item)) (start + length item + 1) (items_from (start + length item + 1) [] None bytes) (omega arith) later)
     (items_cut line bytes (item ++ b ∷ []) start (quote_after quote b) (regrouped ∙ e) inside)
 
--- tokens in front of others were read before them
+-- tokens before others were read before them
 pub with_ok : (first ts : List Lexeme) (later : Reading) → with_tokens first later ≡ Ok ts → (more : List Lexeme) × (later ≡ Ok more) × (first ++ more ≡ ts)
 with_ok first ts (Ok more) e = let same : first ++ more ≡ ts = cc in (more, refl, same)
 with_ok first ts (Err refusal) e = absurd (cc)

@@ -13,7 +13,7 @@ use Rattle.basic_tree.specs.SpellingWords.{Word, words_of, words}
 use Rattle.basic_tree.specs.Trees.{Literal, Quoted, Variable, Element, FunctionOf, Call, Parenthesized, Negative, Not, Operation, Comparison, NoTrees, AndTrees, Value, Tab, If, ForModifier, LineClause, StatementClause, NoElse, Else, StatementTree, IfThen, Modified, For, Data, DimFile, Def, Let, Result as ResultOf, Print, Input, Goto, Gosub, OnErrorGoto, Stop, Chain, Open, Field, Zero, Product, Scaled, Transposed, PrintUsing, MatRead, MatPrint, MatLet}
 use Rattle.basic_tree.specs.SpellingStatements.{line_steps}
 
--- the words of a line's bytes; none where the line is refused
+-- the words of a line's bytes; none if the line is rejected
 abbrev words_in : Reading → List Word
 words_in (Ok tokens) = words_of tokens
 words_in (Err refusal) = []
@@ -67,12 +67,12 @@ sends_and_chains : words_in (tokens_of (88 ∷ 36 ∷ 61 ∷ 83 ∷ 89 ∷ 83 �
 unfolding keywords signs letter_front digit_front quote_front sign_front front_of items_from tokens_from
 sends_and_chains = refl
 
--- behind the name the parenthesis opens its subscripts
+-- the parenthesis after a name opens its subscripts
 takes_an_element : words_in (tokens_of (codes "CHAIN A$ (5)")) ≡ alone (Chain (Element (text_name 65) (AndTrees (Literal 5) NoTrees)) None)
 unfolding keywords signs letter_front digit_front quote_front sign_front front_of items_from tokens_from
 takes_an_element = refl
 
--- behind an element it begins the number
+-- the parenthesis after an element begins the number
 takes_a_line : words_in (tokens_of (codes "CHAIN A$(5) (6)")) ≡ alone (Chain (Element (text_name 65) (AndTrees (Literal 5) NoTrees)) (Some (record { word = false; number = Parenthesized (Literal 6) })))
 unfolding keywords signs letter_front digit_front quote_front sign_front front_of items_from tokens_from
 takes_a_line = refl
@@ -81,7 +81,7 @@ opens_a_file : words_in (tokens_of (79 ∷ 80 ∷ 69 ∷ 78 ∷ 32 ∷ 34 ∷ 65
 unfolding keywords signs letter_front digit_front quote_front sign_front front_of items_from tokens_from
 opens_a_file = refl
 
--- a sign behind `^` belongs to the atom behind it
+-- a sign after `^` belongs to the atom after it
 powers_and_signs : words_in (tokens_of (codes "PRINT -A%**-B%^C%")) ≡ alone (Print None [] (Some (Value (Negative (Operation (Operation (Variable (number_name 65)) operator.Power (Negative (Variable (number_name 66)))) operator.Power (Variable (number_name 67)))))))
 unfolding keywords signs letter_front digit_front quote_front sign_front front_of items_from tokens_from
 powers_and_signs = refl

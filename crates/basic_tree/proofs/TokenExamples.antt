@@ -11,7 +11,7 @@ use Rattle.basic_tree.specs.declared.tokens.Cause.TheVariants as cause
 abbrev token : TokenKind → ℕ → List ℕ → Lexeme
 token k start bytes = record { kind = k; start = start; bytes = bytes }
 
--- the line is refused at this place
+-- the line is rejected at this place
 abbrev refused : ℕ → Cause → Reading
 refused place why = Err (record { place = place; cause = why })
 

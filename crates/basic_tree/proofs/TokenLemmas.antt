@@ -9,7 +9,7 @@ use Rattle.basic_tree.specs.declared.tokens.Cause.{Cause}
 use Rattle.basic_tree.specs.declared.tokens.Front.{Front}
 use Rattle.basic_tree.specs.declared.tokens.Front.TheVariants as front
 
--- bytes of the token before are passed by
+-- bytes of the token before are skipped
 pub passed_by : (place n : ℕ) (bytes : List ℕ) → tokens_from place n bytes ≡ tokens_from (place + n) 0 (drop n bytes)
 unfolding tokens_from
 passed_by place zero bytes = ap (λ p. tokens_from p 0 bytes) (sym (add-zero place))
@@ -23,7 +23,7 @@ behind (suc n) some place b bytes =
     let there : place + 1 + n ≡ place + suc n = omega arith in
     ap (λ k. tokens_from (place + 1) k bytes) less ∙ passed_by (place + 1) n bytes ∙ ap (λ p. tokens_from p 0 (drop n bytes)) there
 
--- what stands at the front, and the tokens behind it
+-- what the rest begins with, and the tokens after that
 pub tokens_step : (place : ℕ) (rest : List ℕ) (f : Front) → 0 < length rest → 0 < width f → front_of rest ≡ f → tokens_from place 0 rest ≡ read_on place rest f (tokens_from (place + width f) 0 (drop (width f) rest))
 unfolding tokens_from
 tokens_step place [] f nonempty some e = absurd (omega arith)
@@ -35,9 +35,9 @@ with_more : (first second : List Lexeme) (later : Reading) → with_tokens first
 with_more first second (Ok tokens) = ap (λ (ts : List Lexeme). Ok ts) (sym (append_assoc first second tokens))
 with_more first second (Err refusal) = refl
 
--- ---- the cases of a place in a line, behind the tokens so far
+-- ---- the cases of a place in a line, after the tokens so far
 
--- nothing stands behind the end
+-- nothing follows the end
 pub at_end : (sofar : List Lexeme) (line : List ℕ) (place : ℕ) → length line ≤ place → with_tokens sofar (tokens_from place 0 (drop place line)) ≡ Ok sofar
 unfolding tokens_from
 at_end sofar line place past =
@@ -69,7 +69,7 @@ module _ (sofar : List Lexeme) (line : List ℕ) (place : ℕ) (inside : place <
       ∙ ap (λ rest. Ok (sofar ++ data_token ∷ items_from (place + 4) [] None rest)) (drop-drop 4 place line)
       ∙ ap (λ (ts : List Lexeme). Ok ts) (sym (append_assoc sofar (data_token ∷ []) (items_from (place + 4) [] None (drop (place + 4) line))))
 
--- a byte of an item, or a comma behind it
+-- a byte of an item, or a comma after it
 pub items_step : (start : ℕ) (item : List ℕ) (quote : Option ℕ) (line : List ℕ) (k : ℕ) → k < length line → items_from start item quote (drop k line) ≡ (if cuts quote (get_or line k 0) then record { kind = kind.DataItem; start = start; bytes = item } ∷ items_from (start + length item + 1) [] None (drop (k + 1) line) else items_from start (item ++ get_or line k 0 ∷ []) (quote_after quote (get_or line k 0)) (drop (k + 1) line))
 unfolding items_from
 items_step start item quote line k inside = at_drop_more (items_from start item quote) line k 0 inside

@@ -1,8 +1,8 @@
--- The lines that stand on the pages of a file.
+-- The lines of a file, from its pages.
 use Rattle.std.specs.Prelude.{ℕ, ◌-◌, Bool, not, ◌==◌, if◌then◌else◌, List, [], ◌∷◌, length, take, filter, slice_index}
 use Rattle.std.specs.List.{concat, slice_split}
 
--- what stands on the pages, without zero bytes
+-- whether a byte of the pages is one of the text: zero bytes are not
 abbrev pub is_written : ℕ → Bool
 is_written byte = not (byte == 0)
 
@@ -17,7 +17,8 @@ abbrev pub without_return : List ℕ → List ℕ
 without_return text =
     if slice_index text (length text - 1) == 13 then take (length text - 1) text else text
 
--- what stands before each LF, without a CR right before it; and what stands behind the last LF, where that is not empty
+-- what is before each LF, without a CR right before it; and what follows the last LF, if that is
+-- not empty
 abbrev pub lines_between : List (List ℕ) → List (List ℕ)
 lines_between [] = []
 lines_between ([] ∷ []) = []

@@ -1,4 +1,5 @@
--- The tables of the grammar: operators with their levels, relations, and functions with their arguments.
+-- The tables of the grammar: operators with their precedence, relations, and functions with their
+-- arguments.
 use Rattle.std.specs.Prelude.{ℕ, Bool, true, false, List, [], ◌∷◌}
 use Rattle.basic_tree.specs.declared.tokens.Keyword.{Keyword}
 use Rattle.basic_tree.specs.declared.tokens.Keyword.TheVariants as keyword
@@ -14,7 +15,7 @@ use Rattle.basic_tree.specs.declared.kinds.Want.{Want}
 use Rattle.basic_tree.specs.declared.kinds.Want.TheVariants as want
 use Rattle.basic_tree.specs.SpellingWords.{Word, Key, Punctuation}
 
--- ---- the levels of expressions: the higher, the looser. Atoms stand in level 0
+-- ---- precedence: a higher level binds less tightly; atoms have level 0
 
 abbrev pub sign_level : ℕ
 sign_level = 2
@@ -49,7 +50,7 @@ operator_word operator.Xor = Key keyword.Xor
 operator_word operator.Imp = Key keyword.Imp
 operator_word operator.Eqv = Key keyword.Eqv
 
--- whether an operator stands between two texts; all stand between two numbers
+-- whether an operator is allowed between two strings; all are allowed between two numbers
 abbrev pub joins_texts : Operator → Bool
 joins_texts operator.Plus = true
 joins_texts other = false
@@ -115,7 +116,7 @@ arguments_of function.Erl = []
 arguments_of function.Recount = []
 arguments_of function.Sys = want.Text ∷ []
 
--- whether a function gives a text
+-- whether a function gives a string
 abbrev pub gives_text : Function → Bool
 gives_text function.Left = true
 gives_text function.Right = true

@@ -5,6 +5,7 @@ pub mod LineVerdicts
 pub mod ReadableWords
 pub mod SpellingExpressions
 pub mod SpellingParts
+pub mod SpellingPieces
 pub mod SpellingStatements
 pub mod SpellingWords
 pub mod StatementViews

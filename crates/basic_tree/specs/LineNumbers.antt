@@ -8,10 +8,10 @@ use Rattle.std.specs.Str.Parse.{digits_value}
 abbrev pub digits_of : List ℕ → ℕ
 digits_of text = prefix_len is_ascii_digit text
 
--- their value, in which leading zeros do not count
+-- their value; leading zeros are allowed
 abbrev pub number_of : List ℕ → ℕ
 number_of text = digits_value 10 (take (digits_of text) text)
 
--- what stands behind them
+-- what follows them
 abbrev pub rest_of : List ℕ → List ℕ
 rest_of text = drop (digits_of text) text

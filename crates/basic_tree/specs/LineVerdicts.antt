@@ -1,4 +1,5 @@
--- What the grammar says of the bytes of a line: the line that they spell, or where they are refused, and why.
+-- What the grammar says of the bytes of a line: the line that they spell, or where they are
+-- rejected, and why.
 use Rattle.std.specs.Prelude.{◌≡◌, ℕ, List, Ok, Err}
 use Rattle.basic_tree.specs.declared.tokens.Cause.{Cause}
 use Rattle.basic_tree.specs.declared.tokens.Refusal.{Refusal}
@@ -7,7 +8,7 @@ use Rattle.basic_tree.specs.SpellingWords.{words_of}
 use Rattle.basic_tree.specs.Trees.{LineTree}
 use Rattle.basic_tree.specs.GrammarPlaces.{IsReadLine, RefusesLine}
 
--- there are tokens, and they are the line's, none of them too deep
+-- there are tokens, they are the line's, and none is nested too deep
 abbrev pub SpelledBy : Reading → LineTree → Type 0
 SpelledBy (Ok tokens) l = IsReadLine (words_of tokens) l
 SpelledBy (Err first) l = ⊥
@@ -16,12 +17,13 @@ SpelledBy (Err first) l = ⊥
 abbrev pub Spells : List ℕ → LineTree → Type 0
 Spells line l = SpelledBy (tokens_of line) l
 
--- refused at the first byte that begins no token; where there are tokens, at the first of them that no line has there, or that is too deep
+-- rejected at the first byte that begins no token; if there are tokens, at the first that no line
+-- can have there, or that is nested too deep
 abbrev pub RefusedBy : Reading → Refusal → Type 0
 RefusedBy (Ok tokens) refusal = RefusesLine (words_of tokens) refusal.place refusal.cause
 RefusedBy (Err first) refusal = first ≡ refusal
 
--- the bytes spell no line: where they stop, and why
+-- the bytes spell no line; this is the place, and this the cause
 abbrev pub Refuses : List ℕ → Refusal → Type 0
 Refuses line refusal = RefusedBy (tokens_of line) refusal
 
@@ -34,13 +36,13 @@ abbrev pub IsJudged : List ℕ → Verdict → Type 0
 IsJudged line (HasTree l) = Spells line l
 IsJudged line (RefusedFor cause) = (refusal : Refusal) × Refuses line refusal × (refusal.cause ≡ cause)
 
--- what judges lines, and does it by the grammar
+-- A judge gives a verdict on each line. `Judges` says that its verdicts are those of the grammar.
 abbrev pub Judge : Type 0
 Judge = List ℕ → Verdict
 
 abbrev pub Judges : Judge → Type 0
 Judges judge = (line : List ℕ) → IsJudged line (judge line)
 
--- there is a judge of all lines
+-- there is a judge that follows the grammar
 abbrev pub LinesAreJudged : Type 0
 LinesAreJudged = (judge : Judge) × Judges judge

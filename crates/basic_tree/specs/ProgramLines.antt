@@ -1,4 +1,4 @@
--- The text of a program: its lines by their numbers, each with the bytes that stand behind its number.
+-- The text of a program: its lines by their numbers, each with the bytes after its number.
 use Rattle.std.specs.Prelude.{ℕ, Bool, not, ◌&&◌, nat_le, List, ◌++◌, filter, flat_map, Option, codes}
 use Rattle.std.specs.BTreeMap.{insert_entry, is_at}
 use Rattle.std.specs.Fmt.{decimal}
@@ -9,7 +9,7 @@ use Rattle.std.specs.Ordering.{nat_cmp}
 abbrev pub Lines : Type 0
 Lines = List (ℕ × List ℕ)
 
--- what stands behind a number, where the line is stored
+-- what follows the number, if there is such a line
 abbrev pub line : ℕ → Lines → Option (List ℕ)
 line number lines = lookup (is_at (nat_cmp number)) lines
 
@@ -19,7 +19,7 @@ stored number rest lines = insert_entry nat_cmp lines number rest
 abbrev pub removed : ℕ → Lines → Lines
 removed number lines = remove_entry (is_at (nat_cmp number)) lines
 
--- the lines from one number to another, and the other lines
+-- the lines from one number to another, and all others
 abbrev pub is_within : ℕ → ℕ → ℕ → Bool
 is_within from to number = nat_le from number && nat_le number to
 
@@ -29,7 +29,7 @@ within from to lines = filter (λ line. is_within from to line.0) lines
 abbrev pub without : ℕ → ℕ → Lines → Lines
 without from to lines = filter (λ line. not (is_within from to line.0)) lines
 
--- lines as they are listed: the number, what stands behind it, CR and LF
+-- lines as they are listed: the number, what follows it, CR and LF
 abbrev pub listed : ℕ × List ℕ → List ℕ
 listed line = decimal line.0 ++ (line.1 ++ codes "\r\n")
 

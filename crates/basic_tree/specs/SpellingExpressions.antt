@@ -17,7 +17,7 @@ use Rattle.basic_tree.specs.GrammarTables.{sign_level, relation_level, not_level
 abbrev pub mark : Sign → LevelStep
 mark s = Plain (Punctuation s)
 
--- the words of an expression. Parentheses of every sort, signs and NOT open a level of nesting
+-- the words of an expression. All parentheses, signs and NOT open a level of nesting
 abbrev mutual
   pub steps_of : Tree → List LevelStep
   steps_of (Literal n) = Plain (Number n) ∷ []
@@ -33,7 +33,7 @@ abbrev mutual
   steps_of (Operation a o b) = steps_of a ++ Plain (operator_word o) ∷ steps_of b
   steps_of (Comparison a r b) = steps_of a ++ mark (relation_sign r) ∷ steps_of b
 
-  -- a list in parentheses; nothing where there is none
+  -- a list in parentheses; nothing if it is empty
   pub list_steps : Trees → List LevelStep
   list_steps NoTrees = []
   list_steps (AndTrees a more) = Opens (Punctuation sign.Opening) ∷ (steps_of a ++ more_steps more)
@@ -44,7 +44,7 @@ abbrev mutual
 
 -- ---- kinds
 
--- whether an expression gives a text; else it gives a number
+-- whether an expression gives a string; if not, it gives a number
 abbrev pub is_text : Tree → Bool
 is_text (Quoted text) = true
 is_text (Variable name) = name.text
@@ -61,12 +61,12 @@ Fits want.Number t = is_text t ≡ false
 Fits want.Text t = is_text t ≡ true
 Fits want.Either t = Unit {0}
 
--- what is wanted where a text is, or is not
+-- what is wanted: a string or a number
 abbrev pub want_of : Bool → Want
 want_of true = want.Text
 want_of false = want.Number
 
--- ---- levels
+-- ---- precedence
 
 abbrev pub level_of : Tree → ℕ
 level_of (Negative a) = sign_level
@@ -76,7 +76,7 @@ level_of (Operation a o b) = operator_level o
 level_of (Comparison a r b) = relation_level
 level_of atom = 0
 
--- what may stand behind `^`: signs and one atom
+-- what may follow `^`: signs and one atom
 abbrev pub is_exponent : Tree → Bool
 is_exponent (Negative a) = is_exponent a
 is_exponent (Positive a) = is_exponent a
@@ -85,21 +85,21 @@ is_exponent (Operation a o b) = false
 is_exponent (Comparison a r b) = false
 is_exponent atom = true
 
--- operators of one level go from left to right: what stands behind one is tighter
+-- operators of one level group from the left: the right operand binds more tightly
 abbrev pub IsRight : Operator → Tree → Type 0
 IsRight operator.Power b = is_exponent b ≡ true
 IsRight o b = level_of b < operator_level o
 
 -- ---- the trees that are expressions
 
--- the arguments are as many as wanted, each of its kind
+-- there are as many arguments as wanted, each of its kind
 abbrev pub Fill : List Want → Trees → Type 0
 Fill [] NoTrees = Unit {0}
 Fill [] (AndTrees a more) = ⊥
 Fill (w ∷ ws) NoTrees = ⊥
 Fill (w ∷ ws) (AndTrees a more) = Fits w a × Fill ws more
 
--- one or two numbers: a third dimension is none
+-- one or two numbers: there is no third subscript
 abbrev pub AreSubscripts : Trees → Type 0
 AreSubscripts NoTrees = ⊥
 AreSubscripts (AndTrees a NoTrees) = Fits want.Number a

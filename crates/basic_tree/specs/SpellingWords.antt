@@ -1,4 +1,5 @@
--- Tokens as the grammar sees them: without their places, letters as capitals, a literal by its value, and one word for two spellings of it.
+-- Tokens as the grammar sees them: without their places, with letters as capitals, a literal by its
+-- value, and one word for two spellings.
 use Rattle.std.specs.Prelude.{ℕ, ◌+◌, ◌-◌, ◌==◌, nat_lt, min, if◌then◌else◌, List, [], ◌∷◌, length, map, position, take, drop, slice_index, Option, Some, None}
 use Rattle.std.specs.Char.{is_ascii_digit, to_ascii_uppercase}
 use Rattle.std.specs.List.{prefix_len}
@@ -40,7 +41,7 @@ name_of bytes =
       text = slice_index bytes (length bytes - 1) == 36;
     }
 
--- bytes that spell no word are an item, which stands nowhere but behind DATA
+-- bytes that spell no word are an item, which is only possible after DATA
 abbrev pub key_or_item : List ℕ → Option Keyword → Word
 key_or_item bytes (Some keyword) = Key keyword
 key_or_item bytes None = Item bytes
@@ -49,7 +50,7 @@ abbrev pub sign_or_item : List ℕ → Option Sign → Word
 sign_or_item bytes (Some sign) = Punctuation (one_sign sign)
 sign_or_item bytes None = Item bytes
 
--- a literal by its value, where all above the greatest count alike (the scanner makes none)
+-- a literal by its value; all above the greatest number are one word, which the scanner never makes
 abbrev pub word_with : TokenKind → List ℕ → Word
 word_with kind.Keyword bytes = key_or_item bytes (keyword_of bytes)
 word_with kind.FnName bytes = FnNamed (name_of (drop 2 bytes))
@@ -65,9 +66,9 @@ word_of token = word_with token.kind token.bytes
 abbrev pub words_of : List Lexeme → List Word
 words_of tokens = map word_of tokens
 
--- ---- words with the levels of nesting
+-- ---- words with levels of nesting
 
--- a word; a word that opens a level of nesting, and stands in it; the end of a level
+-- a word; a word that opens a level of nesting and is in it; the end of a level
 pub data LevelStep : Type 0 where
   Plain : Word → LevelStep
   Opens : Word → LevelStep
@@ -80,14 +81,14 @@ words (Plain w ∷ steps) = w ∷ words steps
 words (Opens w ∷ steps) = w ∷ words steps
 words (Closes ∷ steps) = words steps
 
--- the level in which each word stands, where so many are open before
+-- the nesting depth of each word, if this many levels are open before
 abbrev pub levels : ℕ → List LevelStep → List ℕ
 levels depth [] = []
 levels depth (Plain w ∷ steps) = depth ∷ levels depth steps
 levels depth (Opens w ∷ steps) = (depth + 1) ∷ levels (depth + 1) steps
 levels depth (Closes ∷ steps) = levels (depth - 1) steps
 
--- how deep a line may nest
+-- the greatest nesting depth of a line
 abbrev pub most_levels : ℕ
 most_levels = 64
 

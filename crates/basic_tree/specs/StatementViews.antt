@@ -1,4 +1,4 @@
--- The statements and lines of the code without where they lie in memory.
+-- The statements and lines of the code, without pointers.
 use Rattle.std.specs.Prelude.{List, map, option_map}
 use Rattle.basic_tree.specs.declared.statements.Statement.{Statement, Held-Statement-IfThen-2, None', Some'}
 use Rattle.basic_tree.specs.declared.statements.Statement.TheVariants as statement

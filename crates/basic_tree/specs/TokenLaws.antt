@@ -1,4 +1,4 @@
--- What a user relies on of tokens, over their definition alone.
+-- The laws of tokens, about their definition alone.
 use Rattle.basic_tree.specs.declared.tokens.TokenKind.TheVariants as kind
 use Rattle.std.specs.Prelude.{◌≢◌, ◌⊎◌, ◌++◌, nat_lt, if◌then◌else◌, ◌≡◌, ℕ, ◌+◌, ◌<◌, ◌≤◌, max, true, slice_index, List, [], ◌∷◌, length, map, take, drop, Contains, Some, Ok, Err}
 use Rattle.std.specs.Char.{is_ascii_alphabetic}
@@ -19,16 +19,17 @@ pub record IsSlice (line : List ℕ) (token : Lexeme) : Type 0 where
   pub within : token.start + length token.bytes ≤ length line
   pub bytes : take (length token.bytes) (drop token.start line) ≡ token.bytes
 
--- the tokens are slices of the line from a place on: each begins behind the start of the one before it, and not before its end
+-- The tokens are slices of the line from a place on. Each begins after the start of the one before
+-- it, and not before its end.
 abbrev pub AreCut : List ℕ → ℕ → List Lexeme → Type 0
 AreCut line from [] = Unit {0}
 AreCut line from (token ∷ tokens) = (from ≤ token.start) × IsSlice line token × AreCut line (token.start + max 1 (length token.bytes)) tokens
 
--- the tokens of a line are slices of it, whose starts rise and of which no two overlap
+-- the tokens of a line are slices of it, in order, and no two overlap
 abbrev pub TokensAreSlices : Type 0
 TokensAreSlices = (line : List ℕ) (tokens : List Lexeme) → tokens_of line ≡ Ok tokens → AreCut line 0 tokens
 
--- the token, and what a line reads as, so many bytes further on
+-- the token, and the result of reading a line, moved by this many bytes
 abbrev pub moved : ℕ → Lexeme → Lexeme
 moved by token = record { kind = token.kind; start = token.start + by; bytes = token.bytes }
 
@@ -36,11 +37,13 @@ abbrev pub moved_reading : ℕ → Reading → Reading
 moved_reading by (Ok tokens) = Ok (map (moved by) tokens)
 moved_reading by (Err refusal) = Err (record { place = refusal.place + by; cause = refusal.cause })
 
--- a blank in front of what begins at a place moves its tokens, or its refused place, and changes no kind, no bytes and no cause
+-- a blank in front of what begins at a place moves its tokens, or its rejected place, and changes
+-- no kind, no bytes and no cause
 abbrev pub BlanksMoveTokens : Type 0
 BlanksMoveTokens = (place blank : ℕ) (rest : List ℕ) → is_blank blank ≡ true → tokens_from place 0 (blank ∷ rest) ≡ moved_reading 1 (tokens_from place 0 rest)
 
--- a keyword that bytes at the front spell, as long as the longest, is what stands there: a comment for REM, items for DATA, else its token
+-- a longest keyword at the front is what the rest begins with: a comment for REM, items for DATA,
+-- else its token
 pub record IsTaken (rest : List ℕ) (k : Keyword) (word : List ℕ) : Type 0 where
   pub listed : Contains keywords (k, word)
   pub there : is_at_front word rest ≡ true
@@ -48,20 +51,20 @@ pub record IsTaken (rest : List ℕ) (k : Keyword) (word : List ℕ) : Type 0 wh
   pub spelled : keyword_of (take (length word) rest) ≡ Some k
   pub front : front_of rest ≡ keyword_front (take (length word) rest)
 
--- of the keywords that stand at the front none is longer than the longest; where one stands at a letter, one as long is taken
+-- no keyword at the front is longer than the longest; at a letter, one of that length is taken
 pub record LongestIsTaken : Type 0 where
   pub none_longer : (word rest : List ℕ) → Contains (map (λ entry. entry.1) keywords) word → is_at_front word rest ≡ true → length word ≤ longest_length keywords rest
   pub taken : (rest : List ℕ) → is_ascii_alphabetic (slice_index rest 0) ≡ true → 0 < longest_length keywords rest → (k : Keyword) × (word : List ℕ) × IsTaken rest k word
 
--- a blank put in at a place moves the tokens that start there or behind it
+-- a blank inserted at a place moves the tokens that start there or later
 abbrev pub moved_from : ℕ → Lexeme → Lexeme
 moved_from place token = if nat_lt token.start place then token else moved 1 token
 
--- a token that is no item of DATA starts at the place
+-- a token that is not an item of DATA starts at the place
 abbrev pub StartsAt : ℕ → List Lexeme → Type 0
 StartsAt place [] = ⊥
 StartsAt place (token ∷ tokens) = ((token.start ≡ place) × (token.kind ≢ kind.DataItem)) ⊎ StartsAt place tokens
 
--- a blank where a token starts moves the tokens from there on, and changes no sort and no bytes
+-- a blank before a token moves the tokens from there on, and changes no kind and no bytes
 abbrev pub BlanksSeparateTokens : Type 0
 BlanksSeparateTokens = (before behind : List ℕ) (blank : ℕ) (tokens : List Lexeme) → is_blank blank ≡ true → tokens_of (before ++ behind) ≡ Ok tokens → StartsAt (length before) tokens → tokens_of (before ++ blank ∷ behind) ≡ Ok (map (moved_from (length before)) tokens)

@@ -1,4 +1,4 @@
--- Bytes to tokens: what stands at the front of the rest of a line, and the tokens of a whole line.
+-- Bytes to tokens: what the rest of a line begins with, and the tokens of a whole line.
 use Rattle.std.specs.Prelude.{ℕ, zero, suc, ◌+◌, ◌-◌, ◌==◌, nat_lt, max, Bool, true, false, ◌&&◌, ◌||◌, if◌then◌else◌, List, [], ◌∷◌, ◌++◌, length, fold, find, position, take, drop, slice_index, Option, Some, None, Result, Ok, Err, codes}
 use Rattle.std.specs.Char.{is_ascii_alphabetic, is_ascii_digit, to_ascii_uppercase}
 use Rattle.std.specs.List.{prefix_len}
@@ -16,25 +16,25 @@ use Rattle.basic_tree.specs.declared.tokens.Refusal.{Refusal}
 use Rattle.basic_tree.specs.declared.tokens.Front.{Front}
 use Rattle.basic_tree.specs.declared.tokens.Front.TheVariants as front
 
--- a token: its sort, the place of its first byte in the line, and its bytes
+-- a token: its kind, the place of its first byte in the line, and its bytes
 pub record Lexeme : Type 0 where
   pub kind : TokenKind
   pub start : ℕ
   pub bytes : List ℕ
 
--- ---- bytes. What is read past the end of a line is 0, which is none of these
+-- ---- bytes. Past the end of a line a 0 is read, which is none of these
 
 -- a quote
 abbrev pub is_quote : ℕ → Bool
 is_quote b = b == 34 || b == 39
 
--- what ends a name: `%` or `$`
+-- the end of a name: `%` or `$`
 abbrev pub is_type_mark : ℕ → Bool
 is_type_mark b = b == 37 || b == 36
 
 -- ---- words
 
--- the word stands at the front of the rest, in letters of either case
+-- the rest begins with the word, in letters of either case
 abbrev pub is_at_front : List ℕ → List ℕ → Bool
 is_at_front [] rest = true
 is_at_front (letter ∷ word) [] = false
@@ -44,11 +44,11 @@ is_at_front (letter ∷ word) (b ∷ rest) = to_ascii_uppercase b == letter && i
 abbrev pub is_word : List ℕ → List ℕ → Bool
 is_word word bytes = length bytes == length word && is_at_front word bytes
 
--- the length of the longest word of a table that stands at the front of the rest, 0 where none stands there
+-- the length of the longest word of a table with which the rest begins; 0 if there is none
 abbrev pub longest_length : {W : Type 0} → List (W × List ℕ) → List ℕ → ℕ
 longest_length table rest = fold (λ longest word. if is_at_front word.1 rest then max longest (length word.1) else longest) 0 table
 
--- what the bytes spell in a table
+-- the word of a table that the bytes spell
 abbrev pub spelled : {W : Type 0} → List (W × List ℕ) → List ℕ → Option W
 spelled table bytes = option_map (λ entry. entry.0) (find (λ entry. is_word entry.1 bytes) table)
 
@@ -59,7 +59,7 @@ keyword_of bytes = spelled keywords bytes
 abbrev pub sign_of : List ℕ → Option Sign
 sign_of bytes = spelled signs bytes
 
--- ---- what stands at the front of the rest of a line
+-- ---- what the rest of a line begins with
 
 -- REM begins a comment, DATA its items, and every other keyword is a token
 abbrev pub keyword_front : List ℕ → Front
@@ -68,11 +68,12 @@ keyword_front word =
     else (if is_word (codes "DATA") word then front.Data
     else front.Token kind.Keyword (length word))
 
--- the end of a name whose letter stands at this place: behind the letter, or behind the digit that follows it
+-- The place after a name whose letter is at this place: after the letter, or after a digit that
+-- follows it.
 abbrev pub name_end : ℕ → List ℕ → ℕ
 name_end letter rest = if is_ascii_digit (slice_index rest (letter + 1)) then letter + 2 else letter + 1
 
--- a name that ends there is followed at once by `%` or `$`
+-- a name that ends there must be followed at once by `%` or `$`
 abbrev pub name_front : TokenKind → ℕ → List ℕ → Front
 name_front k end rest = if is_type_mark (slice_index rest end) then front.Token k (end + 1) else front.Refused cause.FloatingName
 
@@ -80,7 +81,8 @@ name_front k end rest = if is_type_mark (slice_index rest end) then front.Token 
 abbrev pub begins_function : List ℕ → Bool
 begins_function rest = is_at_front (codes "FN") rest && is_ascii_alphabetic (slice_index rest 2)
 
--- at a letter: the longest keyword; else FN with a letter and perhaps a digit; else a letter and perhaps a digit
+-- at a letter: the longest keyword; else FN, a letter and an optional digit; else a letter and an
+-- optional digit
 unfoldable pub letter_front : List ℕ → Front
 letter_front rest =
     let len = longest_length keywords rest in
@@ -88,7 +90,8 @@ letter_front rest =
     else (if begins_function rest then name_front kind.FnName (name_end 2 rest) rest
     else name_front kind.Variable (name_end 0 rest) rest)
 
--- what stands behind a run of digits and makes a floating number of it: a point, or E and a digit, or E, a sign and a digit
+-- what makes a floating number of the digits before it: a point, or E and a digit, or E, a sign and
+-- a digit
 abbrev pub has_exponent : List ℕ → Bool
 has_exponent behind =
     is_ascii_digit (slice_index behind 1)
@@ -98,7 +101,7 @@ abbrev pub is_floating : List ℕ → Bool
 is_floating behind =
     slice_index behind 0 == 46 || (to_ascii_uppercase (slice_index behind 0) == 69 && has_exponent behind)
 
--- at a digit: the run of digits, and `%` where it stands behind them
+-- at a digit: the digits, and a `%` right after them
 unfoldable pub digit_front : List ℕ → Front
 digit_front rest =
     let len = prefix_len is_ascii_digit rest in
@@ -106,7 +109,7 @@ digit_front rest =
     else (if nat_lt MOST_NUMBER (digits_value 10 (take len rest)) then front.Refused cause.NumberTooWide
     else front.Token kind.Literal (if slice_index rest len == 37 then len + 1 else len))
 
--- at a quote: all up to the next quote of its kind
+-- at a quote: everything up to the next quote of its kind
 abbrev pub closed_front : Option ℕ → Front
 closed_front None = front.Refused cause.OpenString
 closed_front (Some inside) = front.Token kind.Quoted (inside + 2)
@@ -120,7 +123,7 @@ sign_front rest =
     let len = longest_length signs rest in
     if nat_lt 0 len then front.Token kind.Sign len else front.Refused cause.StrayByte
 
--- what stands there, by the first byte; `!` begins a comment
+-- what the rest begins with, by its first byte; `!` begins a comment
 unfoldable pub front_of : List ℕ → Front
 front_of rest =
     let first = slice_index rest 0 in
@@ -133,7 +136,8 @@ front_of rest =
 
 -- ---- the items of DATA
 
--- the quote that is open behind a byte: a quote opens where none is open, and closes where it is the open one
+-- the quote that is open after a byte: a quote opens if none is open, and closes if it is the open
+-- one
 abbrev pub quote_after : Option ℕ → ℕ → Option ℕ
 quote_after None b = if is_quote b then Some b else None
 quote_after (Some quote) b = if b == quote then None else Some quote
@@ -143,7 +147,8 @@ abbrev pub cuts : Option ℕ → ℕ → Bool
 cuts None b = b == 44
 cuts (Some quote) b = false
 
--- the items of the bytes, where the first item begins at a place and has these bytes before, with this quote open
+-- the items of the bytes, if the first item begins at a place, has these bytes already, and has
+-- this quote open
 unfoldable pub items_from : ℕ → List ℕ → Option ℕ → List ℕ → List Lexeme
 items_from start item quote [] = record { kind = kind.DataItem; start = start; bytes = item } ∷ []
 items_from start item quote (b ∷ bytes) =
@@ -153,13 +158,13 @@ items_from start item quote (b ∷ bytes) =
 
 -- ---- the tokens of a line
 
--- how many bytes what stands at the front takes
+-- how many bytes the front takes
 abbrev pub width : Front → ℕ
 width (front.Token k len) = len
 width front.Data = 4
 width other = 1
 
--- the tokens, or the first place that is refused and why
+-- the tokens, or the first place that is rejected, and why
 abbrev pub Reading : Type 0
 Reading = Result (List Lexeme) Refusal
 
@@ -167,7 +172,7 @@ abbrev pub with_tokens : List Lexeme → Reading → Reading
 with_tokens tokens (Ok later) = Ok (tokens ++ later)
 with_tokens tokens (Err refusal) = Err refusal
 
--- the tokens of the rest, given what stands at its front, its place in the line, and the tokens behind that
+-- the tokens of the rest, given its front, its place in the line, and the tokens after that front
 abbrev pub read_on : ℕ → List ℕ → Front → Reading → Reading
 read_on place rest front.Blank later = later
 read_on place rest front.Comment later = Ok []
@@ -177,7 +182,8 @@ read_on place rest (front.Token k len) later =
     with_tokens (record { kind = k; start = place; bytes = take len rest } ∷ []) later
 read_on place rest (front.Refused why) later = Err (record { place = place; cause = why })
 
--- the tokens of the rest that begins at a place, behind so many bytes that belong to the token before
+-- the tokens of the rest that begins at a place, after this many bytes that belong to the token
+-- before
 unfoldable pub tokens_from : ℕ → ℕ → List ℕ → Reading
 tokens_from place inside [] = Ok []
 tokens_from place (suc inside) (b ∷ rest) = tokens_from (place + 1) inside rest

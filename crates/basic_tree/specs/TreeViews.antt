@@ -1,4 +1,4 @@
--- The trees of the code without where they lie in memory.
+-- The trees of the code, without pointers.
 use Rattle.std.specs.Prelude.{option_map, Option, Some, None}
 use Rattle.basic_tree.specs.declared.expressions.Expr.{Expr, Held-Expr-Element-2, None', Some', Row_of-Expr, end_of-Expr, more_of-Expr}
 use Rattle.basic_tree.specs.declared.expressions.Expr.TheVariants as expr

@@ -1,4 +1,5 @@
--- Trees without where they lie in memory. Each case is a form of the grammar, its parts in the order of the text.
+-- Trees without pointers. Each case is a production of the grammar, with its parts in the order of
+-- the text.
 use Rattle.std.specs.Prelude.{ℕ, Bool, List, Option}
 use Rattle.basic_tree.specs.declared.names.Name.{Name}
 use Rattle.basic_tree.specs.declared.expressions.Operator.{Operator}
@@ -38,7 +39,7 @@ pub data PrintedTree : Type 0 where
   Value : Tree → PrintedTree
   Tab : Tree → PrintedTree
 
--- what stands behind a statement
+-- a modifier, which follows a statement
 pub data ModifierTree : Type 0 where
   If : Tree → ModifierTree
   Unless : Tree → ModifierTree
@@ -47,22 +48,22 @@ pub data ModifierTree : Type 0 where
   -- variable, start, limit and step
   ForModifier : Name → Tree → Tree → Option Tree → ModifierTree
 
--- an item of PRINT and the separator behind it
+-- an item of PRINT and the separator after it
 pub record PrintItemTree : Type 0 where
   pub printed : PrintedTree
   pub separator : Separator
 
--- the channel of PRINT, and whether a comma stands behind it
+-- the channel of PRINT, and whether a comma follows it
 pub record PrintChannelTree : Type 0 where
   pub number : Tree
   pub comma : Bool
 
--- a value of PRINT USING and the separator behind it
+-- a value of PRINT USING and the separator after it
 pub record UsingItemTree : Type 0 where
   pub value : Tree
   pub separator : Separator
 
--- what MAT stores in its array: made of nothing, or of arrays by their names
+-- the value that MAT stores in its array: a constant, or computed from arrays by their names
 pub data MatrixTree : Type 0 where
   Zero : MatrixTree
   One : MatrixTree
@@ -75,17 +76,17 @@ pub data MatrixTree : Type 0 where
   Scaled : Tree → Name → MatrixTree
   Transposed : Name → MatrixTree
 
--- the prompt of INPUT and the separator behind it
+-- the prompt of INPUT and the separator after it
 pub record PromptTree : Type 0 where
   pub text : List ℕ
   pub separator : Separator
 
--- the line of CHAIN, and whether the word LINE stands before it
+-- the line of CHAIN, and whether the word LINE is before it
 pub record ChainLineTree : Type 0 where
   pub word : Bool
   pub number : Tree
 
--- a channel of CLOSE, and whether `#` stands before it
+-- a channel of CLOSE, and whether `#` is before it
 pub record CloseChannelTree : Type 0 where
   pub hash : Bool
   pub number : Tree
@@ -106,7 +107,8 @@ mutual
     NoElse : ElseTree
     Else : ClauseTree → ElseTree
 
-  -- a statement. A `Bool` tells whether a word or sign stands there that changes nothing
+  -- a statement. A `Bool` says whether an optional word or sign was written that does not change
+  -- the meaning
   pub data StatementTree : Type 0 where
     IfThen : Tree → ClauseTree → ElseTree → StatementTree
     IfGoto : Tree → ℕ → ElseTree → StatementTree
@@ -132,7 +134,7 @@ mutual
     InputLine : Option Tree → Name → StatementTree
     Read : List Tree → StatementTree
     Restore : StatementTree
-    -- whether it is two words, and the line
+    -- whether it was written as two words, and the line
     Goto : Bool → ℕ → StatementTree
     Gosub : Bool → ℕ → StatementTree
     Return : StatementTree
@@ -158,12 +160,12 @@ mutual
     -- NAME old AS new
     Rename : Tree → Tree → StatementTree
     MatRead : List Name → StatementTree
-    -- array, and the separator behind it
+    -- array, and the separator after it
     MatPrint : Name → Option Separator → StatementTree
     -- target and value
     MatLet : Name → MatrixTree → StatementTree
 
--- a line: what stands before the first separator, and behind each
+-- a line: the statement before the first separator, and the one after each
 pub record LineTree : Type 0 where
   pub first : Option StatementTree
   pub others : List (Option StatementTree)

@@ -1,11 +1,12 @@
--- The keywords and the signs of the language, each beside the bytes that spell it.
+-- The keywords and the signs of the language, each with the bytes that spell it.
 use Rattle.std.specs.Prelude.{ℕ, List, [], ◌∷◌, codes}
 use Rattle.basic_tree.specs.declared.tokens.Keyword.{Keyword}
 use Rattle.basic_tree.specs.declared.tokens.Keyword.TheVariants as keyword
 use Rattle.basic_tree.specs.declared.tokens.Sign.{Sign}
 use Rattle.basic_tree.specs.declared.tokens.Sign.TheVariants as sign
 
--- the words of the grammar and the names of the functions; LEFT, RIGHT and MID are spelled in two ways
+-- the keywords of the grammar and the names of the functions; LEFT, RIGHT and MID have two
+-- spellings
 unfoldable pub keywords : List (Keyword × List ℕ)
 keywords =
     (keyword.Abs, codes "ABS%")

@@ -1,14 +1,15 @@
-//! Expressions as trees. Each variant is a form of the grammar, its fields in the text's order.
+//! Expressions as trees. Each variant is a production of the grammar, with its fields in the order
+//! of the text.
 
 ghost use Rattle.std.specs.Prelude.{◌≡◌, false, MatchOption};
-ghost use Rattle.basic_tree.specs.SpellingParts.{is_target};
+ghost use Rattle.basic_tree.specs.SpellingPieces.{is_target};
 ghost use Rattle.basic_tree.specs.TreeViews.{tree_of, target_of};
 
 use crate::names::Name;
 use crate::parts::Target;
 use basic_values::Text;
 
-/// The operators between two expressions, but for the relations.
+/// The operators between two expressions, except the relations.
 #[derive(Clone, Copy, Debug, PartialEq, Eq)]
 pub enum Operator {
     /// `^` or `**`.
@@ -24,11 +25,11 @@ pub enum Operator {
     Eqv,
 }
 
-/// The relations between two numbers or two texts.
+/// The relations between two numbers or two strings.
 #[derive(Clone, Copy, Debug, PartialEq, Eq)]
 pub enum Relation {
     Equal,
-    /// `==`, of texts that are the same byte by byte.
+    /// `==`: two strings with the same bytes.
     Same,
     Less,
     Greater,
@@ -78,12 +79,12 @@ pub enum Expr {
         first: Box<Expr>,
         second: Option<Box<Expr>>,
     },
-    /// A function of the language and its arguments, one to three; none for ERR, ERL and RECOUNT.
+    /// A function of the language and its one to three arguments. ERR, ERL and RECOUNT have none.
     Function {
         function: Function,
         arguments: Vec<Expr>,
     },
-    /// A function of the program, whose name stands behind FN, and its arguments, if any.
+    /// A function of the program: the name after FN, and the arguments, if any.
     Call {
         name: Name,
         arguments: Vec<Expr>,
@@ -105,7 +106,7 @@ pub enum Expr {
 }
 
 impl Expr {
-    /// The expression as a target, where it is a variable or an element of an array.
+    /// Returns the expression as a target, if it is a variable or an array element.
     pub fn into_target(self) -> Option<Target>
         ensures same_tree { MatchOption result (is_target (tree_of self) ≡ false)
             (λ t. target_of t ≡ tree_of self) }
@@ -126,7 +127,7 @@ impl Expr {
     }
 }
 
-// By hand, so that it is proved here and not again in each crate in which one is dropped.
+// By hand, so that it is proved here, and not again in each crate that drops an expression.
 impl Drop for Expr {
     #[cycle(expression_dropped)]
     fn drop(self) {

@@ -1,11 +1,11 @@
-//! What is wanted of an expression, and what a function of the language gives.
+//! Which kind of value is wanted of an expression, and which kind a function of the language gives.
 
 ghost use Rattle.std.specs.Prelude.{◌≡◌};
 ghost use Rattle.basic_tree.specs.GrammarTables.{gives_text};
 
 use crate::expressions::Function;
 
-/// Whether a number, a text or either is wanted.
+/// Whether a number, a string or either is wanted.
 #[derive(Clone, Copy, PartialEq, Eq)]
 pub enum Want {
     Number,
@@ -14,7 +14,7 @@ pub enum Want {
 }
 
 impl Function {
-    /// Whether it gives a text; else it gives a number.
+    /// Returns whether the function gives a string. If not, it gives a number.
     pub fn gives_text(self) -> bool
         ensures { result ≡ gives_text self }
     {

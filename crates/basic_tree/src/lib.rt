@@ -1,12 +1,11 @@
-//! The language: its tokens and its trees, and in `specs/` the grammar, which ties bytes, tokens,
-//! words and trees. Data and definitions: the scanner and the parsers stand above.
+//! The language: its tokens, its syntax trees, and in `specs/` the grammar, which says which bytes
+//! are which tokens, words and trees. The crate has only data and definitions; the scanner and the
+//! parsers are in crates above it.
 //!
-//! It stands on `basic_values`, for texts and lists.
-//!
-//! `laws` carries the promises on bytes and tokens (`tokens_are_slices`, `longest_is_taken`,
-//! `blanks_move_tokens`, `blanks_separate_tokens`) and that trees are spelled by bytes
-//! (`trees_are_spelled`), each as the contract of a function without parameters. That the grammar
-//! has one answer is proved in `grammar_machine`, which has the machine behind it.
+//! `laws` has theorems about bytes and tokens (`tokens_are_slices`, `longest_is_taken`,
+//! `blanks_move_tokens`, `blanks_separate_tokens`), and that trees are spelled by bytes
+//! (`trees_are_spelled`). That the grammar is unambiguous is proved in `grammar_machine`, by a
+//! stack machine.
 #![tactic(auto)]
 
 mod expressions;

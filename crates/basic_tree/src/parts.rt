@@ -4,7 +4,7 @@ use crate::expressions::Expr;
 use crate::names::Name;
 use basic_values::Text;
 
-/// A variable or an element of an array, to which a value is given.
+/// A variable or an array element to which a value is assigned.
 #[derive(Drop)]
 pub enum Target {
     Variable(Name),
@@ -15,7 +15,7 @@ pub enum Target {
     },
 }
 
-/// An array of DIM and its greatest subscripts.
+/// An array of DIM, and its bounds.
 #[derive(Clone, Copy, PartialEq, Eq)]
 pub struct Shape {
     pub name: Name,
@@ -23,56 +23,58 @@ pub struct Shape {
     pub second: Option<u16>,
 }
 
-/// An array of `DIM #`. A text array may have the size of its elements in bytes.
+/// An array of `DIM #`, and its bounds. A string array may have an element size in bytes.
 #[derive(Clone, Copy, PartialEq, Eq)]
 pub struct FileShape {
     pub shape: Shape,
     pub size: Option<u16>,
 }
 
-/// The channel of PRINT. A comma stands behind it where items follow, and may stand where none do.
+/// The channel of PRINT, and whether a comma follows it. The comma is needed before items, and
+/// allowed without them.
 #[derive(Drop)]
 pub struct PrintChannel {
     pub number: Expr,
     pub comma: bool,
 }
 
-/// What PRINT writes: a value, or `TAB` of a column.
+/// An item of PRINT: a value, or `TAB` of a column.
 #[derive(Drop)]
 pub enum Printed {
     Value(Expr),
     Tab(Expr),
 }
 
-/// What stands behind an item of PRINT, or behind the prompt of INPUT.
+/// The separator after an item of PRINT, or after the prompt of INPUT.
 #[derive(Clone, Copy, PartialEq, Eq)]
 pub enum Separator {
     Comma,
     Semicolon,
 }
 
-/// An item of PRINT and the separator behind it.
+/// An item of PRINT and the separator after it.
 #[derive(Drop)]
 pub struct PrintItem {
     pub printed: Printed,
     pub separator: Separator,
 }
 
-/// A value of PRINT USING and the separator behind it.
+/// A value of PRINT USING and the separator after it.
 #[derive(Drop)]
 pub struct UsingItem {
     pub value: Expr,
     pub separator: Separator,
 }
 
-/// What MAT stores in its array: made of nothing, or of numeric arrays by their names.
+/// The value that MAT stores in its array: a constant, or computed from number arrays by their
+/// names.
 #[derive(Drop)]
 pub enum MatrixValue {
-    /// ZER, 0 everywhere.
+    /// ZER: 0 everywhere.
     Zero,
-    /// CON, 1 everywhere.
+    /// CON: 1 everywhere.
     One,
-    /// IDN, 1 where both subscripts are equal, else 0.
+    /// IDN: 1 where both subscripts are equal, else 0.
     Identity,
     Copy(Name),
     Sum(Name, Name),
@@ -80,18 +82,18 @@ pub enum MatrixValue {
     Product(Name, Name),
     /// A number in parentheses times an array.
     Scaled { factor: Expr, matrix: Name },
-    /// TRN, the subscripts exchanged.
+    /// TRN: the array with its subscripts exchanged.
     Transposed(Name),
 }
 
-/// The text that INPUT writes first, and the separator behind it.
+/// The string that INPUT writes first, and the separator after it.
 #[derive(Drop)]
 pub struct Prompt {
     pub text: Text,
     pub separator: Separator,
 }
 
-/// The line at which CHAIN begins the program, behind the word LINE or without it.
+/// The line at which CHAIN starts the program, with or without the word LINE before it.
 #[derive(Drop)]
 pub struct ChainLine {
     pub word: bool,
@@ -106,21 +108,21 @@ pub enum OpenFor {
     Either,
 }
 
-/// A channel of CLOSE, behind `#` or without it.
+/// A channel of CLOSE, with or without `#` before it.
 #[derive(Drop)]
 pub struct CloseChannel {
     pub hash: bool,
     pub number: Expr,
 }
 
-/// A part of FIELD: so many bytes, and the variable that names them.
+/// A part of FIELD: its width in bytes, and the variable for it.
 #[derive(Drop)]
 pub struct FieldPart {
     pub width: Expr,
     pub name: Name,
 }
 
-/// What stands behind a statement and changes whether or how often it runs.
+/// A modifier: it follows a statement, and says whether or how often the statement runs.
 #[derive(Drop)]
 pub enum Modifier {
     If(Expr),

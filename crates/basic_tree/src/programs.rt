@@ -3,7 +3,7 @@
 use crate::statements::Statement;
 use std::collections::BTreeMap;
 
-/// A line: its statements in order. Where nothing stands between two separators there is none.
+/// A line: its statements in order. Between two separators there may be no statement.
 #[derive(Drop)]
 pub struct Line {
     pub statements: Vec<Statement>,

@@ -1,5 +1,6 @@
-//! Statements as trees. Each variant is a form of the grammar, its fields in the order of the text.
-//! A field of `bool` tells whether a word or sign stands there that changes nothing.
+//! Statements as trees. Each variant is a production of the grammar, with its fields in the order
+//! of the text. A `bool` field says whether an optional word or sign was written that does not
+//! change the meaning.
 
 use crate::expressions::Expr;
 use crate::names::Name;
@@ -9,14 +10,14 @@ use crate::parts::{
 };
 use basic_values::{Series, Text};
 
-/// What an IF runs: the line of this number, or a statement.
+/// What an IF runs: the line with this number, or a statement.
 #[cycle(statements)]
 pub enum Clause {
     Line(u16),
     Statement(Box<Statement>),
 }
 
-// By hand, as that of an expression is.
+// By hand, for the reason given at that of an expression.
 impl Drop for Clause {
     #[cycle(statements_dropped)]
     fn drop(self) {
@@ -29,19 +30,19 @@ impl Drop for Clause {
 /// A statement.
 #[cycle(statements)]
 pub enum Statement {
-    /// IF .. THEN, and perhaps ELSE.
+    /// IF .. THEN, with an optional ELSE.
     IfThen {
         condition: Expr,
         clause: Clause,
         otherwise: Option<Clause>,
     },
-    /// IF .. GOTO, and perhaps ELSE.
+    /// IF .. GOTO, with an optional ELSE.
     IfGoto {
         condition: Expr,
         line: u16,
         otherwise: Option<Clause>,
     },
-    /// A statement and a modifier behind it: with several the rightmost is outermost.
+    /// A statement and a modifier after it. Of several modifiers, the rightmost is outermost.
     Modified {
         statement: Box<Statement>,
         modifier: Modifier,
@@ -54,7 +55,7 @@ pub enum Statement {
     },
     Next(Name),
     FnEnd,
-    /// The items as they stand between the commas.
+    /// The items, as they are written between the commas.
     Data(Series<Text>),
     Dim(Series<Shape>),
     /// DIM of arrays in the file of a channel.
@@ -62,19 +63,19 @@ pub enum Statement {
         channel: u16,
         shapes: Series<FileShape>,
     },
-    /// DEF, with the value of a function of one line.
+    /// DEF; a function of one line has its value here.
     Def {
         function: Name,
         parameters: Series<Name>,
         value: Option<Expr>,
     },
-    /// An assignment, behind the word LET or without it.
+    /// An assignment, with or without the word LET.
     Let {
         word: bool,
         targets: Series<Target>,
         value: Expr,
     },
-    /// The result of a function, given in its body.
+    /// The assignment of a function's result, in its body.
     Result {
         function: Name,
         value: Expr,
@@ -167,7 +168,7 @@ pub enum Statement {
         old: Expr,
         new: Expr,
     },
-    /// MAT READ, of numeric arrays.
+    /// MAT READ, of number arrays.
     MatRead(Series<Name>),
     /// MAT PRINT.
     MatPrint {

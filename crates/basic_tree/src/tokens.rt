@@ -1,6 +1,6 @@
-//! Tokens: the words of a line, and why a line has none.
+//! Tokens: the words of a line, and the causes for which a line has none.
 
-/// The words of the grammar and the names of the functions. Some words are spelled in two ways.
+/// The keywords of the grammar and the names of the functions. Some have two spellings.
 #[derive(Clone, Copy, PartialEq, Eq)]
 pub enum Keyword {
     Abs,
@@ -109,7 +109,7 @@ pub enum Sign {
     Backslash,
     Hash,
     Equal,
-    /// `==`, of texts that are the same byte by byte.
+    /// `==`: two strings with the same bytes.
     Same,
     Less,
     Greater,
@@ -118,7 +118,7 @@ pub enum Sign {
     Different,
 }
 
-/// The sorts of tokens.
+/// The kinds of tokens.
 #[derive(Clone, Copy, Debug, PartialEq, Eq)]
 pub enum TokenKind {
     Keyword,
@@ -128,14 +128,14 @@ pub enum TokenKind {
     Variable,
     /// Digits, and perhaps `%`.
     Literal,
-    /// Bytes between two quotes, and the quotes.
+    /// Bytes between two quotes, with the quotes.
     Quoted,
-    /// What stands between two commas behind DATA.
+    /// The bytes between two commas after DATA.
     DataItem,
     Sign,
 }
 
-/// Why a line is refused.
+/// Why a line is rejected.
 #[derive(Clone, Copy, Debug, PartialEq, Eq)]
 pub enum Cause {
     /// A name without `%` or `$`.
@@ -148,29 +148,30 @@ pub enum Cause {
     OpenString,
     /// A byte that begins no token.
     StrayByte,
-    /// A token that no line has there.
+    /// A token that no line can have there.
     Syntax,
-    /// More than 64 levels of nesting.
+    /// A nesting depth above 64.
     TooDeep,
 }
 
-/// The first place that is refused, and why. The scanner counts bytes, the parser tokens, from 0.
+/// The first place that is rejected, and why. The scanner counts bytes, the parser tokens, both
+/// from 0.
 #[derive(Clone, Copy, Debug, PartialEq, Eq)]
 pub struct Refusal {
     pub place: u16,
     pub cause: Cause,
 }
 
-/// What stands at the front of the rest of a line.
+/// What the rest of a line begins with.
 #[derive(Clone, Copy, PartialEq, Eq)]
 pub enum Front {
     /// A space or a tab.
     Blank,
-    /// What takes the rest of the line away.
+    /// A comment, which takes the rest of the line.
     Comment,
     /// DATA, whose items are the rest of the line.
     Data,
-    /// A token of so many bytes.
+    /// A token of this kind, with this many bytes.
     Token(TokenKind, usize),
     /// No token.
     Refused(Cause),

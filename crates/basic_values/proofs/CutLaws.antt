@@ -1,4 +1,4 @@
--- What a cut finds is what was there, and what was put together is found again.
+-- A split finds what was joined.
 use Rattle.std.proofs.Common.{◌≡◌, ℕ, ◌^◌, ◌<◌, ◌≤◌, Bool, true, false, cond, eqb, List, [], ◌∷◌, ◌++◌, length, get_or, take, drop, Option, Some, None, refl, sym, ap, subst, ◌∙◌, arith, eq-eqb}
 use Rattle.std.specs.Prelude.{◌&&◌, nat_le, nat_lt, bytes_eq, ⊤}
 use Rattle.std.specs.List.{position_or_len, before_first, after_first, list_all}
@@ -90,11 +90,11 @@ digits_lack byte other [] all = tt
 digits_lack byte other (d ∷ ds) all =
     (ne_eqb d byte (λ e. other (subst (IsInRange 48 57) e (digit_from_value d all.0))), digits_lack byte other ds all.1)
 
--- a number has no byte that is no digit
+-- a decimal number has no byte that is not a digit
 pub decimal_lacks : (byte n : ℕ) → (IsInRange 48 57 byte → ⊥) → n < 2 ^ 32 → Lacks byte (decimal n)
 decimal_lacks byte n other fits = digits_lack byte other (decimal n) (decimal_is_IsNumeral n (omega arith)).0.1
 
--- nor has a text of one kind a byte of another
+-- a text of one kind of bytes has no byte of another kind
 pub kind_lacks : (kind : ℕ → Bool) (byte : ℕ) → kind byte ≡ false → (text : List ℕ) → list_all kind text ≡ true → Lacks byte text
 kind_lacks kind byte other [] all = tt
 kind_lacks kind byte other (b ∷ text) all = (

@@ -1,4 +1,4 @@
--- Digits read from the left, and what their number is.
+-- Digits read from the left, and the number that they spell.
 use Rattle.std.proofs.Common.{◌≡◌, ℕ, zero, suc, ◌+◌, ◌-◌, ◌*◌, ◌^◌, ◌<◌, ◌≤◌, Bool, true, false, List, [], ◌∷◌, length, take, get_or, refl, sym, ap, subst, arith}
 use Rattle.std.specs.Fmt.{decimal}
 use Rattle.std.specs.Prelude.{◌&&◌, nat_le, if◌then◌else◌, Some, None}
@@ -18,7 +18,7 @@ digits-take zero ds all = tt
 digits-take (suc i) [] all = tt
 digits-take (suc i) (d ∷ ds) all = (all.0, digits-take i ds all.1)
 
--- what the first digits make, where there are few
+-- the number that the first digits spell, if there are few
 pub value_below : (i : ℕ) (ds : List ℕ) → AllDigits 10 ds → i < length ds → length ds ≤ 10 → digits_value 10 (take i ds) < 10 ^ 9
 value_below i ds all lt short =
     let len : length (take i ds) ≡ i = length-take-le i ds (omega arith) in
@@ -27,7 +27,7 @@ value_below i ds all lt short =
     let most : 10 ^ i ≤ 10 ^ 9 = pow-le-pow_right {n = 10} (omega arith) {i = i} {j = 9} (omega arith) in
     omega arith
 
--- one digit more
+-- one more digit
 pub value_step : (i v d : ℕ) (ds : List ℕ) → AllDigits 10 ds → i < length ds → v ≡ digits_value 10 (take i ds) → d ≡ get_or ds i 0 - 48 → v * 10 + d ≡ digits_value 10 (take (i + 1) ds)
 value_step i v d ds all lt so_far digit =
     let range = digit_at ds i all lt in
@@ -41,7 +41,7 @@ and_right : (a b : Bool) → (a && b) ≡ true → b ≡ true
 and_right true b e = e
 and_right false b e = absurd (cc)
 
--- the text of a number of 32 bits is a few digits
+-- the text of a 32-bit number has few digits
 pub decimal_is_short : (low high : ℕ) (text : List ℕ) → high < 2 ^ 32 → is_number_between low high text ≡ true → (length text ≤ 10) × AllDigits 10 text
 decimal_is_short low high text fits e =
     let v : ℕ = digits_value 10 text in

@@ -1,4 +1,4 @@
--- Padded texts are in an order.
+-- Padded strings are in a total order.
 use Rattle.std.proofs.Common.{◌≡◌, ℕ, ◌+◌, ◌-◌, ◌≤◌, max, List, [], ◌∷◌, ◌++◌, length, sym, ap, ◌∙◌, arith}
 use Rattle.std.specs.Prelude.{replicate}
 use Rattle.std.specs.declared.cmp.Ordering.TheVariants.{Equal}
@@ -11,7 +11,7 @@ use Rattle.basic_values.specs.Texts.{space, padded, order_of}
 use Rattle.basic_values.specs.Laws.{OrdersTexts}
 use Rattle.basic_values.proofs.TextLemmas.{length-padded}
 
--- what stands behind both alike decides nothing
+-- the same bytes after two strings of one length decide nothing
 slice_cmp-same_tail : (xs ys zs : List ℕ) → length xs ≡ length ys → slice_cmp nat_cmp (xs ++ zs) (ys ++ zs) ≡ slice_cmp nat_cmp xs ys
 slice_cmp-same_tail [] [] zs same = tied_itself nat_list_cmp_total zs
 slice_cmp-same_tail [] (y ∷ ys) zs same = absurd (omega (arith, same))

@@ -1,4 +1,4 @@
--- Two padded texts, place by place.
+-- Two padded strings, place by place.
 use Rattle.std.proofs.Common.{◌≡◌, ℕ, zero, suc, ◌+◌, ◌-◌, ◌<◌, ◌≤◌, ◌≢◌, max, List, [], ◌∷◌, ◌++◌, length, get_or, drop, refl, sym, ap, ◌∙◌, arith}
 use Rattle.std.specs.Prelude.{replicate}
 use Rattle.std.specs.declared.cmp.Ordering.{Ordering}
@@ -19,7 +19,7 @@ get_or-behind n i [] = get_or-spaces n i
 get_or-behind n zero (x ∷ text) = refl
 get_or-behind n (suc i) (x ∷ text) = get_or-behind n i text
 
--- a text reads as one with spaces behind it
+-- a string reads as one with spaces after it
 pub get_or-padded : (width i : ℕ) (text : List ℕ) → get_or (padded width text) i space ≡ get_or text i space
 get_or-padded width i text = get_or-behind (width - length text) i text
 
@@ -27,11 +27,11 @@ pub length-padded : (width : ℕ) (text : List ℕ) → length (padded width tex
 length-padded width text =
     omega (arith, length-append text (replicate (width - length text) space), length-replicate (width - length text) space)
 
--- the order of what stands from a place on
+-- the order of the bytes from a place on
 abbrev pub order_from : (a b : List ℕ) (i : ℕ) → Ordering
 order_from a b i = slice_cmp nat_cmp (drop i (padded (length b) a)) (drop i (padded (length a) b))
 
--- one place decides, or the rest does
+-- one place decides, or the remaining ones do
 pub order_from-step : (a b : List ℕ) (i : ℕ) → i < max (length a) (length b) → order_from a b i ≡ ordering_then (nat_cmp (get_or a i space) (get_or b i space)) (order_from a b (i + 1))
 order_from-step a b i lt =
     let in_a : i < length (padded (length b) a) = omega (arith, length-padded (length b) a) in
@@ -39,7 +39,7 @@ order_from-step a b i lt =
     (λ j. slice_cmp nat_cmp (drop_more (padded (length b) a) i space in_a j) (drop_more (padded (length a) b) i space in_b j))
     ∙ (λ j. ordering_then (nat_cmp (get_or-padded (length b) i a j) (get_or-padded (length a) i b j)) (order_from a b (i + 1)))
 
--- behind both texts nothing is left
+-- after both strings nothing is left
 pub order_from-end : (a b : List ℕ) (i : ℕ) → max (length a) (length b) ≤ i → order_from a b i ≡ Equal
 order_from-end a b i past =
     let past_a : length (padded (length b) a) ≤ i = omega (arith, length-padded (length b) a) in
@@ -64,7 +64,7 @@ order_decided a b i x y o whole lt at_a at_b differ here so_far =
     ∙ (λ j. ordering_then (nat_cmp (at_a j) (at_b j)) (order_from a b (i + 1)))
     ∙ sym (order_from-step a b i lt) ∙ so_far
 
--- a place that is the same leaves it to the rest
+-- if a place is the same in both, the remaining ones decide
 pub order_left : (a b : List ℕ) (i x y : ℕ) (whole : Ordering) → i < max (length a) (length b) → x ≡ get_or a i space → y ≡ get_or b i space → x ≡ y → order_from a b i ≡ whole → order_from a b (i + 1) ≡ whole
 order_left a b i x y whole lt at_a at_b same so_far =
     sym (then-equal x y (order_from a b (i + 1)) same)

@@ -1,4 +1,4 @@
--- The wrapped number is what the machine's wrapping operations leave.
+-- The wrapped number is the result of the machine's wrapping operations.
 use Rattle.std.proofs.Common.{◌≡◌, ℕ, zero, suc, ◌-◌, ◌^◌, ◌%◌, ◌<◌, true, false, cond, ltb, ℤ, pos, negsuc, ◌*ℤ◌, ◌≤ℤ◌, refl, sym, ap, ◌∙◌, arith}
 use Rattle.std.specs.Int.{w16, int_wrap, int_wrapping_pow, cast_signed, cast_unsigned}
 use Rattle.std.specs.Int.RustNames.{FitsSigned, unsigned_abs}
@@ -32,7 +32,7 @@ power_up a (pos n) e fits up same =
     ap (int_wrapping_pow w16 a) same ∙ wrapping_pow-is a n fits ∙ sym (wrap-is (repeated_product a n))
 power_up a (negsuc n) e fits up same = absurd (omega (arith, ints))
 
--- the bits of the number that has these bits
+-- the low bits of the number with these bits are these bits
 pub low_bits-signed : (n : ℕ) → n < 65536 → low_bits (signed n) ≡ n
 low_bits-signed n below =
     elim (ltb n 32768) as (λ b. ltb n 32768 ≡ b → low_bits (cond b (pos n) (negsuc (65535 - n))) ≡ n) [

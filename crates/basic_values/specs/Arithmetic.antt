@@ -1,28 +1,25 @@
--- What the operators give on whole numbers of 16 bits.
+-- What the operators give on 16-bit integers.
 use Rattle.std.specs.Prelude.{ℕ, zero, suc, ◌+◌, ◌/◌, ◌%◌, ◌==◌, if◌then◌else◌, ℤ, pos, negsuc, ◌*ℤ◌, neg_ℤ, Result, Ok, Err}
 use Rattle.basic_values.specs.declared.errors.TheConstants.{DIVISION_BY_ZERO}
 use Rattle.basic_values.specs.Numbers.{wrap}
 
--- the product of so many factors that are all this number, over the whole numbers; of none it is 1
+-- the unbounded product of `count` factors that are all this number; 1 if there are none
 unfoldable pub repeated_product : ℤ → ℕ → ℤ
 repeated_product base zero = pos 1
 repeated_product base (suc count) = repeated_product base count *ℤ base
 
--- 1 divided by so many factors that are all this number, without its fraction:
--- only 1 and -1 leave anything
+-- 1 divided by that product, without its fraction: it is 0 unless the number is 1 or -1
 abbrev pub inverse_product : ℤ → ℕ → ℤ
 inverse_product (pos a) count = if a == 1 then pos 1 else pos 0
 inverse_product (negsuc a) count =
     if a == 0 then (if count % 2 == 0 then pos 1 else negsuc 0) else pos 0
 
--- a power: the product formed over the whole numbers and wrapped once, and its inverse where
--- the exponent is below 0
+-- a power: the unbounded product wrapped once, and its inverse if the exponent is below 0
 abbrev pub power : ℤ → ℤ → ℤ
 power base (pos exponent) = wrap (repeated_product base exponent)
 power base (negsuc n) = inverse_product base (n + 1)
 
--- a quotient over the whole numbers, without its fraction: the sign of both, and how often the
--- one size holds the other
+-- a quotient of unbounded integers, without its fraction
 abbrev pub truncated : ℤ → ℤ → ℤ
 truncated (pos a) (pos b) = pos (a / b)
 truncated (pos a) (negsuc b) = neg_ℤ (pos (a / (b + 1)))

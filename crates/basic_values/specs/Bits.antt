@@ -2,7 +2,7 @@
 use Rattle.std.specs.Prelude.{ℕ, ◌+◌, ◌-◌, ◌*◌, ◌/◌, ◌%◌, ℤ, bit_and, bit_or, bit_xor}
 use Rattle.basic_values.specs.Numbers.{low_bits, signed}
 
--- the 16 bits with each bit turned round
+-- the 16 bits, each inverted
 abbrev pub turned : ℕ → ℕ
 turned bits = 65535 - bits
 
@@ -10,7 +10,7 @@ turned bits = 65535 - bits
 abbrev pub both : ℤ → ℤ → ℤ
 both a b = signed (bit_and (low_bits a) (low_bits b))
 
--- 1 where one bit is 1 or both are
+-- 1 where at least one bit is 1
 abbrev pub either : ℤ → ℤ → ℤ
 either a b = signed (bit_or (low_bits a) (low_bits b))
 
@@ -22,7 +22,7 @@ differing a b = signed (bit_xor (low_bits a) (low_bits b))
 abbrev pub alike : ℤ → ℤ → ℤ
 alike a b = signed (turned (bit_xor (low_bits a) (low_bits b)))
 
--- 1 but where the first bit is 1 and the second 0
+-- 1 except where the first bit is 1 and the second 0
 abbrev pub implied : ℤ → ℤ → ℤ
 implied a b = signed (bit_or (turned (low_bits a)) (low_bits b))
 

@@ -1,4 +1,4 @@
--- Numbers that stand in a text as digits, without a leading zero.
+-- Numbers that are spelled in decimal digits, without a leading zero.
 use Rattle.std.specs.Prelude.{ℕ, Bool, ◌&&◌, nat_le, if◌then◌else◌, List, Option, Some, None, bytes_eq}
 use Rattle.std.specs.Fmt.{decimal}
 use Rattle.std.specs.Str.Parse.{digits_value}
@@ -9,7 +9,7 @@ is_number_between low high text =
     bytes_eq text (decimal (digits_value 10 text))
     && nat_le low (digits_value 10 text) && nat_le (digits_value 10 text) high
 
--- the number from low to high whose decimal form the text is
+-- the number from low to high whose decimal form is this text
 abbrev pub number_between : ℕ → ℕ → List ℕ → Option ℕ
 number_between low high text =
     if is_number_between low high text then Some (digits_value 10 text) else None

@@ -1,4 +1,4 @@
--- Texts as lists of bytes, and how two of them compare.
+-- Strings as lists of bytes, and how two of them compare.
 use Rattle.std.specs.Prelude.{◌≡◌, ◌<◌, ◌≤◌, ◌-◌, ℕ, List, ◌++◌, length, replicate, Result, Ok, Err}
 use Rattle.std.specs.declared.cmp.Ordering.{Ordering}
 use Rattle.std.specs.Ordering.{nat_cmp}
@@ -9,8 +9,8 @@ use Rattle.basic_values.specs.declared.failures.Halt.TheVariants.{TooLong}
 use Rattle.basic_values.specs.declared.failures.Trouble.{Trouble}
 use Rattle.basic_values.specs.declared.failures.Trouble.TheVariants.{Refused, NoMemory}
 
--- a call that makes a text of these bytes answers the text, or too long exactly where there are
--- too many of them; or memory ran out
+-- A call that makes a string of these bytes returns it, or reports that it is too long exactly if
+-- it is, or that memory ran out.
 abbrev pub MakesText : List ℕ → Result (List ℕ) (Trouble Halt) → Type 0
 MakesText bytes (Ok text) = (text ≡ bytes) × (length bytes ≤ MOST_BYTES)
 MakesText bytes (Err (Refused halt)) = (halt ≡ TooLong) × (MOST_BYTES < length bytes)
@@ -20,10 +20,10 @@ MakesText bytes (Err NoMemory) = Unit {0}
 abbrev pub space : ℕ
 space = 32
 
--- the text with spaces behind it, up to that many bytes
+-- the string, padded with spaces to that many bytes
 abbrev pub padded : ℕ → List ℕ → List ℕ
 padded width text = text ++ replicate (width - length text) space
 
--- the order of two texts of bytes, the shorter padded by spaces
+-- the order of two strings, the shorter padded with spaces
 abbrev pub order_of : List ℕ → List ℕ → Ordering
 order_of a b = slice_cmp nat_cmp (padded (length b) a) (padded (length a) b)

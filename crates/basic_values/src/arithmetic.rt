@@ -1,4 +1,4 @@
-//! The operators of whole numbers.
+//! The arithmetic operators on integers.
 
 ghost use Rattle.std.specs.Prelude.{◌≡◌, ◌-ℤ◌, ◌*ℤ◌, neg_ℤ};
 ghost use Rattle.basic_values.specs.Numbers.{wrap};
@@ -9,29 +9,29 @@ use crate::failures::Fault;
 use crate::integers::Int;
 
 impl Int {
-    /// The difference, wrapped. The manual's `-`.
+    /// Returns the difference, wrapped to 16 bits: the manual's `-`.
     pub fn sub(self, b: Int) -> Int
         ensures { result ≡ wrap (self -ℤ b) }
     {
         Int::new(self.value().wrapping_sub(b.value()))
     }
 
-    /// The product, wrapped. The manual's `*`.
+    /// Returns the product, wrapped to 16 bits: the manual's `*`.
     pub fn mul(self, b: Int) -> Int
         ensures { result ≡ wrap (self *ℤ b) }
     {
         Int::new(self.value().wrapping_mul(b.value()))
     }
 
-    /// The number with its sign turned round, wrapped. The manual's unary `-`.
+    /// Returns the negated number, wrapped to 16 bits: the manual's unary `-`.
     pub fn neg(self) -> Int
         ensures { result ≡ wrap (neg_ℤ self) }
     {
         Int::new(self.value().wrapping_neg())
     }
 
-    /// The power, wrapped once; with an exponent below 0 what is left of 1 divided by it.
-    /// The manual's `^`.
+    /// Returns the power, wrapped once at the end: the manual's `^`. An exponent below 0 gives 1
+    /// divided by the power, without its fraction.
     pub fn power(self, b: Int) -> Int
         ensures { result ≡ power self b }
     {
@@ -53,7 +53,8 @@ impl Int {
         })
     }
 
-    /// The quotient without its fraction, wrapped; error 61 where `b` is 0. The manual's `/`.
+    /// Returns the quotient without its fraction, wrapped to 16 bits: the manual's `/`. If `b` is
+    /// 0, the error is 61.
     pub fn div(self, b: Int) -> Result<Int, Fault>
         ensures { result ≡ quotient self b }
     {

@@ -1,4 +1,4 @@
-//! Numbers that stand in a text as digits.
+//! Numbers in decimal digits.
 
 ghost use Rattle.std.specs.Prelude.{◌≡◌, ◌≤◌, ◌↔◌, length, IsTrue};
 ghost use Rattle.std.specs.Str.Parse.{digits_value, AllDigits};
@@ -6,10 +6,11 @@ ghost use Rattle.basic_values.specs.Decimals.{number_between};
 
 use itoa::Buffer;
 
-/// The greatest number of digits of a number of 32 bits.
+/// The greatest number of digits of a 32-bit number.
 const MOST_DIGITS: usize = 10;
 
-/// The number from `low` to `high` that the text spells in decimal digits without a leading zero.
+/// Returns the number that the text spells in decimal digits without a leading zero, if it is from
+/// `low` to `high`.
 pub fn number_between(low: u32, high: u32, text: &[u8]) -> Option<u32>
     ensures { result ≡ number_between low high text.now }
 {
@@ -37,7 +38,7 @@ fn is_digits(text: &[u8]) -> bool
     true
 }
 
-/// The value of at most 10 digits.
+/// Returns the number that at most 10 digits spell.
 fn value_of_digits(digits: &[u8]) -> u64
     requires short { length digits.now ≤ 10 }
     requires digits { AllDigits 10 digits.now }

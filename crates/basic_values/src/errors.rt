@@ -1,5 +1,5 @@
-//! The numbers of the errors that are made, by the words of the manual's table of errors. Code and definitions cite
-//! them by these names, and `Fault::text` has their words.
+//! The numbers of the errors of the manual, named after their texts. Code and definitions use these
+//! names; `Fault::text` returns the texts.
 
 /// "Illegal file name".
 pub const ILLEGAL_FILE_NAME: u8 = 2;

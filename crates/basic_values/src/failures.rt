@@ -1,5 +1,5 @@
-//! Why a call does not give its value: a fault that a program can trap, a halt that it cannot,
-//! or no memory.
+//! Why a call returns no value: an error that a program can trap, a halt that it cannot, or no
+//! memory.
 
 ghost use Rattle.std.specs.Prelude.{◌≡◌};
 
@@ -8,7 +8,7 @@ use std::error::Error;
 use std::fmt;
 use std::marker::Model;
 
-/// The number of an error of the manual's table, from 1 to 70 where a program can meet it.
+/// The number of an error in the manual's table. A program only sees numbers from 1 to 70.
 #[derive(Clone, Copy, Debug, PartialEq, Eq, PartialOrd, Ord)]
 pub struct Fault(u8);
 
@@ -23,14 +23,14 @@ impl Model for Fault {
 }
 
 impl Fault {
-    /// The error of that number.
+    /// Returns the error with this number.
     pub fn new(number: u8) -> Fault
         ensures { result ≡ number }
     {
         Fault(number)
     }
 
-    /// Its number in the table.
+    /// Returns the number in the manual's table.
     pub fn number(self) -> u8
         ensures { result ≡ self }
     {
@@ -38,22 +38,23 @@ impl Fault {
     }
 }
 
-/// Why a job's program stops without a chance to trap it.
+/// Why a program stops and cannot trap it: the manual's halts.
 #[derive(Clone, Copy, Debug, PartialEq, Eq)]
 pub enum Halt {
-    /// A RETURN without a GOSUB before it.
+    /// A RETURN when no return place is kept.
     NoGosub,
-    /// Too many GOSUBs or function calls inside one another.
+    /// Too many return places of GOSUB, or function calls nested too deep.
     TooDeep,
-    /// The job's memory would pass its bound.
+    /// A variable, an element or an array would exceed the job's memory.
     RoomFull,
-    /// A RESUME where no error is being handled.
+    /// A RESUME when no error is being handled.
     NoError,
-    /// A text of more than 32,767 bytes.
+    /// A string of more than 32,767 bytes.
     TooLong,
 }
 
-/// Memory ran out. It is the one answer that no rule ties to a cause.
+/// Memory ran out. This is the only failure that may come at any time; every other has a cause that
+/// a rule names.
 #[derive(Clone, Copy, Debug, PartialEq, Eq)]
 pub struct NoMemory;
 
@@ -77,7 +78,7 @@ impl<T: Drop> From<AllocFailed<T>> for NoMemory {
     }
 }
 
-/// A refusal with its cause, or no memory.
+/// A rejection with its cause, or no memory.
 #[derive(Clone, Copy, Debug, PartialEq, Eq)]
 pub enum Trouble<F> {
     Refused(F),
@@ -94,12 +95,12 @@ impl<F> From<NoMemory> for Trouble<F> {
     }
 }
 
-/// What ends a statement before its time.
+/// Why a statement stops before its end.
 #[derive(Clone, Copy, Debug, PartialEq, Eq)]
 pub enum Stop {
     Fault(Fault),
     Halt(Halt),
-    /// The job's calls are used up.
+    /// The job's limit of calls is reached.
     Expired,
     NoMemory,
 }

@@ -1,18 +1,18 @@
-//! What a text begins and ends with: runs of blanks, of letters and of digits.
+//! What a text begins and ends with: blanks, letters and digits.
 
 ghost use Rattle.std.specs.Prelude.{◌≡◌, ◌≤◌, length};
 ghost use Rattle.std.specs.List.{prefix_len, suffix_len};
 ghost use Rattle.std.specs.Char.{is_ascii_alphabetic, is_ascii_digit};
 ghost use Rattle.basic_values.specs.Blanks.{is_blank, without_front_blanks, without_end_blanks};
 
-/// Whether it is a space or a tab.
+/// Returns whether the byte is a space or a tab.
 pub fn is_blank(byte: u8) -> bool
     ensures { result ≡ is_blank byte }
 {
     byte == b' ' || byte == b'\t'
 }
 
-/// How many blanks the text begins with.
+/// Returns the number of blanks at the front of the text.
 pub fn blanks_in_front(text: &[u8]) -> usize
     ensures count { result ≡ prefix_len is_blank text.now }
     ensures within { result ≤ length text.now }
@@ -20,7 +20,7 @@ pub fn blanks_in_front(text: &[u8]) -> usize
     text.iter().take_while(|byte| is_blank(**byte)).count()
 }
 
-/// How many letters the text begins with.
+/// Returns the number of letters at the front of the text.
 pub fn letters_in_front(text: &[u8]) -> usize
     ensures count { result ≡ prefix_len is_ascii_alphabetic text.now }
     ensures within { result ≤ length text.now }
@@ -30,7 +30,7 @@ pub fn letters_in_front(text: &[u8]) -> usize
         .count()
 }
 
-/// How many digits the text begins with.
+/// Returns the number of digits at the front of the text.
 pub fn digits_in_front(text: &[u8]) -> usize
     ensures count { result ≡ prefix_len is_ascii_digit text.now }
     ensures within { result ≤ length text.now }
@@ -38,7 +38,7 @@ pub fn digits_in_front(text: &[u8]) -> usize
     text.iter().take_while(|byte| byte.is_ascii_digit()).count()
 }
 
-/// How many blanks the text ends with.
+/// Returns the number of blanks at the end of the text.
 pub fn blanks_at_end(text: &[u8]) -> usize
     ensures count { result ≡ suffix_len is_blank text.now }
     ensures within { result ≤ length text.now }
@@ -49,14 +49,14 @@ pub fn blanks_at_end(text: &[u8]) -> usize
         .count()
 }
 
-/// The text behind the blanks in front.
+/// Returns the text without the blanks at its front.
 pub fn without_front_blanks(text: &[u8]) -> &[u8]
     ensures { result.now ≡ without_front_blanks text.now }
 {
     &text[blanks_in_front(text)..]
 }
 
-/// The text before the blanks at its end.
+/// Returns the text without the blanks at its end.
 pub fn without_end_blanks(text: &[u8]) -> &[u8]
     ensures { result.now ≡ without_end_blanks text.now }
 {

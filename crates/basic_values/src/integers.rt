@@ -1,4 +1,4 @@
-//! Whole numbers of 16 bits.
+//! Integers of 16 bits.
 
 ghost use Rattle.std.specs.Prelude.{◌≡◌, ◌+ℤ◌};
 ghost use Rattle.basic_values.specs.Numbers.{wrap, printed};
@@ -7,7 +7,7 @@ use arrayvec::ArrayVec;
 use itoa::Buffer;
 use std::marker::Model;
 
-/// A whole number from -32768 to 32767. Its arithmetic keeps the low 16 bits.
+/// An integer from -32768 to 32767. Its arithmetic keeps the low 16 bits.
 #[derive(Clone, Copy, Debug, PartialEq, Eq, PartialOrd, Ord)]
 pub struct Int(i16);
 
@@ -22,28 +22,28 @@ impl Model for Int {
 }
 
 impl Int {
-    /// The number itself.
+    /// Returns the integer with this value.
     pub fn new(value: i16) -> Int
         ensures { result ≡ value }
     {
         Int(value)
     }
 
-    /// The number itself.
+    /// Returns the value.
     pub fn value(self) -> i16
         ensures { result ≡ self }
     {
         self.0
     }
 
-    /// The sum, wrapped.
+    /// Returns the sum, wrapped to 16 bits: the manual's `+`.
     pub fn add(self, b: Int) -> Int
         ensures { result ≡ wrap (self +ℤ b) }
     {
         Int(self.0.wrapping_add(b.0))
     }
 
-    /// What PRINT writes: a space or a minus, the digits, and a space.
+    /// Returns what PRINT writes: a space or a minus, the digits, and a space.
     pub fn printed(self) -> ArrayVec<u8, 8>
         ensures { result.items ≡ printed self }
     {

@@ -1,8 +1,9 @@
-//! The values of BASIC-PLUS: whole numbers of 16 bits, texts as bytes, lists, and the ways in which
-//! a call fails. It stands on no crate of the house, and every other may use it.
-//! `Int` carries the arithmetic, `compare` the order of texts, `fronts` what a text begins with, `errors` and
-//! `limits` the numbers that code and definitions cite by name,
-//! `Series` each list that a contract sees, and `laws` what a user relies on.
+//! The values of BASIC-PLUS: 16-bit integers, byte strings, lists, and the ways in which a call
+//! fails. This is the lowest crate.
+//!
+//! `Int` has the arithmetic, `compare` the order of strings, and `fronts` what a text begins with.
+//! `errors` and `limits` have the numbers that code and definitions use by name. `Series` is a list
+//! as contracts see it. `laws` has theorems about all this.
 #![tactic(auto)]
 
 mod arithmetic;

@@ -1,15 +1,16 @@
-//! Lists: what a contract sees as its values in their order.
+//! Lists, which contracts see as their values in order.
 
-ghost use Rattle.std.specs.Prelude.{◌≡◌, ◌≤◌, ◌<◌, ◌↔◌, length, [], ◌++◌, IfOk, OnOk, OnErr, IsSome, IfSome};
+ghost use Rattle.std.specs.Prelude.{◌≡◌, ◌≤◌, ◌<◌, ◌↔◌, length, [], ◌++◌, IfOk, OnOk, OnErr};
+ghost use Rattle.std.specs.Prelude.{IsSome, IfSome};
 
 use crate::failures::{NoMemory, Trouble};
 use std::alloc::Global;
 use std::marker::Model;
 
-/// How many bytes a key line has at the most.
+/// The most bytes of a key line.
 pub const LINE_LENGTH: usize = 255;
 
-/// The keys of one line and RETURN: at most 255 bytes, of any kind.
+/// A line that is typed, without its RETURN: at most 255 bytes, of any kind.
 #[derive(Debug, Drop)]
 pub struct KeyLine {
     bytes: Vec<u8>,
@@ -27,7 +28,7 @@ impl Model for KeyLine {
 }
 
 impl KeyLine {
-    /// A copy of the bytes.
+    /// Returns a copy of the bytes.
     pub fn of(alloc: Global, bytes: &[u8]) -> Result<KeyLine, NoMemory>
         requires { length bytes.now ≤ LINE_LENGTH }
         ensures { IfOk result (λ line. line ≡ bytes.now) }
@@ -45,7 +46,7 @@ impl KeyLine {
     }
 }
 
-/// Values in an order, without a bound on how many they are.
+/// Values in order, any number of them.
 #[derive(Drop)]
 pub struct Series<T> {
     items: Vec<T>,
@@ -60,7 +61,7 @@ impl<T> Model for Series<T> {
 }
 
 impl<T> Series<T> {
-    /// Takes the values over.
+    /// Returns the list of these values, without copying them.
     pub fn from_vec(items: Vec<T>) -> Series<T>
         ensures { result ≡ items.items }
     {
@@ -74,5 +75,5 @@ impl<T> Series<T> {
     }
 }
 
-/// A list of bytes without a bound on its length.
+/// A list of bytes of any length.
 pub type Text2 = Series<u8>;

@@ -1,4 +1,4 @@
-//! The words of errors and halts, without the question mark that a report puts in front.
+//! The texts of errors and halts, without the question mark that a report puts in front.
 
 ghost use Rattle.std.specs.Prelude.{◌≡◌};
 ghost use Rattle.basic_values.specs.Messages.{fault_text, halt_text};
@@ -7,7 +7,7 @@ use crate::failures::{Fault, Halt};
 
 impl Fault {
     #[tactic(auto, unfolding(crate::specs::Messages::fault_text))]
-    /// The words of the manual's table of errors; empty for a number that stands for none.
+    /// Returns the text in the manual's table of errors; empty if the number has none.
     pub fn text(&self) -> &'static [u8]
         ensures { result.now ≡ fault_text self.now }
     {
@@ -43,7 +43,7 @@ impl Fault {
 }
 
 impl Halt {
-    /// The words of its report.
+    /// Returns the text of the halt in the manual.
     pub fn text(&self) -> &'static [u8]
         ensures { result.now ≡ halt_text self.now }
     {

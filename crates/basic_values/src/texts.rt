@@ -1,6 +1,7 @@
-//! Texts: lists of at most 32,767 bytes.
+//! Strings: lists of at most 32,767 bytes.
 
-ghost use Rattle.std.specs.Prelude.{◌≡◌, ◌≤◌, ◌++◌, ◌↔◌, [], IsTrue, IfOk, length, take, drop, slice_index_or};
+ghost use Rattle.std.specs.Prelude.{◌≡◌, ◌≤◌, ◌++◌, ◌↔◌, [], IsTrue, IfOk, length, take, drop};
+ghost use Rattle.std.specs.Prelude.{slice_index_or};
 ghost use Rattle.basic_values.specs.Becoming.{Becomes};
 ghost use Rattle.basic_values.specs.Texts.{MakesText, order_of, space};
 
@@ -9,10 +10,10 @@ use std::alloc::Global;
 use std::cmp::Ordering;
 use std::marker::Model;
 
-/// How many bytes a text has at the most.
+/// The most bytes of a string.
 pub const MOST_BYTES: usize = 32767;
 
-/// A text of BASIC-PLUS: at most 32,767 bytes, of any kind.
+/// A string of BASIC-PLUS: at most 32,767 bytes, of any kind.
 #[derive(Debug, Drop)]
 pub struct Text {
     bytes: Vec<u8>,
@@ -30,14 +31,14 @@ impl Model for Text {
 }
 
 impl Text {
-    /// A copy of the bytes. More than 32,767 of them are the halt `TooLong`.
+    /// Returns a copy of the bytes, or the halt `TooLong` if they are more than 32,767.
     pub fn of(alloc: Global, bytes: &[u8]) -> Result<Text, Trouble<Halt>>
         ensures { MakesText bytes.now result }
     {
         concat(alloc, bytes, &[])
     }
 
-    /// The text without bytes. It takes no memory.
+    /// Returns the empty string. It takes no memory.
     pub fn empty(alloc: Global) -> Text
         ensures { result ≡ [] }
     {
@@ -46,8 +47,8 @@ impl Text {
         }
     }
 
-    /// Puts bytes behind the text, in its place. Where there are more than 32,767 of them then, which is
-    /// the halt `TooLong`, and where memory runs out, it is as before.
+    /// Appends bytes to the string in place. If it would have more than 32,767 bytes (the halt
+    /// `TooLong`), or if memory runs out, the string stays as it was.
     pub fn append(&mut self, more: &[u8]) -> Result<(), Trouble<Halt>>
         ensures { Becomes (self.old ++ more.now) self.old self.new result }
     {
@@ -60,7 +61,8 @@ impl Text {
         }
     }
 
-    /// Leaves so many bytes behind the first ones, in their place, or all that are there. It takes no memory.
+    /// Keeps only the `count` bytes from place `before` on, or as many as there are, in place. It
+    /// takes no memory.
     pub fn cut(&mut self, before: usize, count: usize)
         ensures { self.new ≡ take count (drop before self.old) }
     {
@@ -70,7 +72,7 @@ impl Text {
         self.bytes.truncate(kept);
     }
 
-    /// The bytes of the text.
+    /// Returns the bytes of the string.
     pub fn as_bytes(&self) -> &[u8]
         ensures bytes { result.now ≡ self.now }
         ensures short { length self.now ≤ MOST_BYTES }
@@ -79,8 +81,8 @@ impl Text {
     }
 }
 
-/// The bytes of `b` behind those of `a`, the manual's `+` on texts.
-/// More than 32,767 are the halt `TooLong`.
+/// Returns the bytes of `a` followed by those of `b`: the manual's `+` on strings. More than 32,767
+/// bytes are the halt `TooLong`.
 pub fn concat(alloc: Global, a: &[u8], b: &[u8]) -> Result<Text, Trouble<Halt>>
     ensures { MakesText (a.now ++ b.now) result }
 {
@@ -100,8 +102,8 @@ fn joined(alloc: Global, a: &[u8], b: &[u8]) -> Result<Vec<u8>, NoMemory>
     Ok(bytes)
 }
 
-/// The order of two texts after the shorter is padded by spaces, as the manual's `=`, `<` and
-/// their kin see them.
+/// Compares two strings after the shorter is padded with spaces, as the manual's `=`, `<` and
+/// similar relations do.
 pub fn compare(a: &[u8], b: &[u8]) -> Ordering
     ensures { result ≡ order_of a.now b.now }
 {
@@ -115,14 +117,14 @@ pub fn compare(a: &[u8], b: &[u8]) -> Ordering
     Ordering::Equal
 }
 
-/// What stands at the place of a text with spaces behind it.
+/// Returns the byte at this place of a string that is followed by spaces.
 fn byte_or_space(text: &[u8], place: usize) -> u8
     ensures { result ≡ slice_index_or text.now place space }
 {
     text.get(place).copied().unwrap_or(b' ')
 }
 
-/// Whether both have the same bytes. The manual's `==` on texts.
+/// Returns whether both have the same bytes: the manual's `==` on strings.
 pub fn identical(a: &[u8], b: &[u8]) -> bool
     ensures { IsTrue result ↔ (a.now ≡ b.now) }
 {

@@ -6,3 +6,4 @@ pub mod NthLemmas
 pub mod OwnerLemmas
 pub mod ReadLemmas
 pub mod RowLemmas
+mod SlotLemmas

@@ -1,6 +1,7 @@
 //! The directory: what is kept of each file, in the order of making.
 
-ghost use Rattle.std.specs.Prelude.{◌≡◌, ◌<◌, ◌≤◌, true, [], ◌∷◌, ◌++◌, length, is_some, option_copied, None, IsOk, OnOk, OnErr};
+ghost use Rattle.std.specs.Prelude.{◌≡◌, ◌<◌, ◌≤◌, true, [], ◌∷◌, ◌++◌, length, is_some};
+ghost use Rattle.std.specs.Prelude.{option_copied, None, IsOk, OnOk, OnErr};
 ghost use Rattle.block_files.specs.Disks.{place_at};
 ghost use Rattle.block_files.specs.Rows.{body_at, without, Grows};
 ghost use Rattle.indexmap.specs.IndexMap.{spare};

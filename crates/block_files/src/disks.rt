@@ -1,15 +1,19 @@
 //! The disk, which counts what each owner has.
 
-ghost use Rattle.std.specs.Prelude.{◌≡◌, true, [], is_some, option_map, IfOk, IsOk, OnOk, OnErr};
+ghost use Rattle.std.specs.Prelude.{◌≡◌, true, [], map, is_some, option_map, IfOk};
+ghost use Rattle.std.specs.Prelude.{IsOk, OnOk, OnErr};
 ghost use Rattle.monitor_model.specs.Refusals.{RefusedBy, RefusedByOrNoMemory};
-ghost use Rattle.monitor_model.specs.Files.{size, file_at, nth_of, page_at, is_block, blocks_owned, remove, make, remake, rename, empty_file, put};
-ghost use Rattle.block_files.specs.Calls.{create_refusals, there_refusals, rename_refusals, read_refusals, write_refusals};
+ghost use Rattle.monitor_model.specs.Files.{size, file_at, nth_of, page_at, is_block, blocks_owned};
+ghost use Rattle.monitor_model.specs.Files.{remove, make, remake, rename, empty_file, put};
+ghost use Rattle.monitor_model.specs.State.{volume_file};
+ghost use Rattle.block_files.specs.Calls.{create_refusals, there_refusals, rename_refusals};
+ghost use Rattle.block_files.specs.Calls.{read_refusals, write_refusals};
 ghost use Rattle.block_files.specs.Disks.{IsLaidOut, place_of};
 
 use crate::owners::Owners;
 use crate::stores::Store;
 use basic_values::{Fault, NoMemory, Trouble};
-use monitor_calls::{Account, FileName, Page};
+use monitor_calls::{Account, FileEntry, FileName, Page};
 use std::alloc::Global;
 use std::marker::Model;
 
@@ -78,6 +82,22 @@ impl Disk {
         ensures laid_out { IsLaidOut self.now }
     {
         self.store.place(name, block)
+    }
+
+    /// Returns how many blocks it has.
+    pub fn blocks(&self) -> u16
+        ensures { result ≡ self.now.blocks }
+    {
+        self.store.blocks()
+    }
+
+    /// Moves its files out, in the order of making, with their pages. No page is copied: memory is
+    /// needed for the lists of files and pages alone.
+    pub fn into_files(self) -> Result<Vec<FileEntry>, NoMemory>
+        ensures { IfOk result (λ files. files.items ≡ map volume_file self.files) }
+    {
+        let Disk { store, owners: _ } = self;
+        store.into_files()
     }
 
     /// Copies a block of a file into the page.

@@ -1,23 +1,30 @@
 //! The pages of a disk, its free places, and its files in the order of making.
 
-ghost use Rattle.std.specs.Prelude.{ℕ, ◌≡◌, ◌+◌, ◌-◌, ◌<◌, ◌≤◌, ◌^◌, true, false, not, ◌&&◌, nat_le, [], length, replicate, is_some, option_map, vec_capacity, IfOk, IsOk, OnOk, OnErr};
+ghost use Rattle.std.specs.Prelude.{ℕ, ◌≡◌, ◌+◌, ◌-◌, ◌<◌, ◌≤◌, ◌^◌, true, false, not, ◌&&◌};
+ghost use Rattle.std.specs.Prelude.{nat_le, [], length, map, replicate, is_some, option_map};
+ghost use Rattle.std.specs.Prelude.{vec_capacity, IfOk, IsOk, OnOk, OnErr};
 ghost use Rattle.basic_values.specs.declared.limits.TheConstants.{MOST_FILES};
 ghost use Rattle.monitor_calls.specs.FileNames.{same_name};
 ghost use Rattle.monitor_calls.specs.Pages.{zeros};
 ghost use Rattle.monitor_model.specs.Refusals.{RefusedBy, RefusedByOrNoMemory};
-ghost use Rattle.monitor_model.specs.Files.{size, file_at, nth_of, page_at, is_block, size_at, blocks_of, remove, make, remake, rename, empty_file, is_file, put};
-ghost use Rattle.block_files.specs.Calls.{create_refusals, there_refusals, rename_refusals, read_refusals, write_refusals};
+ghost use Rattle.monitor_model.specs.Files.{size, file_at, nth_of, page_at, is_block, size_at};
+ghost use Rattle.monitor_model.specs.Files.{blocks_of, remove, make, remake, rename, empty_file};
+ghost use Rattle.monitor_model.specs.Files.{is_file, put};
+ghost use Rattle.monitor_model.specs.State.{volume_file};
+ghost use Rattle.block_files.specs.Calls.{create_refusals, there_refusals, rename_refusals};
+ghost use Rattle.block_files.specs.Calls.{read_refusals, write_refusals};
 ghost use Rattle.block_files.specs.Disks.{times, IsLaidOut, place_of};
 ghost use Rattle.block_files.specs.Rows.{cleared, first_places, grow_file, set_page};
 
 use crate::bodies::{
     Directory, FileBody, add_places, body_of, make_room, place_in, put_last, take_out,
 };
+use crate::unmounting::unmounted;
 use basic_values::errors::{END_OF_FILE, ILLEGAL_BYTE_COUNT, NAME_EXISTS, NO_ROOM, NO_SUCH_FILE};
 use basic_values::limits::MOST_FILES;
 use basic_values::{Fault, NoMemory, Trouble};
 use indexmap::IndexMap;
-use monitor_calls::{Account, FileName, Page};
+use monitor_calls::{Account, FileEntry, FileName, Page};
 use std::alloc::Global;
 use std::marker::Model;
 
@@ -108,6 +115,26 @@ impl Store {
             Some(body) => place_in(body.places.as_slice(), block),
             None => None,
         }
+    }
+
+    /// Returns how many blocks the disk has.
+    pub(crate) fn blocks(&self) -> u16
+        ensures { result ≡ self.now.blocks }
+    {
+        self.pages.len() as u16
+    }
+
+    /// Moves the files out, in the order of making, with their pages.
+    pub(crate) fn into_files(self) -> Result<Vec<FileEntry>, NoMemory>
+        ensures { IfOk result (λ files. files.items ≡ map volume_file self.files) }
+    {
+        let Store {
+            alloc,
+            pages,
+            free: _,
+            files,
+        } = self;
+        unmounted(alloc, pages, &files)
     }
 
     /// Copies a block of a file into the page.

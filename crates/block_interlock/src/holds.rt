@@ -4,7 +4,8 @@ ghost use Rattle.std.specs.Prelude.{◌≡◌, ◌<◌, ◌≤◌, false, None, 
 ghost use Rattle.std.specs.FinMap.{empty};
 ghost use Rattle.basic_values.specs.declared.limits.TheConstants.{JOB_CHANNELS, MOST_JOBS};
 ghost use Rattle.monitor_model.specs.Holds.{holder, hold, release, release_job, any_held};
-ghost use Rattle.block_interlock.specs.Fields.{field_at, HasField, HasFields, IsKept, LetsGo, LetGoBelow};
+ghost use Rattle.block_interlock.specs.Fields.{field_at, HasField, HasFields, IsKept, LetsGo};
+ghost use Rattle.block_interlock.specs.Fields.{LetGoBelow};
 ghost use Rattle.block_interlock.specs.Index.{AreFree, HeldByOne};
 ghost use Rattle.block_interlock.specs.Interlock.{IsHeldBy};
 ghost use Rattle.block_interlock.specs.Runs.{IsShort};

@@ -2,7 +2,8 @@
 
 ghost use Rattle.std.specs.Prelude.{◌≡◌, ◌+◌, ◌<◌, ◌≤◌, ◌^◌, None, vec_len, vec_capacity};
 ghost use Rattle.monitor_model.specs.Holds.{account_order, name_order, block_order};
-ghost use Rattle.block_interlock.specs.Index.{Rises, IsSought, look, Drops, Adds, AreFree, DropsAll, AddsAll};
+ghost use Rattle.block_interlock.specs.Index.{Rises, IsSought, look, Drops, Adds, AreFree};
+ghost use Rattle.block_interlock.specs.Index.{DropsAll, AddsAll};
 
 use crate::runs::{Held, Run};
 use monitor_calls::{Account, FileName};

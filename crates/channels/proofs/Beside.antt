@@ -1,4 +1,4 @@
--- What is known of a channel's state, put into the trees.
+-- What is known of a channel's state, used in the interaction trees.
 use Rattle.std.proofs.Common.{◌≡◌, ℕ, List, ap}
 use Rattle.channels.specs.declared.states.Waiting.{Waiting}
 use Rattle.channels.specs.Files.{Files, state_of}
@@ -8,7 +8,7 @@ use Rattle.channels.specs.Waiting.{stores_waiting, settles}
 abbrev pub beside : List (List ℕ) → Files → Files
 beside buffers files = record files { buffers = buffers }
 
--- what a change of the channels told without buffers is with them
+-- an equation about channels without buffers also holds with them
 pub told_beside : {a b : Files} (buffers : List (List ℕ)) → a ≡ b → beside buffers a ≡ beside buffers b
 told_beside buffers is = ap (beside buffers) is
 

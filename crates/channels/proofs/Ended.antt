@@ -1,4 +1,5 @@
--- What is left of acts where they end: an opening, a window, and channels that are closed one after another.
+-- What is left of interaction trees at their ends: an opening, a window, and channels that are
+-- closed one after another.
 use Rattle.std.proofs.Common.{◌≡◌, ℕ, zero, suc, ◌+◌, ◌-◌, ◌<◌, Bool, true, false, List, [], ◌∷◌, Err, refl, sym, ap, ◌∙◌, add-one, arith}
 use Rattle.std.specs.Prelude.{slice_set}
 use Rattle.std.specs.Option.{option_map}
@@ -28,7 +29,7 @@ opening_refused c update size (stop.Halt halt) files = refl
 opening_refused c update size stop.Expired files = refl
 opening_refused c update size stop.NoMemory files = refl
 
--- one channel more is closed
+-- one more channel is closed
 pub closes_step : (place : ℕ) (files : Files) → place < 12 → closes_from (place + 1) (12 - place) files ≡ shuts_file (place + 1) files then λ _. closes_from (place + 1 + 1) (12 - (place + 1))
 closes_step place files less =
     let m : ℕ = 12 - (place + 1) in

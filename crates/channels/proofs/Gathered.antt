@@ -1,4 +1,4 @@
--- Bytes gathered at once are those gathered one by one.
+-- Bytes collected together are those collected one by one.
 use Rattle.std.proofs.Common.{◌≡◌, ℕ, zero, suc, ◌+◌, ◌-◌, ◌<◌, ◌≤◌, false, List, [], ◌∷◌, ◌++◌, length, refl, sym, ap, subst, ◌∙◌, arith}
 use Rattle.std.specs.Prelude.{slice_set, slice_index_or}
 use Rattle.std.specs.List.{fold}
@@ -45,7 +45,7 @@ with_run run state = record state { waiting = Bytes (bytes_waiting state.waiting
 abbrev as_counted : List ℕ → ChannelState → ℕ → ChannelState
 as_counted run state count = record state { waiting = Bytes count; unread = 0; column = fold column_behind state.column run }
 
--- a byte, and bytes behind it
+-- a byte, and bytes after it
 run_of_state : (byte : ℕ) (run : List ℕ) (state : ChannelState) → with_run run (with_byte byte state) ≡ with_run (byte ∷ run) state
 run_of_state byte run state =
     let n : ℕ = bytes_waiting state.waiting in
@@ -65,14 +65,14 @@ module _ (c byte : ℕ) (files : Files) (in_channels : c - 1 < length files.chan
   pub state_behind : state_of c (byte_gathered c byte files) ≡ with_byte byte (state_of c files)
   state_behind = get_or-set_at files.channels (c - 1) (c - 1) (with_byte byte (state_of c files)) closed_channel refl in_channels
 
-  -- a byte is a run of one
+  -- one byte by itself
   run_of_one : byte_gathered c byte files ≡ run_gathered c (byte ∷ []) files
   run_of_one =
       let n : ℕ = bytes_waiting (state_of c files).waiting in
       let b : List ℕ = buffer_of c files.buffers in
       ap (λ (b : List ℕ). both c (with_byte byte (state_of c files)) b files) (sym (written_more n byte [] b ∙ written_none (n + 1) (slice_set b n byte)))
 
-  -- a byte, and a run behind it
+  -- a byte, and more bytes after it
   run_more : (run : List ℕ) → run_gathered c run (byte_gathered c byte files) ≡ run_gathered c (byte ∷ run) files
   run_more run =
       let s : ChannelState = state_of c files in
@@ -90,7 +90,7 @@ module _ (c byte : ℕ) (files : Files) (in_channels : c - 1 < length files.chan
 not_due : (size count : ℕ) (byte : ℕ) (state : ChannelState) → bytes_waiting state.waiting + 1 < bytes_of state.size → is_state_due (with_byte byte state) ≡ false
 not_due size count byte state less = grind (arith, nat_tests)
 
--- bytes that the buffer has room for
+-- bytes that fit into the buffer
 pub gathers_run : (c : ℕ) (run : List ℕ) (files : Files) → c - 1 < length files.channels → 1 ≤ length run → bytes_waiting (state_of c files).waiting + length run ≤ bytes_of (state_of c files).size
     → gathers c run files ≡ settles_due c (run_gathered c run files)
 gathers_run c [] files in_channels some fits = absurd (omega (arith, some))
@@ -109,7 +109,7 @@ gathers_run c (byte ∷ next ∷ run) files in_channels some fits =
     ∙ gathers_run c (next ∷ run) first still (omega arith) fit
     ∙ ap (settles_due c) (run_more c byte files in_channels (next ∷ run))
 
--- one run behind another
+-- some bytes, and more after them
 pub gathers_append : (c : ℕ) (run behind : List ℕ) (files : Files) → gathers c (run ++ behind) files ≡ gathers c run files then λ _. gathers c behind
 gathers_append c [] behind files = refl
 gathers_append c (byte ∷ run) behind files =

@@ -4,7 +4,7 @@ use Rattle.std.proofs.lemmas.Bool.Decides.{nat_tests}
 use Rattle.job_model.specs.Asking.{can_be_block, can_be_blocks, can_be_record}
 use Rattle.channels.specs.Transfers.{page_from, pages_from}
 
--- one page more
+-- one more page
 pub pages_step : (count made : ℕ) (pages pages' : List (List ℕ)) (rest next page : List ℕ) → made < count → page ≡ page_from rest → next ≡ drop 512 rest → pages' ≡ pages ++ page ∷ []
     → pages ++ pages_from (count - made) rest ≡ pages' ++ pages_from (count - (made + 1)) next
 pages_step count made pages pages' rest next page less is behind pushed =
@@ -16,7 +16,7 @@ pages_step count made pages pages' rest next page less is behind pushed =
     ∙ sym (append_assoc pages (page ∷ []) (pages_from m next))
     ∙ ap (λ (l : List (List ℕ)). l ++ pages_from m next) (sym pushed)
 
--- WHAT A DISK CAN HAVE, in numbers
+-- THE BLOCKS OF A DISK, in numbers
 
 pub block_bound : (block : ℕ) → can_be_block block ≡ true → block ≤ 16384
 block_bound block can = grind (arith, nat_tests)

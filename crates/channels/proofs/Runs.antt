@@ -1,4 +1,4 @@
--- Bytes of a line, taken run by run.
+-- Bytes of a line, several taken together.
 use Rattle.std.proofs.Common.{◌≡◌, inl, inr, ℕ, zero, suc, ◌+◌, ◌-◌, ◌<◌, ◌≤◌, Bool, true, false, List, [], ◌∷◌, ◌++◌, length, take, drop, get_or, refl, sym, ap, ◌∙◌, append_assoc, append-nil, arith}
 use Rattle.std.specs.Prelude.{◌==◌, ◌&&◌, not, nat_lt, if◌then◌else◌, cond}
 use Rattle.std.specs.List.{prefix_len}
@@ -10,7 +10,7 @@ use Rattle.channels.specs.declared.lines.Taken.TheVariants.{LineTaken, TooMany}
 use Rattle.channels.specs.declared.lines.TheConstants.{LINE_FEED, MOST_TAKEN}
 use Rattle.channels.specs.TextIn.{takes_from, is_kept, line_room}
 
--- THE FIRST BYTE, and those behind it as code sees them
+-- THE FIRST BYTE, and those after it as the code sees them
 
 abbrev pub behind_first : List ℕ → List ℕ
 behind_first bytes = take (length bytes - 1) (drop 1 bytes)
@@ -59,11 +59,11 @@ kept_byte line byte bytes room kept has =
     ∙ ap (λ (f : Bool). by_tests false f (nat_lt (length line + 1) MOST_TAKEN) byte bytes line) tests.1
     ∙ ap (λ (r : Bool). by_tests false false r byte bytes line) has
 
--- one kept byte more leaves less room
+-- with one more kept byte there is less room
 room_less : (line : List ℕ) (byte : ℕ) → line_room (line ++ byte ∷ []) ≡ line_room line - 1
 room_less line byte = let n = length-append line (byte ∷ []) in omega (arith, n)
 
--- RUNS of bytes that are kept
+-- SEVERAL BYTES that are kept
 
 -- as long as the line has room
 abbrev behind_run : List ℕ → List ℕ → ℕ → Taken
@@ -86,7 +86,7 @@ takes_run line (byte ∷ bytes) fits = by (is_kept byte) refl (takes_run (line +
         ∙ ap (λ (l : List ℕ). takes_from l (drop k bytes)) (append_assoc line (byte ∷ []) (take k bytes))
         ∙ ap (behind_run line (byte ∷ bytes)) on
 
--- and where they are too many
+-- and if they are too many
 pub takes_too_many : (line bytes : List ℕ) → line_room line < prefix_len is_kept bytes → takes_from line bytes ≡ TooMany (length bytes - line_room line - 1)
 takes_too_many line [] over = absurd (omega (arith, over))
 takes_too_many line (byte ∷ bytes) over = by (is_kept byte) refl (takes_too_many (line ++ byte ∷ []) bytes) over
@@ -107,7 +107,7 @@ takes_too_many line (byte ∷ bytes) over = by (is_kept byte) refl (takes_too_ma
             let left : length bytes - line_room (line ++ byte ∷ []) - 1 ≡ length (byte ∷ bytes) - line_room line - 1 = omega (arith, less, some) in
             kept_byte line byte bytes true is (kept_room line more) ∙ rest still ∙ ap TooMany left
 
--- BEHIND A RUN stands a zero or a line feed
+-- AFTER KEPT BYTES comes a zero or a line feed
 
 pub run_stops : (bytes : List ℕ) (byte : ℕ) (more : List ℕ) → drop (prefix_len is_kept bytes) bytes ≡ byte ∷ more → is_kept byte ≡ false
 run_stops [] byte more is = absurd cc
@@ -133,7 +133,7 @@ skips_zero line byte more stops other =
 pub ends_at_feed : (line : List ℕ) (byte : ℕ) (more : List ℕ) → byte ≡ LINE_FEED → takes_from line (byte ∷ more) ≡ LineTaken line (length more)
 ends_at_feed line byte more is = ap (λ (b : ℕ). takes_from line (b ∷ more)) is
 
--- WHAT THE LOOP SEES: a run, what stands behind it, and its first byte
+-- WHAT THE LOOP SEES: kept bytes, what follows them, and its first byte
 
 module _ (line bytes run behind : List ℕ) (count : ℕ) (counted : count ≡ prefix_len is_kept bytes) (front : run ≡ take count bytes) (back : behind ≡ drop count bytes) where
   run_length : length run ≡ prefix_len is_kept bytes
@@ -158,6 +158,6 @@ module _ (line bytes run behind : List ℕ) (count : ℕ) (counted : count ≡ p
   pub zero_skipped : (pushed : List ℕ) → 1 ≤ length behind → (get_or behind 0 0 ≡ LINE_FEED → ⊥) → takes_from pushed behind ≡ takes_from pushed (behind_first behind)
   zero_skipped pushed some other = ap (takes_from pushed) (cut_first behind some) ∙ skips_zero pushed (get_or behind 0 0) (behind_first behind) (first_stops some) (not_feed (get_or behind 0 0) other)
 
--- a line feed stands first
+-- a line feed comes first
 pub feed_taken : (pushed behind : List ℕ) → 1 ≤ length behind → get_or behind 0 0 ≡ LINE_FEED → takes_from pushed behind ≡ LineTaken pushed (length (behind_first behind))
 feed_taken pushed behind some is = ap (takes_from pushed) (cut_first behind some) ∙ ends_at_feed pushed (get_or behind 0 0) (behind_first behind) is

@@ -1,4 +1,4 @@
--- The acts on records, openings and windows keep the sizes of buffers.
+-- The interaction trees of records, openings and windows keep the sizes of buffers.
 use Rattle.std.proofs.Common.{◌≡◌, ℕ, zero, suc, ◌+◌, ◌≤◌, Bool, true, false, List, [], length, take, refl, sym, ap, subst, ◌∙◌, arith}
 use Rattle.std.specs.Prelude.{ℤ, pos, negsuc, Option, Result, Ok, Err, if◌then◌else◌, ◌&&◌, ◌==◌}
 use Rattle.std.proofs.lemmas.Bool.Decides.{nat_tests}
@@ -28,7 +28,7 @@ use Rattle.channels.specs.Windows.{with_window, zeros_at_end, reads_window, is_w
 use Rattle.channels.specs.Sizes.{AreSized, KeepsSizes}
 use Rattle.channels.proofs.SizeMoves.{sized_at, sized_state, sized_buffer, sized_both, length_filled}
 
--- WHAT IS ASKED
+-- REQUESTS
 
 pub ends_asks : {A : Type 0} (request : ReplyAct A) → KeepsSizes (asks request)
 ends_asks request files sized = ends_no_part ⊥ AreSized files sized request
@@ -58,7 +58,7 @@ ends_stores c block One bytes = ends_stores_block c block bytes
 ends_stores c block Two bytes = ends_stores_pages c block Two bytes
 ends_stores c block Three bytes = ends_stores_pages c block Three bytes
 
--- WHAT WAITS
+-- PENDING DATA
 
 pub settles_keeps : (c : ℕ) → IsChannel c → KeepsSizes (settles c)
 settles_keeps c is files sized = by_waiting (state_of c files).waiting

@@ -41,14 +41,14 @@ sized_at c is files state buffer recount sized fits small = record {
       | inr p ↦ (let same = get_or-set_other files.channels (c - 1) (d - 1) state _ p.1 in ap (λ (s : ChannelState). s.size) same ∙ sized.closed d at (sym (ap (λ (s : ChannelState). s.open_now) same) ∙ shut))
     ]
 
--- another state alone, with records of the same size
+-- only another state, with records of the same size
 pub sized_state : (c : ℕ) → IsChannel c → (files : Files) (state : ChannelState) (recount : ℕ) → AreSized files → state.size ≡ (state_of c files).size → state.open_now ≡ (state_of c files).open_now
     → AreSized (record { channels = slice_set files.channels (c - 1) state; recount = recount; buffers = files.buffers })
 sized_state c is files state recount sized size shape =
     subst (λ (b : List (List ℕ)). AreSized (record { channels = slice_set files.channels (c - 1) state; recount = recount; buffers = b })) (set-get_or files.buffers (c - 1) [])
     (sized_at c is files state (buffer_of c files.buffers) recount sized (sized.whole c is ∙ sym (ap bytes_of size)) (λ shut. size ∙ sized.closed c is (sym shape ∙ shut)))
 
--- another buffer alone, of the same size
+-- only another buffer, of the same size
 pub sized_buffer : (c : ℕ) → IsChannel c → (files : Files) (buffer : List ℕ) → AreSized files → length buffer ≡ length (buffer_of c files.buffers) → AreSized (record files { buffers = slice_set files.buffers (c - 1) buffer })
 sized_buffer c is files buffer sized same =
     subst (λ (s : List ChannelState). AreSized (record { channels = s; recount = files.recount; buffers = slice_set files.buffers (c - 1) buffer })) (set-get_or files.channels (c - 1) _)

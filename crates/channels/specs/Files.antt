@@ -1,4 +1,4 @@
--- A job's side of files: its channels, RECOUNT and the buffers; and which channel a number means.
+-- A job's files: its channels, RECOUNT and the buffers; and which channel a number means.
 use Rattle.std.specs.Prelude.{ℕ, ◌-◌, Bool, false, if◌then◌else◌, min, List, slice_index_or, slice_set, Option, Some, None, Result, Ok, Err, ℤ, pos}
 use Rattle.basic_values.specs.declared.errors.TheConstants.{ILLEGAL_CHANNEL, ALREADY_OPEN, NOT_OPEN}
 use Rattle.basic_values.specs.declared.limits.TheConstants.{LAST_CHANNEL}
@@ -20,7 +20,7 @@ pub record Files : Type 0 where
 
 -- ACTS
 
--- what is done on a job's files; it leaves them in no way of its own
+-- an interaction tree on a job's files; it leaves them in no way of its own
 abbrev pub FilesAct : Type 0 → Type 0
 FilesAct A = Act ⊥ Files A
 
@@ -28,11 +28,11 @@ FilesAct A = Act ⊥ Files A
 abbrev pub asks : {A : Type 0} → ReplyAct A → Files → FilesAct A
 asks request files = on no_part (λ _. request) files
 
--- a change of the files, for which nothing is asked
+-- a change of the files, without a request
 abbrev pub changes : (Files → Files) → Files → FilesAct Unit
 changes by files = Gives tt (by files)
 
--- what is tested before anything is asked: a value, or the number of an error
+-- what is tested before any request: a value, or the number of an error
 abbrev pub tested : {A : Type 0} → Result A ℕ → Files → FilesAct A
 tested (Ok value) files = Gives value files
 tested (Err number) files = Breaks (Faulted number) files
@@ -78,7 +78,7 @@ abbrev pub unless_open : Result ℕ ℕ → List ChannelState → Result ℕ ℕ
 unless_open (Ok c) channels = if is_open_at c channels then Err ALREADY_OPEN else Ok c
 unless_open (Err number) channels = Err number
 
--- one that an OPEN may take
+-- one that an OPEN can take
 abbrev pub channel_to_open : ℤ → List ChannelState → Result ℕ ℕ
 channel_to_open number channels = unless_open (channel_named number) channels
 

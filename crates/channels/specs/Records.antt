@@ -25,7 +25,7 @@ block_or_next block c files = if block == 0 then (state_of c files).next else bl
 
 -- GET
 
--- a record stands in the buffer: the blocks that there were, and zeros behind them
+-- a record is in the buffer: the blocks that there were, and zeros after them
 abbrev pub record_got : ℕ → ℕ → RecordRead → Files → Files
 record_got c block reading files =
     let bytes = BLOCK_BYTES * reading.0 in
@@ -40,7 +40,7 @@ abbrev pub gets_at : ℕ → ℕ → Files → FilesAct Unit
 gets_at c block files =
     fetches c block (state_of c files).size files then λ reading. changes (record_got c block reading)
 
--- what waits is written first
+-- pending data is written first
 abbrev pub gets_on : ℕ → ℕ → Files → FilesAct Unit
 gets_on c block files = settles c files then λ _ files. gets_at c (block_or_next block c files) files
 
@@ -62,7 +62,7 @@ puts_at c block files =
     stores c block (state_of c files).size (buffer_of c files.buffers) files
     then λ _. changes (record_put c block)
 
--- what waits is written first
+-- pending data is written first
 abbrev pub puts_on : ℕ → ℕ → Files → FilesAct Unit
 puts_on c block files = settles c files then λ _ files. puts_at c (block_or_next block c files) files
 

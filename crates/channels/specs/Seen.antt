@@ -1,4 +1,4 @@
--- The code's values as the job's side of files.
+-- The code's values as the files of a job.
 use Rattle.std.specs.Prelude.{ℕ, List}
 use Rattle.channels.specs.declared.channels.Channels.{Channels}
 use Rattle.channels.specs.declared.states.ChannelState.{ChannelState}
@@ -7,7 +7,7 @@ use Rattle.channels.specs.Files.{Files}
 abbrev pub files : Channels → List (List ℕ) → Files
 files channels buffers = record { channels = channels.states; recount = channels.recount; buffers = buffers }
 
--- what is known of each channel
+-- the state of each channel
 abbrev pub states_of : Channels → List ChannelState
 states_of channels = channels.states
 

@@ -1,4 +1,5 @@
--- The buffer of each channel has the bytes of its records; and what it is that acts keep this.
+-- The buffer of each channel has the bytes of its records; and what it means that interaction trees
+-- keep this.
 use Rattle.std.specs.Prelude.{◌≡◌, ℕ, Bool, false, List, length, Option, ℤ}
 use Rattle.monitor_calls.specs.declared.files.FileName.{FileName}
 use Rattle.monitor_calls.specs.declared.files.OpenKind.{OpenKind}
@@ -22,11 +23,11 @@ pub record AreSized (files : Files) : Type 0 where
   pub whole : (c : ℕ) → IsChannel c → length (buffer_of c files.buffers) ≡ bytes_of (state_of c files).size
   pub closed : (c : ℕ) → IsChannel c → (state_of c files).open_now ≡ false → (state_of c files).size ≡ One
 
--- buffers that have their sizes have them wherever the act ends
+-- buffers that have their sizes have them wherever the tree ends
 abbrev pub KeepsSizes : {A : Type 0} → (Files → FilesAct A) → Type 0
 KeepsSizes act = (files : Files) → AreSized files → EndsWhere AreSized (act files)
 
--- So it is with every act. An opening is one of a channel that is not open.
+-- Every tree keeps the sizes. An OPEN is on a channel that is not open.
 pub record SizesStay : Type 0 where
   pub opening : (c : ℕ) → IsChannel c → (name : FileName) (kind : OpenKind) (update : Bool) (code : Option ℕ)
       (size : RecordSize) (files : Files) → (state_of c files).open_now ≡ false → AreSized files

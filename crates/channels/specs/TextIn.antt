@@ -1,4 +1,4 @@
--- INPUT # on a channel: a line, over as many records as it takes.
+-- INPUT # on a channel: a line, from as many records as it needs.
 use Rattle.std.specs.Prelude.{ℕ, zero, suc, ◌+◌, ◌-◌, ◌*◌, Bool, ◌==◌, ◌&&◌, not, if◌then◌else◌, nat_lt, List, [], ◌∷◌, ◌++◌, length, take, drop, slice_index, ℤ}
 use Rattle.basic_values.specs.declared.errors.TheConstants.{END_OF_FILE, DATA_FORMAT_ERROR}
 use Rattle.basic_values.specs.declared.limits.TheConstants.{BLOCK_BYTES}
@@ -34,8 +34,8 @@ reads_next c files =
 
 -- TAKING BYTES
 
--- A line takes bytes up to its line feed, and none of the zeros: all of these bytes; those of the rest of the line; or
--- more than a line may take. The last two leave so many bytes.
+-- A line takes bytes up to its line feed, and none of the zeros: all of these bytes; or those of
+-- the rest of the line; or more than a line can have. The last two leave this many bytes.
 abbrev pub takes_from : List ℕ → List ℕ → Taken
 takes_from line [] = AllTaken line
 takes_from line (byte ∷ bytes) =
@@ -44,7 +44,7 @@ takes_from line (byte ∷ bytes) =
     else if nat_lt (length line + 1) MOST_TAKEN then takes_from (line ++ byte ∷ []) bytes
     else TooMany (length bytes)
 
--- the bytes of the last reading that no line has taken
+-- the bytes of the last record that no line has taken
 abbrev pub unread_bytes : ChannelState → List ℕ → List ℕ
 unread_bytes state buffer = take state.unread (drop (state.loaded - state.unread) buffer)
 
@@ -56,7 +56,7 @@ with_unread c count files = with_state c (record (state_of c files) { unread = c
 
 -- THE LINE
 
--- without the return in front of its line feed
+-- without the CR before its line feed
 abbrev pub without_last_return : List ℕ → List ℕ
 without_last_return line =
     let kept = length line - 1 in
@@ -67,14 +67,14 @@ ends_line line files =
     if nat_lt MOST_LINE (length line) then Breaks (Faulted DATA_FORMAT_ERROR) files
     else Gives (IsWhole line) files
 
--- at the end of the file what was taken is the line
+-- at the end of the file, what was taken is the line
 abbrev pub ends_at_stop : List ℕ → Break ⊥ → Files → FilesAct Turn
 ends_at_stop line (Faulted number) files =
     if number == END_OF_FILE && nat_lt 0 (length line) then ends_line line files
     else Breaks (Faulted number) files
 ends_at_stop line why files = Breaks why files
 
--- what the reading of the next record leads to
+-- what reading the next record leads to
 abbrev pub goes_on_with : List ℕ → FilesAct Unit → FilesAct Turn
 goes_on_with line act =
     at_ends (λ files. files) (λ _ files. Gives (GoesOn line) files) (ends_at_stop line) act
@@ -84,7 +84,7 @@ behind_taking c (AllTaken line) files = goes_on_with line (reads_next c (with_un
 behind_taking c (LineTaken line left) files = ends_line (without_last_return line) (with_unread c left files)
 behind_taking c (TooMany left) files = Breaks (Faulted DATA_FORMAT_ERROR) (with_unread c left files)
 
--- what is unread is taken; where the line goes on behind it, the next record is read
+-- what is unread is taken; if the line continues after it, the next record is read
 abbrev pub takes_turn : ℕ → List ℕ → Files → FilesAct Turn
 takes_turn c line files = behind_taking c (takes_unread c line files) files
 
@@ -92,7 +92,8 @@ abbrev pub behind_turn : (List ℕ → Files → FilesAct (List ℕ)) → Turn �
 behind_turn more (GoesOn line) files = more line files
 behind_turn more (IsWhole line) files = Gives line files
 
--- Each turn but the last reads a record. So many turns come to no end only if there are more blocks than a disk has.
+-- Each turn except the last reads a record. This many turns reach no end only if there are more
+-- blocks than a disk has.
 abbrev pub line_from : ℕ → ℕ → List ℕ → Files → FilesAct (List ℕ)
 line_from zero c line files = Breaks Gone files
 line_from (suc more) c line files = takes_turn c line files then behind_turn (line_from more c)
@@ -105,13 +106,13 @@ reads_line channel files =
     tested (channel_opened channel files.channels) files then λ c files.
     settles c files then λ _. whole_line c
 
--- AT ONCE. No promise of a public call speaks of it.
+-- SEVERAL BYTES TOGETHER. No contract of a public call mentions this.
 
--- whether a byte becomes one of the line
+-- whether a byte is added to the line
 abbrev pub is_kept : ℕ → Bool
 is_kept byte = not (byte == 0) && not (byte == LINE_FEED)
 
--- how many bytes more a line may keep
+-- how many more bytes a line can have
 abbrev pub line_room : List ℕ → ℕ
 line_room line = MOST_TAKEN - 1 - length line
 

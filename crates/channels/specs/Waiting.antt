@@ -1,4 +1,4 @@
--- What waits on a channel to be written: bytes that PRINT # gathered, or a window that was written to.
+-- Pending data of a channel: bytes that PRINT # collected, or a changed window.
 use Rattle.std.specs.Prelude.{ℕ, ◌+◌, Bool, true, false, if◌then◌else◌, nat_le, take}
 use Rattle.job_model.specs.Act.{Gives, ◌then◌}
 use Rattle.record_fields.specs.Buffers.{buffer_of}
@@ -12,7 +12,7 @@ use Rattle.channels.specs.Transfers.{stores, stores_block}
 abbrev pub with_waiting : ℕ → Waiting → Files → Files
 with_waiting c waiting files = with_state c (record (state_of c files) { waiting = waiting }) files
 
--- the channel goes on behind the record of gathered bytes
+-- the channel moves to the block after the record of collected bytes
 abbrev pub gathered_stored : ℕ → Files → Files
 gathered_stored c files =
     let state = state_of c files in
@@ -36,11 +36,11 @@ stores_waiting c (Bytes count) files = stores_gathered c count files
 stores_waiting c (Window block false) files = Gives tt files
 stores_waiting c (Window block true) files = stores_window c block files
 
--- what waits on the channel is written
+-- the pending data of the channel is written
 abbrev pub settles : ℕ → Files → FilesAct Unit
 settles c files = stores_waiting c (state_of c files).waiting files
 
--- BEFORE A BYTE IS GATHERED, a whole record of bytes has to be written, and a window that was written to
+-- BEFORE A BYTE IS COLLECTED, a whole record of bytes has to be written, and a changed window
 
 abbrev pub is_due : ℕ → Waiting → Bool
 is_due bytes Nothing = false

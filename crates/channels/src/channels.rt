@@ -3,7 +3,9 @@
 ghost use Rattle.std.specs.Prelude.{◌≡◌, ◌-◌, Some, IfOk, slice_set, replicate};
 ghost use Rattle.job_model.specs.Follow.{answered_by};
 ghost use Rattle.record_fields.specs.Buffers.{IsChannel};
-ghost use Rattle.channels.specs.Files.{Files, tested, closed_channel, channel_at, channel_named, channel_to_open, channel_opened, channel_blocks, channel_column, shown_count};
+ghost use Rattle.channels.specs.Files.{Files, tested, closed_channel, channel_at, channel_named};
+ghost use Rattle.channels.specs.Files.{channel_to_open, channel_opened, channel_blocks};
+ghost use Rattle.channels.specs.Files.{channel_column, shown_count};
 ghost use Rattle.channels.specs.Seen.{states_of, recount_of};
 
 use crate::states::{CLOSED, ChannelState};
@@ -21,7 +23,7 @@ pub struct Channels {
 }
 
 impl Channels {
-    /// No channel is open.
+    /// Returns channels of which none is open.
     pub fn new() -> Channels
         ensures states { states_of result ≡ replicate BUFFER_COUNT closed_channel }
         ensures recount { recount_of result ≡ 0 }
@@ -32,7 +34,7 @@ impl Channels {
         }
     }
 
-    /// What is known of a channel.
+    /// Returns the state of a channel.
     pub fn state(&self, channel: u8) -> ChannelState
         requires { IsChannel channel }
         ensures { result ≡ channel_at channel (states_of self.now) }
@@ -40,7 +42,7 @@ impl Channels {
         self.states[(channel - 1) as usize]
     }
 
-    /// Gives a channel another state.
+    /// Sets the state of a channel.
     pub(crate) fn set(&mut self, channel: u8, state: ChannelState)
         requires { IsChannel channel }
         ensures states { self.new.states ≡ slice_set self.old.states (channel - 1) state }
@@ -49,14 +51,14 @@ impl Channels {
         self.states[(channel - 1) as usize] = state;
     }
 
-    /// RECOUNT of the job: how many bytes the last GET read.
+    /// Returns the job's RECOUNT: how many bytes the last GET read.
     pub fn recount(&self) -> Int
         ensures { result ≡ shown_count (recount_of self.now) }
     {
         shown_count(u32::from(self.recount))
     }
 
-    /// How many blocks the records of a channel have: 1 where it is not open.
+    /// Returns the number of blocks of a channel's records; 1 if it is not open.
     pub fn blocks(&self, channel: u8) -> u8
         requires { IsChannel channel }
         ensures { result ≡ channel_blocks channel (states_of self.now) }
@@ -69,7 +71,8 @@ impl Channels {
         }
     }
 
-    /// The channel of that number, for an OPEN. Error 46 outside 1 to 12, 7 where it is open.
+    /// Returns the channel with this number, for an OPEN. Error 46: it is not from 1 to 12; 7: it
+    /// is open.
     pub fn to_open(&self, channel: Int) -> Result<u8, Fault>
         ensures which { result ≡ channel_to_open channel (states_of self.now) }
         ensures channel { IfOk result IsChannel }
@@ -82,8 +85,8 @@ impl Channels {
         }
     }
 
-    /// The channel of that number, where it is open. Error 46 outside 1 to 12, 9 where it is not
-    /// open.
+    /// Returns the channel with this number, which must be open. Error 46: it is not from 1 to 12;
+    /// 9: it is not open.
     pub fn opened(&self, channel: Int) -> Result<u8, Fault>
         ensures which { result ≡ channel_opened channel (states_of self.now) }
         ensures channel { IfOk result IsChannel }
@@ -96,7 +99,7 @@ impl Channels {
         }
     }
 
-    /// The column of a channel, the manual's POS. Errors 46 and 9 as of `opened`.
+    /// Returns the column of a channel: the manual's POS. Errors 46 and 9 as for `opened`.
     pub fn column(&self, channel: Int) -> Result<Int, Fault>
         ensures { result ≡ channel_column channel (states_of self.now) }
     {
@@ -104,7 +107,7 @@ impl Channels {
         Ok(shown_count(self.state(channel).column))
     }
 
-    /// The channel of that number, where it is open; its error ends the statement.
+    /// Returns the channel with this number, which must be open; an error ends the statement.
     pub(crate) fn open_channel(&self, channel: Int) -> Result<u8, Stop>
         ensures judged { (files : Files) → answered_by result files
             ≡ Some (tested (channel_opened channel self.now.states) files) }
@@ -117,7 +120,7 @@ impl Channels {
     }
 }
 
-/// The channel of a number, open or not. Error 46 outside 1 to 12.
+/// Returns the channel with this number, open or not. Error 46: it is not from 1 to 12.
 pub(crate) fn channel_named(number: Int) -> Result<u8, Fault>
     ensures which { result ≡ channel_named number }
     ensures channel { IfOk result IsChannel }
@@ -128,7 +131,7 @@ pub(crate) fn channel_named(number: Int) -> Result<u8, Fault>
     }
 }
 
-/// A count as a program sees it.
+/// Returns a count as a program sees it.
 fn shown_count(count: u32) -> Int
     ensures { result ≡ shown_count count }
 {

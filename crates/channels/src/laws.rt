@@ -1,8 +1,9 @@
-//! What a user relies on, as a law over the trees: it is the contract of a function that does nothing.
+//! A law about the definitions of this crate: the contract of a function with an empty body.
 
 ghost use Rattle.channels.specs.Sizes.{SizesStay};
 
-/// The buffer of each channel has the size of its records, wherever an act ends.
+/// Wherever an interaction tree on files ends, the buffer of each channel has the size of its
+/// records.
 pub fn sizes_stay()
     ensures { SizesStay }
 {}

@@ -1,12 +1,10 @@
-//! The job's side of files, over any port: channels that are open on files, records, text, and the
-//! windows of virtual arrays.
+//! A job's channels, over any port: records, text, and the windows of arrays in files.
 //!
-//! Each call of `Channels` that asks carries the path that it goes through its tree:
-//! `specs/Openings` has those of OPEN, CLOSE and the quiet closing, `specs/Records` of GET, PUT and
-//! UNLOCK, `specs/TextOut` of PRINT #, `specs/TextIn` of INPUT #, `specs/Windows` of virtual
-//! arrays. `laws` says that each buffer keeps the size of its channel's records. It stands on
-//! `job_model` for asking, on the buffers of `record_fields`, and on the columns of
-//! `terminal_line`.
+//! Each call of `Channels` that makes requests promises an execution of its interaction tree.
+//! `specs/Openings` has the trees of OPEN, CLOSE and the implicit close, `specs/Records` of GET,
+//! PUT and UNLOCK, `specs/TextOut` of PRINT #, `specs/TextIn` of INPUT #, and `specs/Windows` of
+//! arrays in files. `laws` says that each buffer keeps the size of its channel's records. The
+//! buffers are those of `record_fields`, the columns those of `terminal_line`.
 #![tactic(auto)]
 
 mod channels;

@@ -3,17 +3,18 @@
 ghost use Rattle.std.specs.Prelude.{◌≡◌, ◌≤◌, ◌++◌, [], length, take, nat_lt, IfOk, OnOk};
 ghost use Rattle.std.specs.List.{prefix_len};
 ghost use Rattle.channels.specs.declared.lines.TheConstants.{MOST_LINE};
-ghost use Rattle.channels.specs.TextIn.{takes_from, without_last_return, is_kept, line_room, bytes_left};
+ghost use Rattle.channels.specs.TextIn.{takes_from, without_last_return, is_kept, line_room};
+ghost use Rattle.channels.specs.TextIn.{bytes_left};
 
 use basic_values::limits::MOST_BLOCKS;
 use basic_values::{NoMemory, Text};
 use std::alloc::Global;
 use std::marker::Model;
 
-/// The most bytes that a line takes of its file, its line feed with them. Zeros do not count.
+/// The most bytes that a line takes from its file, with its line feed. Zeros do not count.
 pub(crate) const MOST_TAKEN: usize = 32767;
 
-/// The most bytes that a line has without its end.
+/// The most bytes of a line without its end.
 pub(crate) const MOST_LINE: usize = 32765;
 
 /// More records than a disk has blocks.
@@ -22,7 +23,7 @@ pub(crate) const MOST_TURNS: u16 = MOST_BLOCKS + 1;
 /// The byte that ends a line.
 pub(crate) const LINE_FEED: u8 = 10;
 
-/// The byte that a line loses in front of its line feed.
+/// The byte that is dropped before a line feed.
 pub(crate) const RETURN: u8 = 13;
 
 /// The bytes that a line has so far.
@@ -39,21 +40,21 @@ impl Model for Line {
     ghost view = { λ line. line.bytes.items };
 }
 
-/// What a line took of some bytes.
+/// The result of taking some bytes into a line.
 #[derive(Drop)]
 pub(crate) enum Taken {
-    /// All of them, and it goes on behind them.
+    /// All of them, and the line continues after them.
     AllTaken(Line),
-    /// Those up to its line feed. So many are left.
+    /// Those up to its line feed. This many are left.
     LineTaken { line: Line, left: usize },
-    /// More than a line may take, and no line feed among them. So many are left.
+    /// More than a line can have, without a line feed. This many are left.
     TooMany { left: usize },
 }
 
-/// What a record leaves of a line.
+/// What a record leads to.
 #[derive(Drop)]
 pub(crate) enum Turn {
-    /// The line goes on with the next record.
+    /// The line continues with the next record.
     GoesOn(Line),
     IsWhole(Line),
 }
@@ -67,7 +68,7 @@ impl Line {
         }
     }
 
-    /// How many bytes more it may keep.
+    /// Returns how many more bytes it can have.
     fn room(&self) -> usize
         ensures { result ≡ line_room self.now }
     {
@@ -81,21 +82,21 @@ impl Line {
         Ok(())
     }
 
-    /// Whether it has bytes.
+    /// Returns whether it has bytes.
     pub(crate) fn is_begun(&self) -> bool
         ensures { result ≡ nat_lt 0 (length self.now) }
     {
         0 < self.bytes.len()
     }
 
-    /// Whether it has more bytes than a line can have.
+    /// Returns whether it has more bytes than a line can have.
     pub(crate) fn is_too_long(&self) -> bool
         ensures { result ≡ nat_lt MOST_LINE (length self.now) }
     {
         MOST_LINE < self.bytes.len()
     }
 
-    /// The line without the return at its end.
+    /// Returns the line without the CR at its end.
     pub(crate) fn without_last_return(self) -> Line
         ensures { result ≡ without_last_return self }
     {
@@ -105,7 +106,7 @@ impl Line {
         line
     }
 
-    /// Its bytes as a text.
+    /// Returns its bytes as a string.
     pub(crate) fn text(&self, alloc: Global) -> Result<Text, NoMemory>
         ensures { IfOk result (λ text. text ≡ self.now) }
     {
@@ -115,7 +116,8 @@ impl Line {
         }
     }
 
-    /// Takes bytes up to its line feed, run by run. Zeros are skipped.
+    /// Takes bytes up to its line feed. Zeros are skipped, and the bytes between zeros are taken
+    /// together.
     pub(crate) fn take_from(self, bytes: &[u8]) -> Result<Taken, NoMemory>
         ensures taken { IfOk result (λ taken. taken ≡ takes_from self bytes.now) }
         ensures left { IfOk result (λ taken. bytes_left taken ≤ length bytes.now) }
@@ -146,7 +148,7 @@ impl Line {
 }
 
 impl Taken {
-    /// How many bytes are left.
+    /// Returns how many bytes are left.
     pub(crate) fn left(&self) -> usize
         ensures { result ≡ bytes_left self.now }
     {
@@ -158,14 +160,14 @@ impl Taken {
     }
 }
 
-/// Whether a byte becomes one of the line.
+/// Returns whether a byte is added to the line.
 fn is_kept(byte: u8) -> bool
     ensures { result ≡ is_kept byte }
 {
     byte != 0 && byte != LINE_FEED
 }
 
-/// How many bytes in front become bytes of the line.
+/// Returns how many bytes at the front are added to the line.
 fn run_in_front(bytes: &[u8]) -> usize
     ensures count { result ≡ prefix_len is_kept bytes.now }
     ensures within { result ≤ length bytes.now }
@@ -173,7 +175,7 @@ fn run_in_front(bytes: &[u8]) -> usize
     bytes.iter().take_while(|byte| is_kept(**byte)).count()
 }
 
-/// How many bytes the line has without a return at its end.
+/// Returns how many bytes the line has without a CR at its end.
 fn length_without_return(line: &[u8]) -> usize
     ensures { take result line.now ≡ without_last_return line.now }
 {

@@ -1,4 +1,4 @@
-//! OPEN, CLOSE, and the quiet closing.
+//! OPEN, CLOSE, and the implicit close.
 
 ghost use Rattle.std.specs.Prelude.{◌≡◌, [], Some, IfOk};
 ghost use Rattle.std.specs.Option.{option_map};
@@ -6,7 +6,9 @@ ghost use Rattle.job_model.specs.Follow.{Follows, answered_by};
 ghost use Rattle.job_model.specs.Play as play;
 ghost use Rattle.record_fields.specs.Buffers.{IsChannel};
 ghost use Rattle.channels.specs.Files.{Files, tested, channel_named, is_open_at};
-ghost use Rattle.channels.specs.Openings.{with_opened, opens_file, with_closed, closes_on, if_opened, closes_file, quietly, shuts_on, shuts_file, closes_all};
+ghost use Rattle.channels.specs.Openings.{with_opened, opens_file, with_closed, closes_on};
+ghost use Rattle.channels.specs.Openings.{if_opened, closes_file, quietly, shuts_on, shuts_file};
+ghost use Rattle.channels.specs.Openings.{closes_all};
 ghost use Rattle.channels.specs.Transfers.{asks_close};
 ghost use Rattle.channels.specs.Waiting.{settles};
 ghost use Rattle.channels.specs.Seen.{files};
@@ -21,8 +23,8 @@ use record_fields::{Buffers, RecordSize};
 use std::alloc::Global;
 
 impl Channels {
-    /// OPEN of a channel that `to_open` gives, for records of this size. The code is for a file
-    /// that is made. The errors are those of the monitor.
+    /// Does OPEN on a channel that `to_open` returned, for records of this size. The code is for a
+    /// new file. The errors are those of the monitor.
     pub fn open_file<P: Port>(
         &mut self,
         alloc: Global,
@@ -53,7 +55,7 @@ impl Channels {
         }
     }
 
-    /// The channel is open.
+    /// Notes that the channel is open.
     fn note_opened(&mut self, channel: u8, update: bool, size: RecordSize)
         requires { IsChannel channel }
         ensures { files self.new []
@@ -70,8 +72,8 @@ impl Channels {
         );
     }
 
-    /// CLOSE of one channel: it tells which one it closed, and none where that was not open. Error
-    /// 46, and those of the monitor.
+    /// Does CLOSE of one channel, and returns the channel, or none if it was not open. Error 46,
+    /// and those of the monitor.
     pub fn close_file<P: Port>(
         &mut self,
         alloc: Global,
@@ -125,7 +127,7 @@ impl Channels {
         Ok(Some(channel))
     }
 
-    /// The channel is closed.
+    /// Notes that the channel is closed.
     fn note_closed(&mut self, buffers: &mut Buffers, channel: u8)
         requires { IsChannel channel }
         ensures { files self.new buffers.new ≡ with_closed channel (files self.old buffers.old) }
@@ -134,7 +136,7 @@ impl Channels {
         self.set(channel, CLOSED);
     }
 
-    /// The quiet closing of all channels, in rising order. No refusal ends it.
+    /// Closes all channels implicitly, in increasing order. Refusals are ignored.
     pub fn close_all<P: Port>(
         &mut self,
         alloc: Global,
@@ -151,8 +153,8 @@ impl Channels {
         Ok(())
     }
 
-    /// The quiet closing of one channel: it tells which one it closed, and none where that was not
-    /// open. Refusals are ignored.
+    /// Closes one channel implicitly, and returns the channel, or none if it was not open. Refusals
+    /// are ignored.
     pub fn shut_file<P: Port>(
         &mut self,
         alloc: Global,
@@ -215,7 +217,7 @@ fn ask_close_quietly<P: Port>(alloc: Global, port: &mut P, channel: u8) -> Resul
     past_faults(closed)
 }
 
-/// A refusal is ignored.
+/// Ignores a refusal.
 fn past_faults(outcome: Result<(), Stop>) -> Result<(), Stop>
     ensures { (files : Files) → option_map quietly (answered_by outcome files)
         ≡ answered_by result files }
@@ -226,7 +228,7 @@ fn past_faults(outcome: Result<(), Stop>) -> Result<(), Stop>
     }
 }
 
-/// The channel of a number, open or not; its error ends the statement.
+/// Returns the channel with this number, open or not; an error ends the statement.
 fn any_channel(number: Int) -> Result<u8, Stop>
     ensures judged { (files : Files) → answered_by result files
         ≡ Some (tested (channel_named number) files) }

@@ -7,7 +7,9 @@ ghost use Rattle.job_model.specs.Play as play;
 ghost use Rattle.record_fields.specs.Buffers.{IsChannel};
 ghost use Rattle.record_fields.specs.Sizes.{blocks_of};
 ghost use Rattle.channels.specs.Files.{Files, tested, channel_at};
-ghost use Rattle.channels.specs.Records.{record_named, block_or_next, record_got, gets_at, gets_on, gets_record, record_put, puts_at, puts_on, puts_record, unlocks};
+ghost use Rattle.channels.specs.Records.{record_named, block_or_next, record_got, gets_at, gets_on};
+ghost use Rattle.channels.specs.Records.{gets_record, record_put, puts_at, puts_on, puts_record};
+ghost use Rattle.channels.specs.Records.{unlocks};
 ghost use Rattle.channels.specs.Seen.{files};
 
 use crate::channels::Channels;
@@ -21,8 +23,8 @@ use record_fields::{Buffers, natural};
 use std::alloc::Global;
 
 impl Channels {
-    /// GET: a record comes into the channel's buffer, from this block on. Block 0 is the next one.
-    /// Errors 46, 9, 31, and those of the monitor.
+    /// Does GET: reads a record into the channel's buffer, from this block on. Block 0 is the next
+    /// one. Errors 46, 9, 31, and those of the monitor.
     pub fn get<P: Port>(
         &mut self,
         alloc: Global,
@@ -77,7 +79,7 @@ impl Channels {
         Ok(())
     }
 
-    /// The record stands in the buffer.
+    /// Puts the record into the buffer.
     fn keep_record(
         &mut self,
         buffers: &mut Buffers,
@@ -108,7 +110,7 @@ impl Channels {
         );
     }
 
-    /// PUT: the channel's buffer is written as a record, from this block on. Block 0 is the next
+    /// Does PUT: writes the channel's buffer as a record, from this block on. Block 0 is the next
     /// one. Errors 46, 9, 31, and those of the monitor.
     pub fn put<P: Port>(
         &mut self,
@@ -165,7 +167,7 @@ impl Channels {
         Ok(())
     }
 
-    /// The buffer is written.
+    /// Notes that the buffer is written.
     fn note_put(&mut self, channel: u8, block: u16)
         requires channel { IsChannel channel }
         requires blocks { block + blocks_of (channel_at channel self.old.states).size
@@ -184,8 +186,8 @@ impl Channels {
         );
     }
 
-    /// UNLOCK: the monitor lets go of what the channel holds. Errors 46, 9, and those of the
-    /// monitor.
+    /// Does UNLOCK: the monitor releases what the channel has locked. Errors 46, 9, and those of
+    /// the monitor.
     pub fn unlock<P: Port>(
         &self,
         alloc: Global,
@@ -201,7 +203,7 @@ impl Channels {
         ask_unlock(alloc, port, channel)
     }
 
-    /// Block 0 is the next one.
+    /// Returns the block, or the next one for block 0.
     fn block_or_next(&self, channel: u8, block: u16) -> u16
         requires { IsChannel channel }
         ensures { result ≡ block_or_next block channel (files self.now []) }
@@ -214,7 +216,7 @@ impl Channels {
     }
 }
 
-/// The block that RECORD names; its error ends the statement.
+/// Returns the block that RECORD names; an error ends the statement.
 fn record_named(number: Int) -> Result<u16, Stop>
     ensures { (files : Files) → answered_by result files
         ≡ Some (tested (record_named number) files) }

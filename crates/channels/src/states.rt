@@ -1,15 +1,14 @@
-//! What is known of a channel.
+//! The state of a channel.
 
 use record_fields::RecordSize;
 
-/// What has to be written before the channel goes on.
+/// Pending data: what has to be written before the channel is used otherwise.
 #[derive(Clone, Copy)]
 pub enum Waiting {
     Nothing,
-    /// So many bytes that PRINT # gathered in the buffer.
+    /// This many bytes that PRINT # collected in the buffer.
     Bytes(u16),
-    /// A block of the file that stands in the buffer for a virtual array. It is written where it
-    /// is dirty.
+    /// A block of the file that is in the buffer for an array. It is written if it is dirty.
     Window { block: u16, dirty: bool },
 }
 
@@ -30,7 +29,7 @@ pub struct ChannelState {
     pub loaded: u16,
     /// How many of them, the last ones, no line has taken.
     pub unread: u16,
-    /// Where in its line the next byte will stand. The first column is 0.
+    /// The column of the next byte. The first column is 0.
     pub column: u32,
 }
 

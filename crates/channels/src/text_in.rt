@@ -1,4 +1,4 @@
-//! INPUT # on a channel: a line, over as many records as it takes.
+//! INPUT # on a channel: a line, from as many records as it needs.
 
 ghost use Rattle.std.specs.Prelude.{◌≡◌, ◌+◌, ◌-◌, ◌≤◌, [], length, take, drop, Some, IfOk, Err};
 ghost use Rattle.std.specs.Option.{option_map};
@@ -7,7 +7,9 @@ ghost use Rattle.job_model.specs.Follow.{Follows, answered_by};
 ghost use Rattle.job_model.specs.Play as play;
 ghost use Rattle.record_fields.specs.Buffers.{IsChannel, buffer_of};
 ghost use Rattle.channels.specs.Files.{Files, channel_at};
-ghost use Rattle.channels.specs.TextIn.{record_loaded, reads_next, unread_bytes, takes_unread, with_unread, ends_line, goes_on_with, takes_turn, whole_line, reads_line, bytes_left};
+ghost use Rattle.channels.specs.TextIn.{record_loaded, reads_next, unread_bytes, takes_unread};
+ghost use Rattle.channels.specs.TextIn.{with_unread, ends_line, goes_on_with, takes_turn};
+ghost use Rattle.channels.specs.TextIn.{whole_line, reads_line, bytes_left};
 ghost use Rattle.channels.specs.Seen.{files};
 
 use crate::channels::Channels;
@@ -22,9 +24,9 @@ use record_fields::Buffers;
 use std::alloc::Global;
 
 impl Channels {
-    /// The next line of INPUT #, without its end. Errors 46, 9, 50 where it is too long, and those
-    /// of the monitor: 11 at the end of the file, where nothing was taken. Bytes that were taken
-    /// before an error are gone.
+    /// Returns the next line of INPUT #, without its end. Errors 46, 9, 50 if it is too long, and
+    /// those of the monitor: 11 at the end of the file, if nothing was taken. Bytes that were taken
+    /// before an error are lost.
     pub fn read_line<P: Port>(
         &mut self,
         alloc: Global,
@@ -41,7 +43,7 @@ impl Channels {
         self.read_whole(alloc, buffers, port, channel)
     }
 
-    /// The line, record by record.
+    /// Reads the line, record by record.
     fn read_whole<P: Port>(
         &mut self,
         alloc: Global,
@@ -64,7 +66,7 @@ impl Channels {
         Err(Stop::Expired)
     }
 
-    /// Takes what is unread. Where the line goes on behind it, the next record is read.
+    /// Takes what is unread. If the line continues after it, reads the next record.
     fn take_turn<P: Port>(
         &mut self,
         alloc: Global,
@@ -85,7 +87,7 @@ impl Channels {
         }
     }
 
-    /// Takes bytes of what is unread, up to a line feed.
+    /// Takes unread bytes, up to a line feed.
     fn take_unread(&mut self, buffers: &Buffers, channel: u8, line: Line) -> Result<Taken, NoMemory>
         requires { IsChannel channel }
         ensures taken { IfOk result (λ taken. taken
@@ -98,7 +100,7 @@ impl Channels {
         Ok(taken)
     }
 
-    /// The bytes of the last reading that no line has taken.
+    /// Returns the bytes of the last record that no line has taken.
     fn unread<'a>(&self, buffers: &'a Buffers, channel: u8) -> &'a [u8]
         requires { IsChannel channel }
         ensures bytes { result.now
@@ -109,7 +111,7 @@ impl Channels {
         unread_of(buffers.buffer(channel), state.loaded, state.unread)
     }
 
-    /// So many bytes are unread.
+    /// Notes that this many bytes are unread.
     fn note_unread(&mut self, channel: u8, left: usize)
         requires channel { IsChannel channel }
         requires short { left ≤ 65535 }
@@ -120,7 +122,7 @@ impl Channels {
         self.set(channel, ChannelState { unread, ..state });
     }
 
-    /// Reads the next record; at the end of the file what the line has so far is the line.
+    /// Reads the next record. At the end of the file, the line is what was taken so far.
     fn go_on_with<P: Port>(
         &mut self,
         alloc: Global,
@@ -159,7 +161,7 @@ impl Channels {
         Ok(())
     }
 
-    /// The record stands in the buffer, and none of it is taken.
+    /// Puts the record into the buffer; none of it is taken.
     fn keep_loaded(&mut self, buffers: &mut Buffers, channel: u8, count: u16, bytes: &[u8])
         requires channel { IsChannel channel }
         requires few { count ≤ MOST_RECORD_BLOCKS }
@@ -183,7 +185,7 @@ impl Channels {
     }
 }
 
-/// The last `unread` of so many bytes.
+/// Returns the last `unread` of this many bytes.
 fn unread_of(buffer: &[u8], loaded: u16, unread: u16) -> &[u8]
     ensures bytes { result.now ≡ take unread (drop (loaded - unread) buffer.entry.now) }
     ensures short { length result.now ≤ 65535 }
@@ -193,7 +195,7 @@ fn unread_of(buffer: &[u8], loaded: u16, unread: u16) -> &[u8]
     &rest[..(unread as usize).min(rest.len())]
 }
 
-/// The line is whole, where it has no more bytes than a line can have.
+/// Ends the line, if it is not too long.
 fn ends_line(line: Line) -> Result<Turn, Stop>
     ensures { (files : Files) → answered_by result files ≡ Some (ends_line line files) }
 {
@@ -204,7 +206,7 @@ fn ends_line(line: Line) -> Result<Turn, Stop>
     }
 }
 
-/// What a reading that stopped leaves of the line.
+/// Returns what a failed read leaves of the line.
 fn ends_at_stop(line: Line, stop: Stop) -> Result<Turn, Stop>
     ensures { (files : Files) → option_map (goes_on_with line) (answered_by (Err stop) files)
         ≡ answered_by result files }

@@ -19,8 +19,8 @@ use std::alloc::Global;
 use terminal_line::column_from;
 
 impl Channels {
-    /// One writing of PRINT #: its bytes are gathered in the buffer, and written where that is
-    /// full. Errors 46, 9, and those of the monitor, behind which the gathered bytes wait.
+    /// Does one write of PRINT #: collects bytes in the buffer, and writes it each time it is full.
+    /// Errors 46, 9, and those of the monitor, after which the collected bytes stay pending.
     pub fn write_text<P: Port>(
         &mut self,
         alloc: Global,
@@ -38,7 +38,7 @@ impl Channels {
         self.gather(alloc, buffers, port, channel, bytes)
     }
 
-    /// Gathers bytes, as many at a time as the buffer has room for.
+    /// Collects bytes, as many at a time as the buffer has room for.
     fn gather<P: Port>(
         &mut self,
         alloc: Global,
@@ -63,7 +63,7 @@ impl Channels {
         Ok(())
     }
 
-    /// Gathers bytes that the buffer has room for, and writes it where they fill it.
+    /// Collects bytes that fit into the buffer, and writes it if they fill it.
     fn gather_run<P: Port>(
         &mut self,
         alloc: Global,
@@ -86,7 +86,7 @@ impl Channels {
         self.settle_due(alloc, buffers, port, channel)
     }
 
-    /// The bytes stand in the buffer.
+    /// Puts the bytes into the buffer.
     fn keep_run(&mut self, buffers: &mut Buffers, channel: u8, run: &[u8])
         requires channel { IsChannel channel }
         requires fits { bytes_waiting (channel_at channel self.old.states).waiting + length run.now
@@ -111,7 +111,7 @@ impl Channels {
 }
 
 impl ChannelState {
-    /// How many bytes more the buffer has room for.
+    /// Returns how many more bytes fit into the buffer.
     fn room(&self) -> u16
         ensures { result ≡ bytes_of self.now.size - bytes_waiting self.now.waiting }
     {
@@ -120,7 +120,7 @@ impl ChannelState {
 }
 
 impl Waiting {
-    /// How many bytes are gathered.
+    /// Returns how many bytes are collected.
     fn bytes(&self) -> u16
         ensures { result ≡ bytes_waiting self.now }
     {

@@ -1,7 +1,8 @@
-//! What is asked of the monitor for a channel, and what its reply comes to.
+//! The requests for a channel, and the results of their replies.
 
 ghost use Rattle.std.specs.Prelude.{◌≡◌, ◌+◌, ◌≤◌, length, drop, IfOk, OnOk};
-ghost use Rattle.basic_values.specs.declared.limits.TheConstants.{BLOCK_BYTES, MOST_BLOCKS, MOST_RECORD_BLOCKS};
+ghost use Rattle.basic_values.specs.declared.limits.TheConstants.{BLOCK_BYTES, MOST_BLOCKS};
+ghost use Rattle.basic_values.specs.declared.limits.TheConstants.{MOST_RECORD_BLOCKS};
 ghost use Rattle.monitor_calls.specs.declared.calls.Request.TheVariants as request;
 ghost use Rattle.job_model.specs.Act.{Gives, ◌then◌};
 ghost use Rattle.job_model.specs.Follow.{Follows, answered_by};
@@ -9,7 +10,9 @@ ghost use Rattle.job_model.specs.Play as play;
 ghost use Rattle.job_model.specs.Replies.{asks_for, opened_by};
 ghost use Rattle.record_fields.specs.Sizes.{blocks_of};
 ghost use Rattle.channels.specs.Files.{Files, asks};
-ghost use Rattle.channels.specs.Transfers.{asks_close, asks_unlock, joined, asks_block, asks_pages, fetches, page_from, pages_from, stores_block, stores_pages, stores};
+ghost use Rattle.channels.specs.Transfers.{asks_close, asks_unlock, joined, asks_block, asks_pages};
+ghost use Rattle.channels.specs.Transfers.{fetches, page_from, pages_from, stores_block};
+ghost use Rattle.channels.specs.Transfers.{stores_pages, stores};
 
 use basic_values::limits::BLOCK_BYTES;
 use basic_values::{NoMemory, Series, Stop};
@@ -18,7 +21,7 @@ use monitor_calls::{FileName, OpenKind, Page, Port, Request};
 use record_fields::{RecordSize, fill};
 use std::alloc::Global;
 
-/// Opens a file. It has so many blocks, which nothing here asks for.
+/// Opens a file. The reply has its number of blocks, which is not used.
 pub(crate) fn ask_open<P: Port>(
     alloc: Global,
     port: &mut P,
@@ -29,7 +32,8 @@ pub(crate) fn ask_open<P: Port>(
     code: Option<u8>,
 ) -> Result<u16, Stop>
     ensures { (clock : play.Clock) (files : Files) → Follows P.who P.log port.old port.new
-        clock clock (asks (asks_for opened_by (request.OpenFile channel name kind update code)) files)
+        clock clock
+        (asks (asks_for opened_by (request.OpenFile channel name kind update code)) files)
         (answered_by result files) }
 {
     job_model::ask_open(alloc, port, channel, name, kind, update, code)
@@ -43,7 +47,7 @@ pub(crate) fn ask_close<P: Port>(alloc: Global, port: &mut P, channel: u8) -> Re
     ask_done(alloc, port, Request::CloseFile { channel }, true)
 }
 
-/// Lets go of what the channel holds.
+/// Releases what the channel has locked.
 pub(crate) fn ask_unlock<P: Port>(alloc: Global, port: &mut P, channel: u8) -> Result<(), Stop>
     ensures { (clock : play.Clock) (files : Files) → Follows P.who P.log port.old port.new
         clock clock (asks_unlock channel files) (answered_by result files) }
@@ -65,7 +69,7 @@ pub(crate) fn ask_block<P: Port>(
     job_model::ask_block(alloc, port, channel, block)
 }
 
-/// Reads so many blocks, or as many as there are.
+/// Reads this many blocks, or as many as there are.
 fn ask_pages<P: Port>(
     alloc: Global,
     port: &mut P,
@@ -81,8 +85,8 @@ fn ask_pages<P: Port>(
     job_model::ask_record(alloc, port, channel, block, size.blocks())
 }
 
-/// Reads a record from this block on, as far as the file goes: how many blocks there were, and
-/// their bytes.
+/// Reads a record from this block on, as far as the file goes, and returns how many blocks there
+/// were, and their bytes.
 pub(crate) fn fetch<P: Port>(
     alloc: Global,
     port: &mut P,
@@ -139,7 +143,7 @@ fn fetch_pages<P: Port>(
     Ok((pages.as_slice().len() as u16, bytes))
 }
 
-/// The bytes of pages, one page behind another.
+/// Returns the bytes of pages, one page after another.
 fn joined(alloc: Global, pages: &[Page]) -> Result<Series<u8>, NoMemory>
     ensures { IfOk result (λ bytes. bytes ≡ joined pages.now) }
 {
@@ -150,7 +154,7 @@ fn joined(alloc: Global, pages: &[Page]) -> Result<Series<u8>, NoMemory>
     Ok(Series::from_vec(bytes))
 }
 
-/// Writes these bytes as a record from this block on, with zeros behind them.
+/// Writes these bytes as a record from this block on, with zeros after them.
 pub(crate) fn store<P: Port>(
     alloc: Global,
     port: &mut P,
@@ -170,7 +174,7 @@ pub(crate) fn store<P: Port>(
     }
 }
 
-/// Writes these bytes as a block, with zeros behind them.
+/// Writes these bytes as a block, with zeros after them.
 pub(crate) fn store_block<P: Port>(
     alloc: Global,
     port: &mut P,
@@ -214,7 +218,7 @@ fn store_pages<P: Port>(
     ask_done(alloc, port, request, can_be_blocks(block, count as usize))
 }
 
-/// So many pages of these bytes, one behind another.
+/// Returns this many pages of these bytes, one after another.
 fn pages_from(alloc: Global, bytes: &[u8], count: u8) -> Result<Series<Page>, NoMemory>
     ensures { IfOk result (λ pages. pages ≡ pages_from count bytes.now) }
 {
@@ -227,7 +231,7 @@ fn pages_from(alloc: Global, bytes: &[u8], count: u8) -> Result<Series<Page>, No
     Ok(Series::from_vec(pages))
 }
 
-/// The first bytes as a page, with zeros behind them.
+/// Returns the first bytes as a page, with zeros after them.
 fn page_from(alloc: Global, bytes: &[u8]) -> Result<Page, NoMemory>
     ensures { IfOk result (λ page. page ≡ page_from bytes.now) }
 {
@@ -240,7 +244,7 @@ fn page_from(alloc: Global, bytes: &[u8]) -> Result<Page, NoMemory>
     Ok(page)
 }
 
-/// A page takes these bytes, with zeros behind fewer than it has.
+/// Fills a page with these bytes, and zeros after them.
 fn fill_short(page: &mut Page, bytes: &[u8])
     ensures { page.new ≡ page_from bytes.now }
 {
@@ -249,7 +253,7 @@ fn fill_short(page: &mut Page, bytes: &[u8])
     page.fill(&first);
 }
 
-/// The bytes behind those of the first page.
+/// Returns the bytes after those of the first page.
 fn behind_page(bytes: &[u8]) -> &[u8]
     ensures { result.now ≡ drop BLOCK_BYTES bytes.entry.now }
 {

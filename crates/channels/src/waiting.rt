@@ -1,4 +1,4 @@
-//! What waits on a channel, and how it is written.
+//! Pending data of a channel, and how it is written.
 
 ghost use Rattle.std.specs.Prelude.{◌≡◌, ◌+◌, ◌≤◌, false, [], take, OnOk};
 ghost use Rattle.basic_values.specs.declared.limits.TheConstants.{MOST_BLOCKS};
@@ -8,7 +8,8 @@ ghost use Rattle.record_fields.specs.Buffers.{buffer_of, IsChannel};
 ghost use Rattle.record_fields.specs.Sizes.{blocks_of};
 ghost use Rattle.channels.specs.declared.states.Waiting.TheVariants as waiting;
 ghost use Rattle.channels.specs.Files.{channel_at};
-ghost use Rattle.channels.specs.Waiting.{with_waiting, gathered_stored, stores_gathered, stores_window, settles, settles_due, is_state_due};
+ghost use Rattle.channels.specs.Waiting.{with_waiting, gathered_stored, stores_gathered};
+ghost use Rattle.channels.specs.Waiting.{stores_window, settles, settles_due, is_state_due};
 ghost use Rattle.channels.specs.Seen.{files};
 
 use crate::channels::Channels;
@@ -20,7 +21,7 @@ use record_fields::Buffers;
 use std::alloc::Global;
 
 impl Channels {
-    /// Writes what waits on the channel.
+    /// Writes the pending data of the channel.
     pub(crate) fn settle<P: Port>(
         &mut self,
         alloc: Global,
@@ -47,8 +48,8 @@ impl Channels {
         }
     }
 
-    /// Writes what waits where no byte can be gathered beside it: a whole record of bytes, or a
-    /// window that was written to.
+    /// Writes pending data if no byte can be collected with it: a whole record of bytes, or a
+    /// changed window.
     pub(crate) fn settle_due<P: Port>(
         &mut self,
         alloc: Global,
@@ -109,7 +110,7 @@ impl Channels {
         Ok(())
     }
 
-    /// The channel goes on behind the record of gathered bytes.
+    /// Moves the channel to the block after the record of collected bytes.
     fn note_gathered_stored(&mut self, channel: u8)
         requires channel { IsChannel channel }
         requires behind { (channel_at channel self.old.states).next
@@ -128,7 +129,7 @@ impl Channels {
         );
     }
 
-    /// The block is the channel's window.
+    /// Notes that the block is the channel's window.
     pub(crate) fn note_window(&mut self, channel: u8, block: u16, dirty: bool)
         requires { IsChannel channel }
         ensures state { files self.new []
@@ -142,7 +143,7 @@ impl Channels {
 }
 
 impl ChannelState {
-    /// Whether what waits has to be written before a byte is gathered.
+    /// Returns whether the pending data has to be written before a byte is collected.
     fn is_due(&self) -> bool
         ensures { result ≡ is_state_due self.now }
     {
@@ -154,7 +155,7 @@ impl ChannelState {
     }
 }
 
-/// So many bytes of the channel's buffer, from the first on.
+/// Returns this many bytes of the channel's buffer, from the first on.
 fn first_bytes(buffers: &Buffers, channel: u8, count: u16) -> &[u8]
     requires { IsChannel channel }
     ensures { result.now ≡ take count (buffer_of channel buffers.entry.now) }

@@ -1,11 +1,12 @@
-//! The window of virtual arrays.
+//! The window of arrays in files.
 
 ghost use Rattle.std.specs.Prelude.{◌≡◌, [], Err};
 ghost use Rattle.std.specs.Option.{option_map};
 ghost use Rattle.job_model.specs.Follow.{Follows, answered_by};
 ghost use Rattle.job_model.specs.Play as play;
 ghost use Rattle.record_fields.specs.Buffers.{IsChannel};
-ghost use Rattle.channels.specs.Windows.{with_window, framed, reads_window, is_window, with_use, changes_window, opens_window};
+ghost use Rattle.channels.specs.Windows.{with_window, framed, reads_window, is_window, with_use};
+ghost use Rattle.channels.specs.Windows.{changes_window, opens_window};
 ghost use Rattle.channels.specs.Seen.{files};
 
 use crate::channels::Channels;
@@ -18,9 +19,9 @@ use record_fields::Buffers;
 use std::alloc::Global;
 
 impl Channels {
-    /// Brings a block into the buffer as the channel's window, behind what waits there. The channel
-    /// is open, with records of one block. For writing, a block past the end of the file is a
-    /// window of zeros, and the window is dirty.
+    /// Reads a block into the buffer as the channel's window, after pending data was written. The
+    /// channel is open, with records of one block. For writing, a block past the end of the file is
+    /// a window of zeros, and the window is dirty.
     pub fn window<P: Port>(
         &mut self,
         alloc: Global,
@@ -83,8 +84,7 @@ impl Channels {
         }
     }
 
-    /// What a reading that stopped leaves: for writing, a block past the end of the file is a
-    /// window of zeros.
+    /// Handles a failed read: for writing, a block past the end of the file is a window of zeros.
     fn zeros_at_end(
         &mut self,
         buffers: &mut Buffers,
@@ -107,7 +107,7 @@ impl Channels {
         }
     }
 
-    /// A page stands in the buffer as the window.
+    /// Puts a page into the buffer as the window.
     fn keep_window(
         &mut self,
         buffers: &mut Buffers,
@@ -133,7 +133,7 @@ impl Channels {
         );
     }
 
-    /// The window that is there is dirty behind a writing.
+    /// Notes that the window is dirty, if it is written to.
     fn note_use(&mut self, channel: u8, block: u16, writing: bool)
         requires { IsChannel channel }
         ensures { files self.new [] ≡ with_use channel block writing (files self.old []) }
@@ -145,7 +145,7 @@ impl Channels {
 }
 
 impl ChannelState {
-    /// Whether the block is the channel's window.
+    /// Returns whether the block is the channel's window.
     fn is_window(&self, block: u16) -> bool
         ensures { result ≡ is_window block self.now.waiting }
     {

@@ -1,4 +1,4 @@
--- The places of statements and lines, as a placement keeps and gives them.
+-- The places of statements and lines, as a placement stores and returns them.
 use Rattle.std.proofs.Common.{◌≡◌, ℕ, zero, suc, ◌+◌, ◌<◌, ◌≤◌, Bool, true, false, List, [], ◌∷◌, ◌++◌, length, get_or, refl, sym, ap, ◌∙◌, arith, length-append}
 use Rattle.std.specs.Prelude.{nat_lt, if◌then◌else◌}
 use Rattle.std.proofs.lemmas.List.{get_or_read}
@@ -39,7 +39,7 @@ loops_within loops ss m e h = ap (λ l. get_or l m 0) e ∙ omega (arith, loops_
 pub loops_beyond : (loops : List ℕ) (ss : List StatementTree) (m n : ℕ) → loops ≡ sums_from loops_in 0 ss → n ≡ length ss → n ≤ m → get_or loops n 0 ≡ loops_before ss m
 loops_beyond loops ss m n e is h = ap (λ k. get_or loops k 0) is ∙ loops_within loops ss (length ss) e (omega arith) ∙ sym (loops_end ss m (omega arith))
 
--- THE STATEMENT FOR WHICH A LINE STANDS
+-- THE STATEMENT AT WHICH A LINE BEGINS
 
 line_start_within : (n : ℕ) (program : Program) → line_start n program ≤ length (statements_of program)
 line_start_within n [] = omega arith

@@ -1,4 +1,4 @@
--- On the sums before statements.
+-- The sums before statements.
 use Rattle.std.proofs.Common.{◌≡◌, ℕ, zero, suc, ◌+◌, ◌≤◌, List, [], ◌∷◌, length, get_or, refl, ap, arith}
 use Rattle.basic_tree.specs.Trees.{StatementTree}
 use Rattle.program_model.specs.Program.{loops_in, loops_before}

@@ -1,4 +1,5 @@
-//! The items of elements: in memory, or in a file where a DIM # of the program has the name.
+//! The instructions for array elements: in memory, or in a file if a DIM # of the program has the
+//! name.
 
 ghost use Rattle.std.specs.Prelude.{◌≡◌};
 ghost use Rattle.polish_code.specs.Code.{load_item, store_item, places_of};
@@ -7,7 +8,7 @@ use crate::lookups::Lookups;
 use basic_tree::Name;
 use polish_code::Item;
 
-/// Loads an element by so many subscripts.
+/// Returns the instruction that loads an element, by this many subscripts.
 pub fn load_item<L: Lookups>(tables: &L, name: Name, count: u32) -> Item
     ensures { result ≡ load_item ((places_of (L.program tables.now)).array name) name count }
 {
@@ -17,7 +18,7 @@ pub fn load_item<L: Lookups>(tables: &L, name: Name, count: u32) -> Item
     }
 }
 
-/// Stores to an element by so many subscripts.
+/// Returns the instruction that stores to an element, by this many subscripts.
 pub fn store_item<L: Lookups>(tables: &L, name: Name, count: u32) -> Item
     ensures { result ≡ store_item ((places_of (L.program tables.now)).array name) name count }
 {

@@ -1,15 +1,15 @@
-//! Where each statement of a program stands in its code, and what its items take from the rest of
-//! the program.
+//! Where each statement of a program is in its bytecode, and what instructions need to know of the
+//! rest of the program.
 //!
-//! What items take is the trait `Lookups`: the clause of each of its calls is the definition of
-//! `polish_code` or `program_model` for it. `Placement` meets it: a program in the tables of
-//! `program_soundness`, with the place of each statement and the number of FORs before it.
-//! `Nowhere` meets it where no program stands around: how many items there are does not depend on
-//! one. `load_item` and `store_item` are the items of elements, in memory or in a file; `counted`,
-//! `sum`, `add` and `next` reckon how many items there are.
+//! What instructions need is the trait `Lookups`: the contract of each of its calls is the
+//! definition of `polish_code` or `program_model` for it. `Placement` implements it: a program in
+//! the tables of `program_soundness`, with the place of each statement and the number of FORs
+//! before it. `Nowhere` implements it without a program, because the number of instructions does
+//! not depend on one. `load_item` and `store_item` are the instructions for array elements, in
+//! memory or in a file; `counted`, `sum`, `add` and `next` compute numbers of instructions.
 //!
-//! The items of statements are put by `lowering`, which also sums up for `Placement::new` where
-//! they begin and how many FORs stand before them.
+//! `lowering` makes the instructions of statements. It also sums up, for `Placement::new`, where
+//! statements begin and how many FORs are before them.
 #![tactic(auto)]
 
 mod elements;

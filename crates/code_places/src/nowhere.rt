@@ -1,4 +1,4 @@
-//! The rest of a program where none stands around: sizes do not depend on it.
+//! The rest of a program, if there is none: sizes do not depend on it.
 
 ghost use Rattle.std.specs.Prelude.{[]};
 

@@ -1,10 +1,11 @@
-//! Numbers of items. More of them than an item can say find no memory.
+//! Numbers of instructions. If a number is too large for an instruction, the call reports that
+//! memory ran out.
 
-ghost use Rattle.std.specs.Prelude.{◌≡◌, suc, ◌+◌, IfOk, OnOk};
+ghost use Rattle.std.specs.Prelude.{◌≡◌, suc, ◌+◌, IfOk, OnOk, OnErr};
 
 use basic_values::NoMemory;
 
-/// A length as items say it.
+/// Returns a length as a number of instructions.
 pub fn counted(length: usize) -> Result<u32, NoMemory>
     ensures { IfOk result (λ count. count ≡ length) }
 {
@@ -23,8 +24,10 @@ pub fn sum(a: u32, b: u32) -> Result<u32, NoMemory>
     }
 }
 
+/// Adds to a total. If the sum does not fit, the total stays as it was.
 pub fn add(total: &mut u32, count: u32) -> Result<(), NoMemory>
-    ensures { OnOk result (total.new ≡ total.old + count) }
+    ensures added { OnOk result (total.new ≡ total.old + count) }
+    ensures memory { OnErr result (total.new ≡ total.old) }
 {
     *total = sum(*total, count)?;
     Ok(())

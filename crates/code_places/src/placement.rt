@@ -1,12 +1,13 @@
-//! Where the code of a program stands: the place at which the items of each statement begin.
+//! Where the instructions of each statement begin in the code of a program.
 //!
-//! A `Placement` is a program in its tables, with two lists of sums beside them: the places of its
-//! statements, and how many FORs stand before each. Who makes it brings the sums. The clause of
-//! each call is what the code of the definitions takes from the rest of the program; so it meets
-//! `Lookups`.
+//! A `Placement` is a program in its tables, with two lists of sums: the places of its statements,
+//! and how many FORs are before each. The caller of `new` brings the sums. The contract of each
+//! call is what the code of the definitions takes from the rest of the program, as `Lookups`
+//! requires.
 
 ghost use Rattle.std.specs.Prelude.{◌≡◌, ℕ, suc, length, slice_index, IfOk};
-ghost use Rattle.program_model.specs.Program.{statements_of, statement_at, behind_body, behind_statement, loops_in, loops_before};
+ghost use Rattle.program_model.specs.Program.{statements_of, statement_at, behind_body};
+ghost use Rattle.program_model.specs.Program.{behind_statement, loops_in, loops_before};
 ghost use Rattle.program_model.specs.Running.{body_of};
 ghost use Rattle.program_soundness.specs.Listings.{text_of};
 ghost use Rattle.polish_code.specs.Code.{statement_place, place_for, places_of};
@@ -23,13 +24,13 @@ use std::alloc::Global;
 use std::marker::Model;
 use virtual_arrays::VirtualShape;
 
-/// A program, and where each of its statements stands in its code.
+/// A program, and where each of its statements is in its code.
 #[derive(Drop)]
 pub struct Placement<'a> {
     tables: Tables<'a>,
     /// Where each statement begins in the code, and where the code ends.
     places: Vec<u32>,
-    /// How many FORs stand before each statement, and how many there are.
+    /// How many FORs are before each statement, and how many there are.
     loops: Vec<u32>,
 }
 
@@ -50,7 +51,7 @@ impl<'a> Model for Placement<'a> {
 }
 
 impl<'a> Placement<'a> {
-    /// The program of these tables, given its sums.
+    /// Returns the program of these tables with its sums.
     pub fn new(tables: Tables<'a>, places: Vec<u32>, loops: Vec<u32>) -> Placement<'a>
         requires places { places.items ≡ sums_from size_whole 0 (statements_of (text_of tables)) }
         requires loops { loops.items ≡ sums_from loops_in 0 (statements_of (text_of tables)) }
@@ -71,14 +72,14 @@ impl<'a> Placement<'a> {
 
     // Statements
 
-    /// How many there are.
+    /// Returns the number of statements.
     fn count(&self) -> usize
         ensures { result ≡ length (statements_of (text_of self.now)) }
     {
         self.listing().count()
     }
 
-    /// Where a statement begins. Behind the last one it is the end.
+    /// Returns where a statement begins; after the last one, the end.
     fn place(&self, m: usize) -> u32
         ensures { result ≡ statement_place (text_of self.now) m }
     {
@@ -90,7 +91,7 @@ impl<'a> Placement<'a> {
         }
     }
 
-    /// Where the statement behind another begins.
+    /// Returns where the statement after another begins.
     fn place_behind(&self, m: usize) -> u32
         ensures { result ≡ statement_place (text_of self.now) (suc m) }
     {
@@ -102,7 +103,7 @@ impl<'a> Placement<'a> {
         }
     }
 
-    /// Where the statement behind one of these begins, and the end where there is none.
+    /// Returns where the statement after this one begins, or the end if there is none.
     fn place_past(&self, m: Option<usize>) -> u32
         ensures { result ≡ statement_place (text_of self.now) (behind_statement
             (text_of self.now) m) }
@@ -113,7 +114,7 @@ impl<'a> Placement<'a> {
         }
     }
 
-    /// How many FORs stand before a statement.
+    /// Returns how many FORs are before a statement.
     fn loops_to(&self, m: usize) -> u32
         ensures { result ≡ loops_before (statements_of (text_of self.now)) m }
     {
@@ -125,7 +126,7 @@ impl<'a> Placement<'a> {
         }
     }
 
-    /// How many FORs stand before each statement, and how many there are.
+    /// Returns how many FORs are before each statement, and how many there are.
     pub fn loops(&self) -> &[u32]
         ensures { result.now ≡ sums_from loops_in 0 (statements_of (text_of self.entry.now)) }
     {
@@ -134,7 +135,7 @@ impl<'a> Placement<'a> {
 
     // Lines
 
-    /// Where each line begins, and behind the last one the end.
+    /// Returns where each line begins, and then the end.
     pub fn line_places(&self, alloc: Global) -> Result<Vec<LinePlace>, NoMemory>
         ensures { IfOk result (λ lines. (number : ℕ)
             → place_in (statement_place (text_of self.now) (length (statements_of
@@ -146,7 +147,7 @@ impl<'a> Placement<'a> {
 
     // Functions
 
-    /// Where the body of a function begins, whose DEF this statement is.
+    /// Returns where the body of a function begins, given its DEF.
     fn place_in_def(&self, m: usize) -> Result<Option<u32>, NoMemory>
         ensures { IfOk result (λ place. place
             ≡ place_for (text_of self.now) (body_of (statement_at (text_of self.now) m) m)) }
@@ -218,7 +219,7 @@ impl Lookups for Placement<'_> {
     }
 }
 
-/// Where each line begins, given where statements do.
+/// Returns where each line begins, given where statements do.
 fn line_places_in(
     alloc: Global,
     texts: &[LineText<'_>],

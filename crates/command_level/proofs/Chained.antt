@@ -1,5 +1,5 @@
 -- Where runs have come, and what is done behind chains.
-use Rattle.std.proofs.Common.{◌≡◌, ℕ, zero, suc, ◌+◌, ◌-◌, ◌<◌, ◌≤◌, List, [], true, false, Option, Some, None, Result, Ok, Err, refl, sym, ap, subst, ◌∙◌, arith, append-nil}
+use Rattle.std.proofs.Common.{◌≡◌, ℕ, zero, suc, ◌-◌, ◌<◌, ◌≤◌, List, [], true, false, Option, Some, None, Result, Ok, Err, refl, sym, ap, subst, ◌∙◌, arith, append-nil}
 use Rattle.std.specs.Prelude.{IfOk, OnErr}
 use Rattle.std.specs.Option.{option_map}
 use Rattle.std.specs.Result.{IsErrAnd}
@@ -10,7 +10,8 @@ use Rattle.basic_values.specs.declared.failures.Trouble.{Trouble}
 use Rattle.basic_values.specs.declared.failures.Trouble.TheVariants as trouble
 use Rattle.grammar_machine.specs.MachineJudge.{judge_of}
 use Rattle.monitor_calls.specs.declared.names.Account.{Account}
-use Rattle.monitor_calls.specs.Pairs.{Pair, Grew}
+use Rattle.monitor_calls.specs.declared.events.Event.{Event}
+use Rattle.monitor_calls.specs.Pairs.{Grew}
 use Rattle.job_model.specs.Act.{Act, Gives, Breaks, Break, Faulted, Halted, Gone, Left, break_over}
 use Rattle.job_model.specs.Play.{Clock}
 use Rattle.job_model.specs.Follow.{here, Reaches, Follows, answered_by}
@@ -34,7 +35,7 @@ use Rattle.basic_interpreter.specs.Meaning.{Came, went, left_a_body, no_memory, 
 use Rattle.basic_interpreter.specs.Units.{units_left, SpendsAtChain}
 use Rattle.session_model.specs.Serving.{FollowsSession}
 use Rattle.session_model.specs.Talk as talk
-use Rattle.session_model.specs.Talk.{Step, Runner, with_job, outlived, run_is_over, reported, in_session, runs_chained, ends_run, line_ended, chains_to, unread, follows_chain, reads_program, program_by}
+use Rattle.session_model.specs.Talk.{Step, Runner, Ending, with_job, outlived, run_is_over, reported, in_session, runs_chained, ends_run, line_ended, chains_to, unread, follows_chain, reads_program, program_by}
 use Rattle.command_level.specs.declared.session.Session.{Session}
 use Rattle.command_level.specs.declared.session.AfterLine.{AfterLine}
 use Rattle.command_level.specs.declared.chains.Reached.{Reached}
@@ -42,16 +43,20 @@ use Rattle.command_level.specs.declared.chains.Reached.TheVariants as reached
 use Rattle.command_level.specs.AfterLines.{goes}
 use Rattle.command_level.specs.Seen.{seen}
 use Rattle.command_level.specs.Standing.{low_session, StopFits, Serves, run_ends, line_ends}
-use Rattle.command_level.specs.Chaining.{IsReached, IsOver, is_chain, RanIn, LeftRun, ServesRun, Spent}
+use Rattle.command_level.specs.Chaining.{IsReached, IsOver, is_chain, run_of, RanIn, LeftRun, ServesRun, Spent}
 use Rattle.command_level.proofs.Ends.{ok_map}
 use Rattle.command_level.proofs.Lows.{lows, end_low, line_low, end_fits, line_fits}
 use Rattle.command_level.proofs.Serving.{serves_same}
-use Rattle.command_level.proofs.SessionLemmas.{session_on}
+use Rattle.command_level.proofs.SessionLemmas.{session_on, above}
 
 -- ENDS
 
+-- an end, by how the next program runs, what an error of the CHAIN leads to, and the session after every other end
+abbrev ending : (ℕ → Runner) → (ℕ → ℕ → Job Position → Step Position) → (Break (program.Leaving Position) → Job Position → talk.Session Position) → talk.Session Position → ℕ → Ending
+ending run faulted over s most = record { judge = judge_of; run = run most; most = most; faulted = faulted most; over = over; session = s }
+
 -- where a job is gone, so is its session
-ended_dies : (most count : ℕ) (p : Program) (s : talk.Session Position) (j : Job Position) → ends_run judge_of most count p s Gone j ≡ Breaks Gone (with_job j s)
+ended_dies : (most count : ℕ) (p : Program) (s : talk.Session Position) (j : Job Position) → ends_run count (run_of most p s) Gone j ≡ Breaks Gone (with_job j s)
 ended_dies most zero p s j = refl
 ended_dies most (suc count) p s j = refl
 
@@ -77,7 +82,7 @@ not_the_chain exit.Ended nay = refl
 not_the_chain (exit.Stopped spot) nay = refl
 not_the_chain (exit.StoppedInside home) nay = refl
 
-outlived_there : (most count : ℕ) (p : Program) (s : talk.Session Position) (b : Break (program.Leaving Position)) (j : Job Position) → (b ≡ Left program.Chained → ⊥) → ends_run judge_of most count p s b j ≡ outlived (run_is_over s) s b j
+outlived_there : (most count : ℕ) (p : Program) (s : talk.Session Position) (b : Break (program.Leaving Position)) (j : Job Position) → (b ≡ Left program.Chained → ⊥) → ends_run count (run_of most p s) b j ≡ outlived (run_is_over s) s b j
 outlived_there most zero p s b j nay = refl
 outlived_there most (suc count) p s (Left program.Chained) j nay = absurd (nay refl)
 outlived_there most (suc count) p s (Left program.Ended) j nay = refl
@@ -175,17 +180,17 @@ over_spent c d (Ok onward) (Err f) is = absurd is
 over_spent c d (Err e) (Ok at) is = absurd is
 
 -- A run has come there behind so many chains.
-pub record Comes {P W : Type 0} (who : P → W) (log : P → List Pair) (old new : P) (c d : Clock) (step : ℕ → Step Position) (session : Session) (at : Reached) : Type 0 where
+pub record Comes {P W : Type 0} (who : P → W) (log : P → List Event) (old new : P) (c d : Clock) (step : ℕ → Step Position) (session : Session) (at : Reached) : Type 0 where
   pub turns : ℕ
   pub run : ServesRun who log old new c d (λ most. most - turns) step session (Ok at)
 
 -- one chain
-abbrev pub ChainServes : {P W : Type 0} → (P → W) → (P → List Pair) → P → P → Clock → Clock → Session → Session → Result Reached NoMemory → Type 0
+abbrev pub ChainServes : {P W : Type 0} → (P → W) → (P → List Event) → P → P → Clock → Clock → Session → Session → Result Reached NoMemory → Type 0
 ChainServes who log old new c d before behind result = (count : ℕ → ℕ) (p : Program) (s : talk.Session Position) (j : Job Position) → RanIn before p s j
-    → ServesRun who log old new c d count (λ most. ends_run judge_of most (suc (count most)) p s (Left program.Chained) j) behind result
+    → ServesRun who log old new c d count (λ most. ends_run (suc (count most)) (run_of most p s) (Left program.Chained) j) behind result
 
 -- A line of immediate mode has come to this end.
-pub record LineAt {P W : Type 0} (who : P → W) (log : P → List Pair) (old new : P) (c d : Clock) (line p : Program) (s : talk.Session Position) (meaning : ℕ → Doing Coming) (session : Session) (why : Exit) : Type 0 where
+pub record LineAt {P W : Type 0} (who : P → W) (log : P → List Event) (old new : P) (c d : Clock) (line p : Program) (s : talk.Session Position) (meaning : ℕ → Doing Coming) (session : Session) (why : Exit) : Type 0 where
   pub b : Break (program.Leaving Position)
   pub j : Job Position
   pub low : low_session p (with_job j s) ≡ seen session
@@ -201,14 +206,14 @@ same_step m t e = ap (step_or t) e
 
 -- WHERE A RUN HAS COME
 
-module _ {P W : Type 0} {who : P → W} {log : P → List Pair} where
+module _ {P W : Type 0} {who : P → W} {log : P → List Event} where
   -- told in other words
   pub run_from : {p q : P} {c d : Clock} {count : ℕ → ℕ} {step step' : ℕ → Step Position} {session : Session} {result : Result Reached NoMemory} → ((most : ℕ) → step most ≡ step' most) → ServesRun who log p q c d count step' session result → ServesRun who log p q c d count step session result
   run_from {p} {q} {c} {d} {count} {step} {step'} {session} {result} same f = subst (λ (step : ℕ → Step Position). ServesRun who log p q c d count step session result) (λ i most. sym (same most) i) f
 
   -- nothing was asked, and nothing is told
   pub run_nothing : {p : P} {c : Clock} {count : ℕ → ℕ} {step : ℕ → Step Position} {session : Session} (e : NoMemory) → ServesRun who log p p c c count step session (Err e)
-  run_nothing {p} {c} {count} {step} e = record { left = None; leaves = refl; follows = record { pairs = []; grew = (refl, sym (append-nil (log p))); bound = 0; reaches = λ most le. (c, step most, here) } }
+  run_nothing {p} {c} {count} {step} e = record { left = None; leaves = refl; follows = record { events = []; grew = (refl, sym (append-nil (log p))); bound = 0; reaches = λ most le. (c, step most, here) } }
 
   pub run_lost : {p : P} {c : Clock} {count : ℕ → ℕ} {step : ℕ → Step Position} {session : Session} (result : Result Reached NoMemory) (IsIt : NoMemory → Type 0) → IsErrAnd result IsIt → ServesRun who log p p c c count step session result
   run_lost (Ok at) IsIt is = absurd is
@@ -222,18 +227,18 @@ module _ {P W : Type 0} {who : P → W} {log : P → List Pair} where
   run_over count session (Err e) (Ok at) is f = absurd is
 
   -- what was done in a session, and what is done where it came
-  in_session_follows : {p q : P} {c d : Clock} (E : ℕ → Break (program.Leaving Position) → Job Position → Step Position) (s : talk.Session Position) (meaning : ℕ → Doing Coming) (left : Option (Doing Coming)) (pairs : List Pair) (bound : ℕ)
-      → ((most : ℕ) (j : Job Position) → E most Gone j ≡ Breaks Gone (with_job j s)) → Grew who log p q pairs → ((most : ℕ) → bound ≤ most → Reaches c (meaning most) pairs d left)
+  in_session_follows : {p q : P} {c d : Clock} (E : ℕ → Break (program.Leaving Position) → Job Position → Step Position) (s : talk.Session Position) (meaning : ℕ → Doing Coming) (left : Option (Doing Coming)) (events : List Event) (bound : ℕ)
+      → ((most : ℕ) (j : Job Position) → E most Gone j ≡ Breaks Gone (with_job j s)) → Grew who log p q events → ((most : ℕ) → bound ≤ most → Reaches c (meaning most) events d left)
       → FollowsSession who log p q c d (λ most. in_session (E most) s (meaning most)) (option_map (λ (m : Doing Coming) most. in_session (E most) s m) left)
-  in_session_follows {p} {q} {c} {d} E s meaning left pairs bound dies grew reaches = record {
-    pairs = pairs;
+  in_session_follows {p} {q} {c} {d} E s meaning left events bound dies grew reaches = record {
+    events = events;
     grew = grew;
     bound = bound;
-    reaches = λ most le. by_left left most (reaches_ends (λ j. with_job j s) (λ value j. E most (Left program.Ended) j) (E most) (dies most) c d (meaning most) pairs left (reaches most le));
+    reaches = λ most le. by_left left most (reaches_ends (λ j. with_job j s) (λ value j. E most (Left program.Ended) j) (E most) (dies most) c d (meaning most) events left (reaches most le));
   }
     where
-      by_left : (left : Option (Doing Coming)) (most : ℕ) → Reaches c (in_session (E most) s (meaning most)) pairs d (option_map (in_session (E most) s) left)
-          → Reaches c (in_session (E most) s (meaning most)) pairs d (option_map (λ (t : ℕ → Step Position). t most) (option_map (λ (m : Doing Coming) most. in_session (E most) s m) left))
+      by_left : (left : Option (Doing Coming)) (most : ℕ) → Reaches c (in_session (E most) s (meaning most)) events d (option_map (in_session (E most) s) left)
+          → Reaches c (in_session (E most) s (meaning most)) events d (option_map (λ (t : ℕ → Step Position). t most) (option_map (λ (m : Doing Coming) most. in_session (E most) s m) left))
       by_left (Some m) most r = r
       by_left None most r = r
 
@@ -244,17 +249,17 @@ module _ {P W : Type 0} {who : P → W} {log : P → List Pair} where
       → Means who log p q c d (low_leaving prog) (lowered prog) meaning (acting.seen session.running) end
       → ServesRun who log p q c d count (λ most. runs_chained judge_of most (count most) prog s (meaning most)) session result
   run_reached {p} {q} {c} {d} count prog s meaning session end result ok memory rest same sound fits means =
-      by_end end result means.left means.came ok memory (in_session_follows (λ most. ends_run judge_of most (count most) prog s) s meaning means.left means.pairs means.bound (λ most j. ended_dies most (count most) prog s j) means.grew means.reaches)
+      by_end end result means.left means.came ok memory (in_session_follows (λ most. ends_run (count most) (run_of most prog s)) s meaning means.left means.events means.bound (λ most j. ended_dies most (count most) prog s j) means.grew means.reaches)
     where
       ran : (j : Job Position) → lowered prog j ≡ acting.seen session.running → RanIn session prog s j
       ran j low = record { low = ap (λ (k : Job Spot). with_job k (low_session prog s)) low ∙ sym rest; here = same; sound = sound; fits = fits }
 
       to : (at : Reached) (why : Exit) (b : Break (program.Leaving Position)) (j : Job Position) → at ≡ reached.End why → RanIn session prog s j → break_over (low_leaving prog) b ≡ break_of why
-          → FollowsSession who log p q c d (λ most. runs_chained judge_of most (count most) prog s (meaning most)) (Some (λ most. ends_run judge_of most (count most) prog s b j))
+          → FollowsSession who log p q c d (λ most. runs_chained judge_of most (count most) prog s (meaning most)) (Some (λ most. ends_run (count most) (run_of most prog s) b j))
           → ServesRun who log p q c d count (λ most. runs_chained judge_of most (count most) prog s (meaning most)) session (Ok at)
       to at why b j is ran way f =
           subst (λ (at : Reached). ServesRun who log p q c d count (λ most. runs_chained judge_of most (count most) prog s (meaning most)) session (Ok at)) (sym is)
-          (record { left = Some (λ most. ends_run judge_of most (count most) prog s b j); leaves = (prog, s, b, j, record { ran = ran; way = way }, refl); follows = f })
+          (record { left = Some (λ most. ends_run (count most) (run_of most prog s) b j); leaves = (prog, s, b, j, record { ran = ran; way = way }, refl); follows = f })
 
       by_end : (end : Result (Unit {0}) (Trouble Exit)) (result : Result Reached NoMemory) (left : Option (Doing Coming)) → Came (low_leaving prog) (lowered prog) end (acting.seen session.running) left
           → IfOk result (IsReached end) → OnErr result (end ≡ Err trouble.NoMemory) → FollowsSession who log p q c d (λ most. runs_chained judge_of most (count most) prog s (meaning most)) (option_map (λ (m : Doing Coming) most. runs_chained judge_of most (count most) prog s m) left) → ServesRun who log p q c d count (λ most. runs_chained judge_of most (count most) prog s (meaning most)) session result
@@ -276,17 +281,17 @@ module _ {P W : Type 0} {who : P → W} {log : P → List Pair} where
   -- what was read, or why it was not, is what a chain goes on with
   pub chain_follows : {p q : P} {c d : Clock} (run : ℕ → Runner) (faulted : ℕ → ℕ → Job Position → Step Position) (over : Break (program.Leaving Position) → Job Position → talk.Session Position) (s : talk.Session Position) (j : Job Position) (left : Option (Act ⊥ Unit (List ℕ × Lines)))
       → Follows who log p q c d (reads_program judge_of j.account j.destination.name) left
-      → FollowsSession who log p q c d (λ most. follows_chain judge_of (run most) (faulted most) most over s j)
-      (option_map (λ (t : Act ⊥ Unit (List ℕ × Lines)) most. at_ends (λ _. with_job j s) (λ read _. chains_to judge_of (run most) most read (with_job j s)) (λ why _. unread (faulted most) over why s j) t) left)
+      → FollowsSession who log p q c d (λ most. follows_chain (ending run faulted over s most) j)
+      (option_map (λ (t : Act ⊥ Unit (List ℕ × Lines)) most. at_ends (λ _. with_job j s) (λ read _. chains_to judge_of (run most) most read (with_job j s)) (λ why _. unread (ending run faulted over s most) why j) t) left)
   chain_follows {p} {q} {c} {d} run faulted over s j left f = record {
-    pairs = f.pairs;
+    events = f.events;
     grew = f.grew;
     bound = 0;
-    reaches = λ most le. by_left left most (reaches_ends (λ (_ : Unit {0}). with_job j s) (λ read _. chains_to judge_of (run most) most read (with_job j s)) (λ why _. unread (faulted most) over why s j) (λ _. refl) c d (reads_program judge_of j.account j.destination.name) f.pairs left f.reaches);
+    reaches = λ most le. by_left left most (reaches_ends (λ (_ : Unit {0}). with_job j s) (λ read _. chains_to judge_of (run most) most read (with_job j s)) (λ why _. unread (ending run faulted over s most) why j) (λ _. refl) c d (reads_program judge_of j.account j.destination.name) f.events left f.reaches);
   }
     where
-      by_left : (left : Option (Act ⊥ Unit (List ℕ × Lines))) (most : ℕ) → Reaches c (follows_chain judge_of (run most) (faulted most) most over s j) f.pairs d (option_map (λ (t : Act ⊥ Unit (List ℕ × Lines)). at_ends (λ (_ : Unit {0}). with_job j s) (λ read _. chains_to judge_of (run most) most read (with_job j s)) (λ why _. unread (faulted most) over why s j) t) left)
-          → Reaches c (follows_chain judge_of (run most) (faulted most) most over s j) f.pairs d (option_map (λ (t : ℕ → Step Position). t most) (option_map (λ (t : Act ⊥ Unit (List ℕ × Lines)) most. at_ends (λ (_ : Unit {0}). with_job j s) (λ read _. chains_to judge_of (run most) most read (with_job j s)) (λ why _. unread (faulted most) over why s j) t) left))
+      by_left : (left : Option (Act ⊥ Unit (List ℕ × Lines))) (most : ℕ) → Reaches c (follows_chain (ending run faulted over s most) j) f.events d (option_map (λ (t : Act ⊥ Unit (List ℕ × Lines)). at_ends (λ (_ : Unit {0}). with_job j s) (λ read _. chains_to judge_of (run most) most read (with_job j s)) (λ why _. unread (ending run faulted over s most) why j) t) left)
+          → Reaches c (follows_chain (ending run faulted over s most) j) f.events d (option_map (λ (t : ℕ → Step Position). t most) (option_map (λ (t : Act ⊥ Unit (List ℕ × Lines)) most. at_ends (λ (_ : Unit {0}). with_job j s) (λ read _. chains_to judge_of (run most) most read (with_job j s)) (λ why _. unread (ending run faulted over s most) why j) t) left))
       by_left (Some t) most r = r
       by_left None most r = r
 
@@ -305,21 +310,12 @@ module _ {P W : Type 0} {who : P → W} {log : P → List Pair} where
     run = record {
       left = Some left;
       leaves = subst (λ (count : ℕ → ℕ). LeftRun count session (Ok at) (Some left)) (λ i most. none_less most i) h;
-      follows = record { pairs = []; grew = (refl, sym (append-nil (log p))); bound = 0; reaches = λ most le. here };
+      follows = record { events = []; grew = (refl, sym (append-nil (log p))); bound = 0; reaches = λ most le. here };
     };
   }
     where
       none_less : (most : ℕ) → most ≡ most - 0
       none_less most = omega arith
-
-  -- the same with bounds above one
-  above : {p q : P} {c d : Clock} {step step' : ℕ → Step Position} {left : Option (ℕ → Step Position)} (n : ℕ) → ((most : ℕ) → n ≤ most → step most ≡ step' most) → FollowsSession who log p q c d step' left → FollowsSession who log p q c d step left
-  above {p} {q} {c} {d} {step} {step'} {left} n same f = record {
-    pairs = f.pairs;
-    grew = f.grew;
-    bound = f.bound + n;
-    reaches = λ most le. subst (λ (m : Step Position). Reaches c m f.pairs d (option_map (λ (left : ℕ → Step Position). left most) left)) (sym (same most (omega (arith, le)))) (f.reaches most (omega (arith, le)));
-  }
 
   -- behind one more
   comes_run : {p q r : P} {c d e : Clock} {step : ℕ → Step Position} (old new : Session) (at : Reached) (result : Result Reached NoMemory) → is_chain at ≡ true → (f : Comes who log p q c d step old at) → ChainServes who log q r d e old new result
@@ -337,7 +333,7 @@ module _ {P W : Type 0} {who : P → W} {log : P → List Pair} where
           record {
             left = g.left;
             leaves = g.leaves;
-            follows = session_on first (above (suc f.turns) (λ most le. ap (λ (n : ℕ). ends_run judge_of most n l.0 l.1 l.2 l.3) (one_less most le) ∙ ap (λ (b : Break (program.Leaving Position)). ends_run judge_of most (suc (most - suc f.turns)) l.0 l.1 b l.3) (chain_way l.0 l.2 l.4.way)) g.follows);
+            follows = session_on first (above (suc f.turns) (λ most le. ap (λ (n : ℕ). ends_run n (run_of most l.0 l.1) l.2 l.3) (one_less most le) ∙ ap (λ (b : Break (program.Leaving Position)). ends_run (suc (most - suc f.turns)) (run_of most l.0 l.1) b l.3) (chain_way l.0 l.2 l.4.way)) g.follows);
           }
 
   pub comes_on : {p q r : P} {c d e : Clock} {step : ℕ → Step Position} (old new : Session) (at on : Reached) → is_chain at ≡ true → Comes who log p q c d step old at → ChainServes who log q r d e old new (Ok on) → Comes who log p r c e step new on
@@ -397,15 +393,15 @@ module _ {P W : Type 0} {who : P → W} {log : P → List Pair} where
 
   -- LINES OF IMMEDIATE MODE
 
-  line_follows : {p q : P} {c d : Clock} (s : talk.Session Position) (meaning : ℕ → Doing Coming) (left : Option (Doing Coming)) (pairs : List Pair) (bound : ℕ) → Grew who log p q pairs → ((most : ℕ) → bound ≤ most → Reaches c (meaning most) pairs d left)
+  line_follows : {p q : P} {c d : Clock} (s : talk.Session Position) (meaning : ℕ → Doing Coming) (left : Option (Doing Coming)) (events : List Event) (bound : ℕ) → Grew who log p q events → ((most : ℕ) → bound ≤ most → Reaches c (meaning most) events d left)
       → FollowsSession who log p q c d (λ most. in_session (line_ended judge_of most s) s (meaning most)) (option_map (λ (m : Doing Coming) most. in_session (line_ended judge_of most s) s m) left)
-  line_follows s meaning left pairs bound grew reaches = in_session_follows (λ most. line_ended judge_of most s) s meaning left pairs bound (λ most j. refl) grew reaches
+  line_follows s meaning left events bound grew reaches = in_session_follows (λ most. line_ended judge_of most s) s meaning left events bound (λ most j. refl) grew reaches
 
   pub line_at : {p q : P} {c d : Clock} (line prog : Program) (s : talk.Session Position) (meaning : ℕ → Doing Coming) (session : Session) (end : Result (Unit {0}) (Trouble Exit)) (why : Exit) → IsReached end (reached.End why)
       → seen session ≡ with_job (acting.seen session.running) (low_session prog s)
       → Means who log p q c d (low_leaving line) (lowered prog) meaning (acting.seen session.running) end
       → LineAt who log p q c d line prog s meaning session why
-  line_at {p} {q} {c} {d} line prog s meaning session end why is rest means = by_end end means.left means.came is (line_follows s meaning means.left means.pairs means.bound means.grew means.reaches)
+  line_at {p} {q} {c} {d} line prog s meaning session end why is rest means = by_end end means.left means.came is (line_follows s meaning means.left means.events means.bound means.grew means.reaches)
     where
       low_at : (j : Job Position) → lowered prog j ≡ acting.seen session.running → low_session prog (with_job j s) ≡ seen session
       low_at j low = ap (λ (k : Job Spot). with_job k (low_session prog s)) low ∙ sym rest
@@ -440,7 +436,7 @@ module _ {P W : Type 0} {who : P → W} {log : P → List Pair} where
   -- memory ran out in it
   pub line_lost : {p q : P} {c d : Clock} (line prog : Program) (s : talk.Session Position) (meaning : ℕ → Doing Coming) (session : Session) (after : Job Spot) (end : Result (Unit {0}) (Trouble Exit)) (e : NoMemory) → end ≡ Err trouble.NoMemory
       → Means who log p q c d (low_leaving line) (lowered prog) meaning after end → Serves who log p q c d (λ most. in_session (line_ended judge_of most s) s (meaning most)) session (Err e)
-  line_lost {p} {q} {c} {d} line prog s meaning session after end e is means = by_end end means.left means.came is (line_follows s meaning means.left means.pairs means.bound means.grew means.reaches)
+  line_lost {p} {q} {c} {d} line prog s meaning session after end e is means = by_end end means.left means.came is (line_follows s meaning means.left means.events means.bound means.grew means.reaches)
     where
       by_end : (end : Result (Unit {0}) (Trouble Exit)) (left : Option (Doing Coming)) → Came (low_leaving line) (lowered prog) end after left → end ≡ Err trouble.NoMemory
           → FollowsSession who log p q c d (λ most. in_session (line_ended judge_of most s) s (meaning most)) (option_map (λ (m : Doing Coming) most. in_session (line_ended judge_of most s) s m) left) → Serves who log p q c d (λ most. in_session (line_ended judge_of most s) s (meaning most)) session (Err e)
@@ -467,7 +463,7 @@ module _ {P W : Type 0} {who : P → W} {log : P → List Pair} where
   -- a program has no error of its own there
   pub chain_broke : {p q : P} {c : Clock} (run : ℕ → Runner) (faulted : ℕ → ℕ → Job Position → Step Position) (old new : Session) (prog : Program) (s : talk.Session Position) (j : Job Position) (e : Stop) (done : Result AfterLine NoMemory) → RanIn old prog s j → ((fault : ℕ) → e ≡ stop.Fault fault → ⊥)
       → Follows who log p q c c (reads_program judge_of j.account j.destination.name) (answered_by (Err e) tt) → IfOk done (λ on. run_ends (exit_at e) (seen old) ≡ Some (goes on (seen new)))
-      → Serves who log p q c c (λ most. follows_chain judge_of (run most) (faulted most) most (run_is_over s) s j) new done
+      → Serves who log p q c c (λ most. follows_chain (ending run faulted (run_is_over s) s most) j) new done
   chain_broke run faulted old new prog s j (stop.Fault fault) done ran nay f told = absurd (nay fault refl)
   chain_broke run faulted old new prog s j (stop.Halt halt) done ran nay f told =
       serves_behind (chain_follows run faulted (run_is_over s) s j (Some (Breaks (Halted halt) tt)) f)

@@ -9,7 +9,7 @@ use Rattle.monitor_calls.specs.declared.files.OpenKind.{OpenKind}
 use Rattle.monitor_calls.specs.declared.calls.Request.TheVariants as request
 use Rattle.monitor_calls.specs.declared.calls.Reply.{Reply}
 use Rattle.monitor_calls.specs.declared.calls.Reply.TheVariants.{Done, Failed}
-use Rattle.job_model.specs.Act.{Act, Gives, Breaks, Asks, Takes, Break, Faulted, Halted, Gone, Left, break_over, over}
+use Rattle.job_model.specs.Act.{Act, Gives, Breaks, Asks, Types, Takes, Break, Faulted, Halted, Gone, Left, break_over, over}
 use Rattle.job_model.specs.Asking.{counts_as}
 use Rattle.file_names.specs.declared.spec.Spec.{Spec}
 use Rattle.basic_values.specs.declared.limits.TheConstants.{MOST_FILES}
@@ -36,7 +36,7 @@ use Rattle.session_model.specs.ProgramFiles.{spec_read, listed_spec, spec_or_own
 use Rattle.session_model.specs.Talk.{Session, Step, SessionEnd, with_job, says, with_lines, named, no_name, answered, entered, hello, leave, log_out, emptied, begins_new, renames, headed, lists, deletes, takes_edit, broken_off, tried, with_storage, shut_down, by_name, loaded, loads, reads_old, old, saves_as, saves, kills_file, unsaves, with_screen, catalogs_of, catalogs, on_printer, queues_by, rests, visitor_acts, program_by, reported, run_is_over}
 use Rattle.session_model.specs.Talk as talk
 use Rattle.basic_tree.specs.ProgramLines.{Lines}
-use Rattle.session_model.proofs.Ends.{Ends}
+use Rattle.job_model.specs.Ends.{EndsWhere}
 use Rattle.command_level.specs.Standing.{is_gone, low_session, StopFits}
 
 start_zero : (ss : List StatementTree) → start_of ss 0 ≡ 0
@@ -98,6 +98,7 @@ module _ (p : Program) where
   tried_low whole next next' (Gives a q) h = h a (whole q)
   tried_low whole next next' (Breaks why q) h = broken_low why (whole q)
   tried_low whole next next' (Asks r by) h = λ i. Asks r (λ x. tried_low whole next next' (by x) h i)
+  tried_low whole next next' (Types by) h = λ i. Types (λ key. tried_low whole next next' (by key) h i)
   tried_low whole next next' (Takes q rest) h = λ i. Takes (low (whole q)) (tried_low whole next next' rest h i)
 
   -- all channels are closed
@@ -214,7 +215,7 @@ module _ (p : Program) where
   -- A STOP THAT FITS
 
   abbrev pub Fit : {A : Type 0} → Act SessionEnd (Session Position) A → Type 0
-  Fit m = Ends (StopFits p) m
+  Fit m = EndsWhere (StopFits p) m
 
   pub end_fits : (s : Session Position) (why : Break (program.Leaving Position)) (j : Job Position) → p ≡ program_by judge_of s.lines → refusal_of p ≡ None → StopFits p s → Fit (talk.outlived (run_is_over s) s why j)
   end_fits s Gone j here sound fits = fits
@@ -263,6 +264,7 @@ module _ (p : Program) where
   tried_fits whole next (Gives a q) h f = f a (whole q) (h q)
   tried_fits whole next (Breaks why q) h f = broken_fits why (whole q) (h q)
   tried_fits whole next (Asks r by) h f = λ x. tried_fits whole next (by x) h f
+  tried_fits whole next (Types by) h f = λ key. tried_fits whole next (by key) h f
   tried_fits whole next (Takes q rest) h f = (h q, tried_fits whole next rest h f)
 
   shut_fits : (next : Session Position → Step Position) (s : Session Position) → StopFits p s → ((s : Session Position) → Fit (next s)) → Fit (shut_down next s)

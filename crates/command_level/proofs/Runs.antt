@@ -6,7 +6,7 @@ use Rattle.std.specs.Result.{IsErrAnd}
 use Rattle.basic_values.specs.declared.failures.NoMemory.{NoMemory}
 use Rattle.basic_tree.specs.declared.programs.Line.{Line}
 use Rattle.grammar_machine.specs.MachineJudge.{judge_of}
-use Rattle.monitor_calls.specs.Pairs.{Pair}
+use Rattle.monitor_calls.specs.declared.events.Event.{Event}
 use Rattle.job_model.specs.Act.{Gives}
 use Rattle.job_model.specs.Play.{Clock}
 use Rattle.job_model.specs.Follow.{Follows, unless_memory}
@@ -19,6 +19,7 @@ use Rattle.line_editor.specs.Lines.{AreTrees}
 use Rattle.program_model.specs.InMemory.{program_of}
 use Rattle.program_model.specs.declared.refusals.LowerRefusal.{LowerRefusal}
 use Rattle.program_model.specs.Program.{Program, Position}
+use Rattle.program_model.specs.Reports.{Report}
 use Rattle.program_model.specs.Job as program
 use Rattle.program_model.specs.Job.{Job}
 use Rattle.program_model.specs.Storage.{Storage, in_storage}
@@ -28,8 +29,8 @@ use Rattle.program_model.specs.Soundness.{refusal_of}
 use Rattle.polish_code.specs.Walk.{Spot}
 use Rattle.polish_code.specs.Lowered.{low_leaving}
 use Rattle.session_model.specs.Talk as talk
-use Rattle.session_model.specs.Talk.{Step, Runner, says, with_job, with_storage, shut_down, headed, begun, no_line, runs_shut, runs_there, runs_unless, answered, program_by, acts, visitor_acts, user_acts, line_acts, rests}
-use Rattle.session_model.specs.Texts.{lowering_text}
+use Rattle.session_model.specs.Talk.{Step, Runner, says, with_job, with_storage, shut_down, headed, begun, no_line, runs_shut, runs_there, runs_unless, answered, reports, program_by, acts, visitor_acts, user_acts, line_acts, rests}
+use Rattle.session_model.specs.Texts.{lowering_report}
 use Rattle.basic_interpreter.specs.declared.stops.Stop.{Stop}
 use Rattle.basic_interpreter.specs.Stopping.{leaving_of}
 use Rattle.command_level.specs.declared.session.Session.{Session}
@@ -53,7 +54,7 @@ use Rattle.command_level.proofs.Spelled.{trees_program}
 pub ok_fact : {T E : Type 0} {Fact : Type 0} (r : Result T E) (value : T) → r ≡ Ok value → OnOk r Fact → Fact
 ok_fact {T} {E} {Fact} r value is fact = subst (λ (r : Result T E). OnOk r Fact) is fact
 
-pub serves_lost : {P W : Type 0} {who : P → W} {log : P → List Pair} {p : P} {c : Clock} {step : ℕ → Step Position} {session : Session} (result : Result AfterLine NoMemory) (IsIt : NoMemory → Type 0) → IsErrAnd result IsIt → Serves who log p p c c step session result
+pub serves_lost : {P W : Type 0} {who : P → W} {log : P → List Event} {p : P} {c : Clock} {step : ℕ → Step Position} {session : Session} (result : Result AfterLine NoMemory) (IsIt : NoMemory → Type 0) → IsErrAnd result IsIt → Serves who log p p c c step session result
 serves_lost (Ok on) IsIt is = absurd is
 serves_lost (Err e) IsIt is = serves_nothing e
 
@@ -94,7 +95,7 @@ program_here lines text trees same h = trees_program text trees h ∙ ap (progra
 pub here_behind : (mid : Session) (s : talk.Session Position) (prog : Program) (trees : List (ℕ × Line)) → low_session prog (begun prog s) ≡ seen mid → AreTrees mid.text trees → program_of trees ≡ program_by judge_of s.lines
 here_behind mid s prog trees low h = program_here s.lines mid.text trees (sym (ap (λ (u : talk.Session Spot). u.lines) low)) h
 
-module _ {P W : Type 0} {who : P → W} {log : P → List Pair} where
+module _ {P W : Type 0} {who : P → W} {log : P → List Event} where
   -- behind the closing of all channels
   pub run_shut : {p q r : P} {c d : Clock} (count : ℕ → ℕ) (mid behind : Session) (s : talk.Session Position) (st : Stands mid s) (t : Storage) (next : ℕ → talk.Session Position → Step Position) (new : Session) (result : Result Reached NoMemory)
       → Follows who log p q c c (shut_act (in_storage.part (seen mid).job)) (Some (Gives tt t)) → seen behind ≡ with_storage (seen mid) t
@@ -107,22 +108,28 @@ module _ {P W : Type 0} {who : P → W} {log : P → List Pair} where
   -- a program that is refused
   pub serves_refused : {p : P} {c : Clock} (prog : Program) (run : ℕ → Runner) (line : Option ℕ) (s : talk.Session Position) (mid new : Session) (refusal : LowerRefusal) (result : Result AfterLine NoMemory)
       → low_session prog (begun prog s) ≡ seen mid → refusal_of prog ≡ Some refusal
-      → IfOk result (λ on. answered (lowering_text refusal) (seen mid) ≡ goes on (seen new))
+      → IfOk result (λ on. reports (lowering_report refusal) (seen mid) ≡ goes on (seen new))
       → Serves who log p p c c (λ most. runs_shut (run most) prog most line s) new result
   serves_refused prog run line s mid new refusal result low is told =
       serves_from (λ most. ap (λ (o : Option LowerRefusal). runs_unless (run most) o prog most line (begun prog s)) is)
-      (serves_same prog new result (answered (lowering_text refusal) (begun prog s)) (ok_map result (λ on same. ap (answered (lowering_text refusal)) low ∙ same) told) tt)
+      (serves_same prog new result (reports (lowering_report refusal) (begun prog s)) (ok_map result (λ on same. ap (reports (lowering_report refusal)) low ∙ same) told) tt)
 
   -- one that cannot begin at a line
   pub serves_nowhere : {p : P} {c : Clock} (prog : Program) (run : ℕ → Runner) (line : Option ℕ) (can : Bool) (s : talk.Session Position) (mid new : Session) (refusal : LowerRefusal) (result : Result AfterLine NoMemory)
       → low_session prog s ≡ seen mid → s.stop ≡ None → can ≡ false → refusal ≡ no_line line
-      → IfOk result (λ on. answered (lowering_text refusal) (seen mid) ≡ goes on (seen new))
+      → IfOk result (λ on. reports (lowering_report refusal) (seen mid) ≡ goes on (seen new))
       → Serves who log p p c c (λ most. runs_there (run most) prog most line can s) new result
   serves_nowhere prog run line can s mid new refusal result low none nay is told =
       serves_from (λ most. ap (λ (can : Bool). runs_there (run most) prog most line can s) nay)
-      (serves_same prog new result (answered (lowering_text (no_line line)) s)
-      (ok_map result (λ on same. ap (answered (lowering_text (no_line line))) low ∙ ap (λ (refusal : LowerRefusal). answered (lowering_text refusal) (seen mid)) (sym is) ∙ same) told)
+      (serves_same prog new result (reports (lowering_report (no_line line)) s)
+      (ok_map result (λ on same. ap (reports (lowering_report (no_line line))) low ∙ ap (λ (refusal : LowerRefusal). reports (lowering_report refusal) (seen mid)) (sym is) ∙ same) told)
       (no_stop_fits prog s none))
+
+  -- a report without a run
+  pub serves_report : {p : P} {c : Clock} (old new : Session) (s : talk.Session Position) (st : Stands old s) (report : Report) (result : Result AfterLine NoMemory)
+      → IfOk result (λ on. reports report (seen old) ≡ goes on (seen new)) → Serves who log p p c c (λ most. reports report s) new result
+  serves_report old new s st report result told =
+      serves_same st.program new result (reports report s) (ok_map result (λ on same. ap (reports report) st.low ∙ same) told) st.fits
 
   -- an answer without a run
   pub serves_answer : {p : P} {c : Clock} (old new : Session) (s : talk.Session Position) (st : Stands old s) (text : List ℕ) (result : Result AfterLine NoMemory)
@@ -175,7 +182,7 @@ echoed_stands old mid s st line bytes screen same wrote is = record {
   fits = st.fits;
 }
 
-module _ {P W : Type 0} {who : P → W} {log : P → List Pair} where
+module _ {P W : Type 0} {who : P → W} {log : P → List Event} where
   -- before the login
   pub serves_visitor : {p q : P} {c : Clock} (mid new : Session) (s : talk.Session Position) (line bytes : List ℕ) (command : Command) (result : Result AfterLine NoMemory) → Stands mid (says (line ++ line_end) s) → s.account ≡ None → command ≡ command_of bytes → bytes ≡ line
       → Follows who log p q c c (visitor_acts command (seen mid)) (unless_memory result (λ on. goes on (seen new)))

@@ -4,7 +4,7 @@ use Rattle.basic_values.specs.declared.failures.NoMemory.{NoMemory}
 use Rattle.basic_values.specs.declared.failures.Trouble.{Trouble}
 use Rattle.basic_values.specs.declared.failures.Trouble.TheVariants as trouble
 use Rattle.grammar_machine.specs.MachineJudge.{judge_of}
-use Rattle.monitor_calls.specs.Pairs.{Pair}
+use Rattle.monitor_calls.specs.declared.events.Event.{Event}
 use Rattle.job_model.specs.Act.{Break, break_over}
 use Rattle.job_model.specs.Play.{Clock}
 use Rattle.program_model.specs.Program.{Program, Position}
@@ -18,7 +18,7 @@ use Rattle.basic_eval.specs.Acting.{break_of}
 use Rattle.basic_interpreter.specs.Units.{units_left}
 use Rattle.session_model.specs.Serving.{FollowsSession}
 use Rattle.session_model.specs.Talk as talk
-use Rattle.session_model.specs.Talk.{Step, with_job, ends_run, program_by}
+use Rattle.session_model.specs.Talk.{Step, ProgramRun, with_job, ends_run, program_by}
 use Rattle.command_level.specs.declared.session.Session.{Session}
 use Rattle.command_level.specs.declared.session.AfterLine.{AfterLine}
 use Rattle.command_level.specs.declared.chains.Reached.{Reached}
@@ -42,6 +42,10 @@ abbrev pub is_chain : Reached → Bool
 is_chain (reached.End exit.Chained) = true
 is_chain other = false
 
+-- a run of this program in a session, whose lines the grammar judges
+abbrev pub run_of : ℕ → Program → talk.Session Position → ProgramRun
+run_of most p s = record { judge = judge_of; most = most; program = p; session = s }
+
 -- in the code's session this program has run, up to this state of its job
 pub record RanIn (session : Session) (p : Program) (s : talk.Session Position) (j : Job Position) : Type 0 where
   pub low : low_session p (with_job j s) ≡ seen session
@@ -58,12 +62,12 @@ pub record AtEnd (session : Session) (why : Exit) (p : Program) (s : talk.Sessio
 abbrev pub LeftRun : (ℕ → ℕ) → Session → Result Reached NoMemory → Option (ℕ → Step Position) → Type 0
 LeftRun count session (Ok (reached.End why)) left =
     (p : Program) × (s : talk.Session Position) × (b : Break (program.Leaving Position)) × (j : Job Position)
-    × AtEnd session why p s b j × (left ≡ Some (λ most. ends_run judge_of most (count most) p s b j))
+    × AtEnd session why p s b j × (left ≡ Some (λ most. ends_run (count most) (run_of most p s) b j))
 LeftRun count session (Ok (reached.Over onward)) left = LeftBy session (Ok onward) left
 LeftRun count session (Err e) left = left ≡ None
 
 -- a call follows what is to be done, up to what is left there
-pub record ServesRun {P W : Type 0} (who : P → W) (log : P → List Pair) (old new : P) (c d : Clock)
+pub record ServesRun {P W : Type 0} (who : P → W) (log : P → List Event) (old new : P) (c d : Clock)
     (count : ℕ → ℕ) (step : ℕ → Step Position) (session : Session) (result : Result Reached NoMemory) : Type 0 where
   pub left : Option (ℕ → Step Position)
   pub leaves : LeftRun count session result left

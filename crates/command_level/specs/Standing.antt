@@ -11,7 +11,7 @@ use Rattle.basic_tree.specs.SpellingStatements.{line_statements}
 use Rattle.basic_tree.specs.StatementViews.{line_of}
 use Rattle.basic_tree.specs.Trees.{LineTree}
 use Rattle.grammar_machine.specs.MachineJudge.{judge_of}
-use Rattle.monitor_calls.specs.Pairs.{Pair}
+use Rattle.monitor_calls.specs.declared.events.Event.{Event}
 use Rattle.job_model.specs.Play.{Clock}
 use Rattle.program_model.specs.Program.{Program, Position}
 use Rattle.program_model.specs.Soundness.{refusal_of}
@@ -54,7 +54,7 @@ LeftBy session (Ok onward) left = (t : talk.Session Position) × Stands session 
 LeftBy session (Err e) left = left ≡ None
 
 -- a call follows what is to be done, up to what is left
-pub record Serves {P W : Type 0} (who : P → W) (log : P → List Pair) (old new : P) (c d : Clock)
+pub record Serves {P W : Type 0} (who : P → W) (log : P → List Event) (old new : P) (c d : Clock)
     (step : ℕ → Step Position) (session : Session) (result : Result AfterLine NoMemory) : Type 0 where
   pub left : Option (ℕ → Step Position)
   pub leaves : LeftBy session result left

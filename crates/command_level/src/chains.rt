@@ -18,12 +18,12 @@ ghost use Rattle.program_model.specs.Job.{Job};
 ghost use Rattle.program_model.specs.Program.{Program, Position};
 ghost use Rattle.program_model.specs.Running.{Coming, raises};
 ghost use Rattle.session_model.specs.Talk as talk;
-ghost use Rattle.session_model.specs.Talk.{Step, runs_chained, chains_to, ends_run, follows_chain, in_session};
-ghost use Rattle.session_model.specs.Talk.{line_ended, outlived, reads_file, reads_program, reported};
-ghost use Rattle.session_model.specs.Talk.{run_is_over, stop_by, with_job};
+ghost use Rattle.session_model.specs.Talk.{Step, chains_to, ends_run, in_session, line_ended};
+ghost use Rattle.session_model.specs.Talk.{outlived, reads_file, reads_program, reported};
+ghost use Rattle.session_model.specs.Talk.{run_is_over, runs_chained, stop_by, with_job};
 ghost use Rattle.command_level.specs.AfterLines.{goes};
 ghost use Rattle.command_level.specs.Chaining.{IsOver, IsReached, LeftRun, RanIn, ServesRun, Spent};
-ghost use Rattle.command_level.specs.Chaining.{is_chain};
+ghost use Rattle.command_level.specs.Chaining.{is_chain, run_of};
 ghost use Rattle.command_level.specs.Seen.{seen};
 ghost use Rattle.command_level.specs.Standing.{Serves, StopFits, is_gone, line_ends, low_session};
 ghost use Rattle.command_level.specs.Standing.{run_ends};
@@ -84,7 +84,7 @@ impl Session {
         ensures path { (count : ℕ → ℕ) (p : Program) (s : talk.Session Position)
             (j : Job Position) → RanIn self.old p s j
             → ServesRun P.who P.log port.old port.new clock.old clock.new count
-            (λ most. ends_run judge_of most (suc (count most)) p s (Left program.Chained) j)
+            (λ most. ends_run (suc (count most)) (run_of most p s) (Left program.Chained) j)
             self.new result }
         ensures units { IfOk result (Spent clock.old clock.new) }
     {
@@ -245,8 +245,8 @@ impl Session {
     }
 }
 
-/// Where a run has come. Where it left the body of a function that was not called, that is an end as
-/// any other.
+/// Where a run has come. Where it left the body of a function that was not called, that is an end
+/// as any other.
 pub(crate) fn ran_to(end: Result<(), Trouble<Exit>>) -> Result<Reached, NoMemory>
     ensures ok { IfOk result (IsReached end) }
     ensures memory { OnErr result (end ≡ Err trouble.NoMemory) }

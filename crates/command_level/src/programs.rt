@@ -9,12 +9,12 @@ ghost use Rattle.program_model.specs.Program.{Program, Position};
 ghost use Rattle.program_model.specs.Soundness.{can_begin, refusal_of};
 ghost use Rattle.session_model.specs.Talk as talk;
 ghost use Rattle.basic_eval.specs.Acting.{break_of};
-ghost use Rattle.session_model.specs.Talk.{answered, begun, runs_chained, does_line, goes_on, headed};
-ghost use Rattle.session_model.specs.Talk.{immediate, no_line, program_by, reads_and_runs, reported};
-ghost use Rattle.session_model.specs.Talk.{runs, runs_all, runs_file, runs_loaded, runs_shut};
-ghost use Rattle.session_model.specs.Talk.{runs_there};
+ghost use Rattle.session_model.specs.Talk.{begun, does_line, goes_on, headed, immediate};
+ghost use Rattle.session_model.specs.Talk.{no_line, program_by, reads_and_runs, reported, reports};
+ghost use Rattle.session_model.specs.Talk.{runs, runs_all, runs_chained, runs_file, runs_loaded};
+ghost use Rattle.session_model.specs.Talk.{runs_shut, runs_there};
 ghost use Rattle.session_model.specs.ProgramFiles.{program_on};
-ghost use Rattle.session_model.specs.Texts.{lowering_text};
+ghost use Rattle.session_model.specs.Texts.{lowering_report};
 ghost use Rattle.command_level.specs.AfterLines.{goes};
 ghost use Rattle.command_level.specs.Chaining.{ServesRun, Spent};
 ghost use Rattle.command_level.specs.Seen.{seen};
@@ -31,7 +31,6 @@ use basic_tree::Line;
 use basic_values::errors::DATA_FORMAT_ERROR;
 use basic_values::{Fault, LINE_LENGTH, NoMemory, Trouble};
 use file_names::Spec;
-use itoa::Buffer;
 use lowering::{loops_in_line, loops_in_program, lower, lower_now};
 use monitor_calls::{Account, Page, Port, Short};
 use polish_code::Code;
@@ -73,8 +72,8 @@ impl Session {
     ) -> Result<Reached, NoMemory>
         ensures path { (count : ℕ → ℕ) (s : talk.Session Position) → Stands self.old s
             → ServesRun P.who P.log port.old port.new clock.old clock.new count
-            (λ most. runs (runs_chained judge_of most (count most)) (program_by judge_of s.lines) most
-            line s) self.new result }
+            (λ most. runs (runs_chained judge_of most (count most))
+            (program_by judge_of s.lines) most line s) self.new result }
         ensures units { IfOk result (Spent clock.old clock.new) }
     {
         match self.running.storage.shut_all(alloc, port) {
@@ -93,8 +92,8 @@ impl Session {
     ) -> Result<Reached, NoMemory>
         ensures path { (count : ℕ → ℕ) (s : talk.Session Position) → Stands self.old s
             → ServesRun P.who P.log port.old port.new clock.old clock.new count
-            (λ most. runs_shut (runs_chained judge_of most (count most)) (program_by judge_of s.lines)
-            most line s) self.new result }
+            (λ most. runs_shut (runs_chained judge_of most (count most))
+            (program_by judge_of s.lines) most line s) self.new result }
         ensures units { IfOk result (Spent clock.old clock.new) }
     {
         self.begin_run(alloc)?;
@@ -118,8 +117,8 @@ impl Session {
             → low_session p s ≡ seen self.old → p ≡ program_by judge_of s.lines
             → refusal_of p ≡ None → s.stop ≡ None → code_kept code.now ≡ coded p
             → ServesRun P.who P.log port.old port.new clock.old clock.new count
-            (λ most. runs_there (runs_chained judge_of most (count most)) p most line (can_begin p line)
-            s) self.new result }
+            (λ most. runs_there (runs_chained judge_of most (count most)) p most line
+            (can_begin p line) s) self.new result }
         ensures units { (p : Program) → code_kept code.now ≡ coded p
             → IfOk result (Spent clock.old clock.new) }
     {
@@ -306,13 +305,12 @@ impl Session {
         self.be_ready()
     }
 
-    /// A program or a line that is refused before it runs.
+    /// Reports why a program or a line is rejected before it runs.
     pub(crate) fn refuse(&mut self, refusal: LowerRefusal) -> Result<AfterLine, NoMemory>
         ensures { IfOk result (λ onward.
-            answered (lowering_text refusal) (seen self.old) ≡ goes onward (seen self.new)) }
+            reports (lowering_report refusal) (seen self.old) ≡ goes onward (seen self.new)) }
     {
-        let text = lowering_text(self.running.alloc, refusal)?;
-        self.answer(text.as_slice())
+        self.report_failure(cause_text(refusal.cause), refusal.line)
     }
 }
 
@@ -324,19 +322,4 @@ fn no_line(line: Option<u16>) -> LowerRefusal
         line: line.unwrap_or(0),
         cause: LowerCause::NoLine,
     }
-}
-
-/// The text of a refusal, with its line where it has one.
-fn lowering_text(alloc: Global, refusal: LowerRefusal) -> Result<Vec<u8>, NoMemory>
-    ensures { IfOk result (λ text. text.items ≡ lowering_text refusal) }
-{
-    let mut text = Vec::new(alloc);
-    text.push(b'?')?;
-    text.extend_from_slice(cause_text(refusal.cause))?;
-    if refusal.line != 0 {
-        text.extend_from_slice(b" at line ")?;
-        text.extend_from_slice(Buffer::new().format(refusal.line).as_bytes())?;
-    }
-    text.extend_from_slice(b"\r\n")?;
-    Ok(text)
 }

@@ -1,4 +1,4 @@
-//! The session of one terminal: its keys, the requests that they make, and its screen.
+//! The session of one terminal: its key lines, the requests that they make, and its screen.
 //!
 //! It stands on what a key line asks for (`commands`), on the runs of programs (`programs`), and on
 //! a port to a monitor. Each method is the code of one act of `session_model`'s `Talk`. Where it
@@ -6,7 +6,8 @@
 //! which the code's stands. `serve` carries the promise of all of it: the session is the talk.
 
 ghost use Rattle.std.specs.Prelude.{◌≡◌, ◌≤◌, ℕ, List, length, IfOk, OnOk, OnErr};
-ghost use Rattle.monitor_calls.specs.Pairs.{Pair, requests, replies, Grew};
+ghost use Rattle.monitor_calls.specs.declared.events.Event.{Event};
+ghost use Rattle.monitor_calls.specs.Pairs.{Grew};
 ghost use Rattle.monitor_calls.specs.declared.calls.Request.TheVariants as request;
 ghost use Rattle.basic_eval.specs.Acting as acting;
 ghost use Rattle.grammar_machine.specs.MachineJudge.{judge_of};
@@ -14,10 +15,11 @@ ghost use Rattle.job_model.specs.Asking.{counts_as};
 ghost use Rattle.job_model.specs.Play as play;
 ghost use Rattle.job_model.specs.Follow.{Follows, unless_memory};
 ghost use Rattle.program_model.specs.Program.{Position};
+ghost use Rattle.program_model.specs.Reports.{Failure};
 ghost use Rattle.session_model.specs.Talk as talk;
 ghost use Rattle.session_model.specs.Talk.{acts_for, answered, entered, expired, hello, is_ready};
 ghost use Rattle.session_model.specs.Talk.{log_out, new_job, rests, visitor_acts, user_acts};
-ghost use Rattle.session_model.specs.Talk.{line_acts, leave, TakesKey, IsTalk, BeginsTalk};
+ghost use Rattle.session_model.specs.Talk.{line_acts, leave, reports, turn, IsTalkOf, BeginsTalkOf};
 ghost use Rattle.command_level.specs.Seen.{seen, login_seen, command_seen, IsShort};
 ghost use Rattle.command_level.specs.Standing.{Serves, Stands};
 ghost use Rattle.command_level.specs.AfterLines.{goes};
@@ -25,7 +27,7 @@ ghost use Rattle.std.specs.Option.{option_map};
 
 use crate::commands::{Command, command_of};
 use crate::logins::LoginForm;
-use basic_interpreter::{Clock, Exit, Running, Stack, Stop, Storage};
+use basic_interpreter::{Clock, Exit, Running, Stack, Stop, Storage, write_failure, write_used_up};
 use basic_values::{KeyLine, LINE_LENGTH, NoMemory, Text, Trouble};
 use error_trap::Trap;
 use job_model::is_error;
@@ -34,7 +36,7 @@ use monitor_calls::{Account, Port, Reply, Request, Short};
 use program_model::{Destination, Home};
 use record_fields::Buffers;
 use std::alloc::Global;
-use terminal_line::{Keys, Screen};
+use terminal_line::Screen;
 
 /// The answer to a command with a wrong tail.
 pub(crate) const ILLEGAL_COMMAND: &[u8] = b"?Illegal command\r\n";
@@ -56,7 +58,7 @@ pub(crate) enum AfterLine {
 }
 
 /// What is kept from line to line: the account that the session acts for, if it is logged in, the
-/// program in memory, and what its programs keep, with the screen and the key lines that are left.
+/// program in memory, and what its programs keep, with the screen.
 #[derive(Drop)]
 pub(crate) struct Session {
     pub(crate) account: Option<Account>,
@@ -68,21 +70,22 @@ pub(crate) struct Session {
     pub(crate) stop: Option<Stop>,
 }
 
-/// The session of a terminal with these keys, which it takes over: what it shows when it has ended.
-/// It asks the port for what it wants of the monitor.
-pub fn serve<P: Port>(alloc: Global, keys: Vec<KeyLine>, port: &mut P) -> Result<Screen, NoMemory>
+/// Runs the session of a terminal and returns what it shows at its end. Key lines and replies come
+/// through the port. After 2^64 - 1 key lines the session stops as if memory had run out.
+pub fn serve<P: Port>(alloc: Global, port: &mut P) -> Result<Screen, NoMemory>
     // The requests and the screen are those of the talk, whose lines the grammar judges.
-    ensures talk { IfOk result (λ screen. (pairs : List Pair)
-        × Grew P.who P.log port.old port.new pairs
-        × IsTalk keys.items (replies pairs) (requests pairs) screen) }
+    ensures talk { IfOk result (λ screen. (events : List Event)
+        × Grew P.who P.log port.old port.new events
+        × IsTalkOf events screen) }
     // What was asked begins what the talk asks.
-    ensures memory { OnErr result ((pairs : List Pair) × Grew P.who P.log port.old port.new pairs
-        × BeginsTalk keys.items (replies pairs) (requests pairs)) }
+    ensures memory { OnErr result ((events : List Event)
+        × Grew P.who P.log port.old port.new events
+        × BeginsTalkOf events) }
 {
-    let mut session = begin(alloc, keys)?;
+    let mut session = begin(alloc)?;
     let mut clock = Clock::new();
-    while let Some(line) = session.next_key() {
-        match session.take_line(alloc, &line, &mut clock, port)? {
+    for _ in 0..u64::MAX {
+        match session.turn(alloc, &mut clock, port)? {
             AfterLine::Next => {}
             AfterLine::Ended => return Ok(session.into_screen()),
             AfterLine::Expired => {
@@ -91,15 +94,14 @@ pub fn serve<P: Port>(alloc: Global, keys: Vec<KeyLine>, port: &mut P) -> Result
             }
         }
     }
-    session.leave(alloc, port)?;
-    Ok(session.into_screen())
+    Err(NoMemory)
 }
 
-/// A session that nobody has logged in to, with these keys.
-fn begin(alloc: Global, keys: Vec<KeyLine>) -> Result<Session, NoMemory>
-    ensures { IfOk result (λ session. seen session ≡ talk.opening keys.items) }
+/// A session that nobody has logged in to.
+fn begin(alloc: Global) -> Result<Session, NoMemory>
+    ensures { IfOk result (λ session. seen session ≡ talk.opening) }
 {
-    let running = at_rest(alloc, keys)?;
+    let running = at_rest(alloc)?;
     Ok(Session {
         account: None,
         name: None,
@@ -109,17 +111,15 @@ fn begin(alloc: Global, keys: Vec<KeyLine>) -> Result<Session, NoMemory>
     })
 }
 
-/// A job that has run nothing, with these keys.
-fn at_rest(alloc: Global, keys: Vec<KeyLine>) -> Result<Running, NoMemory>
-    ensures { IfOk result (λ running. acting.seen running ≡ new_job keys.items) }
+/// A job that has run nothing.
+fn at_rest(alloc: Global) -> Result<Running, NoMemory>
+    ensures { IfOk result (λ running. acting.seen running ≡ new_job) }
 {
-    let keys = Keys::new(keys);
     let buffers = Buffers::new(alloc)?;
     Ok(Running {
         alloc,
         storage: Storage::new(alloc, NO_ACCOUNT, buffers),
         screen: Screen::new(alloc),
-        keys,
         trap: Trap::new(),
         returns: Stack::new(alloc),
         limits: Vec::new(alloc),
@@ -140,11 +140,26 @@ fn at_rest(alloc: Global, keys: Vec<KeyLine>) -> Result<Running, NoMemory>
 }
 
 impl Session {
-    /// The next key line, which is no longer among those that are left.
-    fn next_key(&mut self) -> Option<KeyLine>
-        ensures { TakesKey (seen self.old) (seen self.new) result }
+    /// Shows the screen, waits for the next key line, and does what it asks for. At the end of the
+    /// keys the session is left.
+    fn turn<P: Port>(
+        &mut self,
+        alloc: Global,
+        clock: &mut Clock,
+        port: &mut P,
+    ) -> Result<AfterLine, NoMemory>
+        ensures { (s : talk.Session Position) → Stands self.old s
+            → Serves P.who P.log port.old port.new clock.old clock.new
+            (λ most. turn judge_of most s) self.new result }
     {
-        self.running.keys.next_line()
+        port.show(self.running.screen.bytes());
+        match port.type_line(alloc)? {
+            Some(line) => self.take_line(alloc, &line, clock, port),
+            None => {
+                self.leave(alloc, port)?;
+                Ok(AfterLine::Ended)
+            }
+        }
     }
 
     /// One key line: its echo, and what it asks for.
@@ -249,11 +264,15 @@ impl Session {
             Command::Deassign => self.deassign(alloc, port),
             Command::Queue(tail) => self.queue(alloc, account, tail, port),
             Command::Numbered(line) => self.put_line(line),
-            _ => Ok(AfterLine::Next),
+            // These run a program, and do not come here.
+            Command::Run { .. } => Ok(AfterLine::Next),
+            Command::RunFile(_) => Ok(AfterLine::Next),
+            Command::Continue => Ok(AfterLine::Next),
+            Command::Immediate(_) => Ok(AfterLine::Next),
         }
     }
 
-    /// A command that is done: its text, and Ready at the start of a line.
+    /// Writes a command's text, and Ready at the start of a line.
     pub(crate) fn answer(&mut self, text: &[u8]) -> Result<AfterLine, NoMemory>
         ensures { IfOk result (λ onward.
             answered text.now (seen self.old)
@@ -264,12 +283,23 @@ impl Session {
         Ok(AfterLine::Next)
     }
 
-    /// Ready, at the start of a line.
+    /// Reports an error, a halt or a rejected program, by its words and its line or 0, and writes
+    /// Ready.
+    pub(crate) fn report_failure(&mut self, words: &[u8], line: u16) -> Result<AfterLine, NoMemory>
+        ensures { IfOk result (λ onward.
+            reports (Failure words.now line) (seen self.old)
+            ≡ goes onward (seen self.new)) }
+    {
+        write_failure(&mut self.running.screen, words, line)?;
+        self.be_ready()?;
+        Ok(AfterLine::Next)
+    }
+
+    /// Writes Ready at the start of a line.
     pub(crate) fn be_ready(&mut self) -> Result<(), NoMemory>
         ensures { OnOk result (seen self.new ≡ is_ready (seen self.old)) }
     {
-        self.running.screen.fresh_line()?;
-        self.running.screen.write(b"Ready\r\n")
+        self.running.screen.begin_line(b"Ready\r\n")
     }
 
     /// What the session shows.
@@ -280,12 +310,11 @@ impl Session {
         running.screen
     }
 
-    /// Tells whose calls are used up.
+    /// Reports that the job's calls are used up.
     fn expire(&mut self) -> Result<(), NoMemory>
         ensures { OnOk result (seen self.new ≡ expired (seen self.old)) }
     {
-        self.running.screen.fresh_line()?;
-        self.running.screen.write(b"?Job expired\r\n")
+        write_used_up(&mut self.running.screen)
     }
 
     /// HELLO: a wrong form and a wrong login have one answer.

@@ -10,13 +10,12 @@ use Rattle.std.proofs.lemmas.Bool.{ne_eqb, le-leb, cases_lt}
 use Rattle.std.proofs.lemmas.Fmt.{decimal_is_IsNumeral, first_decimal, decimal_digit}
 use Rattle.std.proofs.lemmas.List.{append-nil}
 use Rattle.std.proofs.lemmas.Str.Parse.{digit_from_value}
-use Rattle.monitor_calls.specs.Names.{is_capital_or_digit}
 use Rattle.deck_model.specs.declared.versions.Version.{Version}
-use Rattle.deck_model.specs.declared.versions.Version.TheVariants.{One, Two}
-use Rattle.deck_model.specs.Forms.{AccountTexts, FileTexts, quota_text, account_text, extension_text, file_text, is_numeral, is_name}
+use Rattle.deck_model.specs.declared.versions.Version.TheVariants.{One, Two, Three}
+use Rattle.deck_model.specs.Forms.{AccountTexts, FileTexts, quota_text, account_text, extension_text, file_text, is_numeral, is_file_letter, is_file_word}
 use Rattle.deck_model.specs.Fronts.{MayTell}
 use Rattle.basic_values.specs.Cuts.{◌>>=◌, behind, cut}
-use Rattle.deck_model.specs.Reading.{limits_in, texts_in, stem_before, extension_behind, file_texts_in, are_file_texts}
+use Rattle.deck_model.specs.Reading.{limit_and_quota, limits_in, texts_in, stem_before, extension_behind, file_texts_in, are_file_texts}
 use Rattle.basic_values.proofs.CutLaws.{bind_some, and_left, and_right, and_both, behind_takes, Lacks, lacks_both, cut_takes, cut_again, cut_nowhere}
 
 -- ---- numerals and names
@@ -66,7 +65,7 @@ lacks_unlike test byte fails (b ∷ text) all = (
   lacks_unlike test byte fails text (and_right (test b) (list_all test text) all),
 )
 
-numeral_digits : (text : List ℕ) → is_numeral text ≡ true → is_plain text ≡ true
+pub numeral_digits : (text : List ℕ) → is_numeral text ≡ true → is_plain text ≡ true
 numeral_digits [] e = absurd (cc)
 numeral_digits (d ∷ ds) e = and_left (is_plain (d ∷ ds)) (not (eqb d 48) || eqb (length ds) 0) e
 
@@ -75,31 +74,41 @@ numeral_lacks byte fails text e = lacks_unlike is_ascii_digit byte fails text (n
 
 -- ---- the fields of an account
 
--- the limit, and a quota behind it
-abbrev limits_text : AccountTexts → List ℕ
+-- the limit, and the quota after it
+abbrev pub limits_text : AccountTexts → List ℕ
 limits_text t = t.limit ++ quota_text t.quota
 
-abbrev plain_text : AccountTexts → List ℕ
+abbrev pub plain_text : AccountTexts → List ℕ
 plain_text t = codes "ACCOUNT " ++ (t.project ++ 44 ∷ (t.programmer ++ 32 ∷ (t.password ++ 32 ∷ limits_text t)))
 
-text_is : (t : AccountTexts) → account_text t ≡ plain_text t
+pub text_is : (t : AccountTexts) → account_text t ≡ plain_text t
 text_is t = simp append_assoc
 
 pub some_is : {A : Type 0} (x y : A) → Some x ≡ Some y → x ≡ y
 some_is x y e = cc
 
--- what stands behind the password is a limit, and a quota where the version tells one
+-- after the password come a limit and, in versions 2 and 3, a quota
+both_take : (text : List ℕ) (parts : List ℕ × Option (List ℕ)) → limit_and_quota text ≡ Some parts → (quota : List ℕ) × (parts.1 ≡ Some quota) × (text ≡ parts.0 ++ quota_text parts.1)
+both_take text parts e =
+    let a = bind_some (cut 32 text) (λ p. Some (p.0, Some p.1)) parts e in
+    subst (λ (p : List ℕ × Option (List ℕ)). (quota : List ℕ) × (p.1 ≡ Some quota) × (text ≡ p.0 ++ quota_text p.1)) (some_is (a.0.0, Some a.0.1) parts a.2) (a.0.1, refl, cut_takes 32 text a.0 a.1)
+
 limits_take : (version : Version) (text : List ℕ) (parts : List ℕ × Option (List ℕ)) → limits_in version text ≡ Some parts → MayTell version parts.1 × (text ≡ parts.0 ++ quota_text parts.1)
 limits_take One text parts e = subst (λ (p : List ℕ × Option (List ℕ)). MayTell One p.1 × (text ≡ p.0 ++ quota_text p.1)) (some_is (text, None) parts e) (tt, sym (append-nil text))
 limits_take Two text parts e =
-    let a = bind_some (cut 32 text) (λ p. Some (p.0, Some p.1)) parts e in
-    subst (λ (p : List ℕ × Option (List ℕ)). MayTell Two p.1 × (text ≡ p.0 ++ quota_text p.1)) (some_is (a.0.0, Some a.0.1) parts a.2) (tt, cut_takes 32 text a.0 a.1)
+    let b = both_take text parts e in
+    (subst (λ (q : Option (List ℕ)). MayTell Two q) (sym b.1) tt, b.2)
+limits_take Three text parts e =
+    let b = both_take text parts e in
+    (subst (λ (q : Option (List ℕ)). MayTell Three q) (sym b.1) tt, b.2)
 
 limits_again : (version : Version) (limit : List ℕ) (quota : Option (List ℕ)) → MayTell version quota → Lacks 32 limit → limits_in version (limit ++ quota_text quota) ≡ Some (limit, quota)
 limits_again One limit None may lacks = ap (limits_in One) (append-nil limit)
 limits_again Two limit (Some quota) may lacks = rw (cut_again 32 limit quota lacks) refl
+limits_again Three limit (Some quota) may lacks = rw (cut_again 32 limit quota lacks) refl
 limits_again One limit (Some quota) may lacks = absurd may
 limits_again Two limit None may lacks = absurd may
+limits_again Three limit None may lacks = absurd may
 
 abbrev account_fields : List ℕ → List ℕ → List ℕ → List ℕ × Option (List ℕ) → AccountTexts
 account_fields project programmer password limits =
@@ -136,7 +145,7 @@ texts_again version t plain =
 
 -- ---- the fields of a file
 
--- a name is its stem, and its extension behind the first point
+-- a name is its stem and the extension after its first point
 name_take : (name : List ℕ) (o : Option (List ℕ × List ℕ)) → cut 46 name ≡ o → name ≡ stem_before name o ++ extension_text (extension_behind o)
 name_take name None e = sym (append-nil name)
 name_take name (Some parts) e = cut_takes 46 name parts e
@@ -149,13 +158,13 @@ extension_again : (stem : List ℕ) (extension : Option (List ℕ)) → Lacks 46
 extension_again stem None lacks = ap extension_behind (ap (cut 46) (append-nil stem) ∙ cut_nowhere 46 stem lacks)
 extension_again stem (Some extension) lacks = ap extension_behind (cut_again 46 stem extension lacks)
 
-abbrev name_of : FileTexts → List ℕ
+abbrev pub name_of : FileTexts → List ℕ
 name_of t = t.stem ++ extension_text t.extension
 
-abbrev plain_file : FileTexts → List ℕ
+abbrev pub plain_file : FileTexts → List ℕ
 plain_file t = codes "FILE [" ++ (t.project ++ 44 ∷ (t.programmer ++ 93 ∷ (name_of t ++ 60 ∷ (t.code ++ 62 ∷ 32 ∷ t.blocks))))
 
-file_is : (t : FileTexts) → file_text t ≡ plain_file t
+pub file_is : (t : FileTexts) → file_text t ≡ plain_file t
 file_is t = simp append_assoc
 
 abbrev fields : List ℕ → List ℕ → List ℕ → List ℕ → List ℕ → FileTexts
@@ -209,16 +218,27 @@ file_texts_again t plain =
       blocks = t.blocks;
     }))
 
-extension_lacks : (extension : Option (List ℕ)) → is_name (unwrap_or extension []) ≡ true → Lacks 60 (extension_text extension)
-extension_lacks None name = tt
-extension_lacks (Some extension) name = (refl, lacks_unlike is_capital_or_digit 60 refl extension name)
+-- neither a point nor a less-than sign is a letter of a name
+no_point : (version : Version) → is_file_letter version 46 ≡ false
+no_point One = refl
+no_point Two = refl
+no_point Three = refl
 
-pub plain_texts : (t : FileTexts) → are_file_texts t ≡ true → IsPlainFile t
-plain_texts t formed =
+no_less : (version : Version) → is_file_letter version 60 ≡ false
+no_less One = refl
+no_less Two = refl
+no_less Three = refl
+
+extension_lacks : (version : Version) (extension : Option (List ℕ)) → is_file_word version (unwrap_or extension []) ≡ true → Lacks 60 (extension_text extension)
+extension_lacks version None name = tt
+extension_lacks version (Some extension) name = (refl, lacks_unlike (is_file_letter version) 60 (no_less version) extension name)
+
+pub plain_texts : (version : Version) (t : FileTexts) → are_file_texts version t ≡ true → IsPlainFile t
+plain_texts version t formed =
     let p = is_numeral t.project in
     let n = is_numeral t.programmer in
-    let s = is_name t.stem in
-    let x = is_name (unwrap_or t.extension []) in
+    let s = is_file_word version t.stem in
+    let x = is_file_word version (unwrap_or t.extension []) in
     let c = is_numeral t.code in
     let e5 = and_left (p && n && s && x && c) (is_numeral t.blocks) formed in
     let e4 = and_left (p && n && s && x) c e5 in
@@ -228,7 +248,7 @@ plain_texts t formed =
     record {
       project = numeral_lacks 44 refl t.project (and_left p n e2);
       programmer = numeral_lacks 93 refl t.programmer (and_right p n e2);
-      stem = lacks_unlike is_capital_or_digit 46 refl t.stem stem;
-      name = lacks_both 60 t.stem (extension_text t.extension) (lacks_unlike is_capital_or_digit 60 refl t.stem stem) (extension_lacks t.extension (and_right (p && n && s) x e4));
+      stem = lacks_unlike (is_file_letter version) 46 (no_point version) t.stem stem;
+      name = lacks_both 60 t.stem (extension_text t.extension) (lacks_unlike (is_file_letter version) 60 (no_less version) t.stem stem) (extension_lacks version t.extension (and_right (p && n && s) x e4));
       code = numeral_lacks 62 refl t.code (and_right (p && n && s && x) c e5);
     }

@@ -1,8 +1,15 @@
+pub mod CountTexts
 pub mod DeckRows
+pub mod DiskLaws
 pub mod FieldLaws
 pub mod FileLaws
 pub mod FormLaws
 pub mod FrontLaws
+pub mod HexLaws
+pub mod LengthLaws
+pub mod LineLaws
+pub mod NameLaws
+pub mod PageLaws
 pub mod RangeLaws
 pub mod ReadingLaws
 pub mod VolumeLaws

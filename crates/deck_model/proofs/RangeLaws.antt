@@ -1,4 +1,4 @@
--- The fields of a line in their ranges: what no cause applies to, and what the reader makes of them.
+-- Fields in their ranges: no cause applies to them, and they are read as they were written.
 use Rattle.std.proofs.Common.{◌≡◌, ℕ, ◌^◌, ◌<◌, Bool, true, false, cond, List, [], ◌∷◌, length, Option, Some, None, refl, sym, ap, ◌∙◌, arith}
 use Rattle.std.specs.Prelude.{◌+◌, ◌≤◌, ◌&&◌, not, nat_le, nat_lt, bytes_eq, unwrap_or}
 use Rattle.std.specs.List.{list_all}
@@ -10,24 +10,25 @@ use Rattle.std.proofs.lemmas.Fmt.{decimal_is_IsNumeral}
 use Rattle.basic_values.specs.Decimals.{is_number_between}
 use Rattle.monitor_calls.specs.declared.volumes.AccountEntry.{AccountEntry}
 use Rattle.monitor_calls.specs.declared.files.FileName.{FileName}
-use Rattle.monitor_calls.specs.Names.{is_capital_or_digit, is_text_of, is_password, is_terminal_name}
-use Rattle.monitor_calls.specs.Volumes.{has_account, is_between, is_good_entry, is_good_name, is_good_file}
+use Rattle.monitor_calls.specs.Names.{is_password, is_terminal_name}
+use Rattle.monitor_calls.specs.Volumes.{has_account, is_between, is_good_entry, is_good_name, is_good_file, has_file, blocks_of}
 use Rattle.deck_model.specs.declared.faults.DeckCause.{DeckCause}
 use Rattle.deck_model.specs.declared.versions.Version.{Version}
-use Rattle.deck_model.specs.declared.versions.Version.TheVariants.{One, Two}
-use Rattle.deck_model.specs.Files.{file_entry, has_file, blocks_in}
+use Rattle.deck_model.specs.declared.versions.Version.TheVariants.{One, Two, Three}
+use Rattle.deck_model.specs.Files.{file_entry}
 use Rattle.deck_model.specs.Deck as model
 use Rattle.deck_model.specs.Deck.{Deck, IsDeck, IsTerminal, IsKeyLine, has_terminal}
 use Rattle.deck_model.specs.Forms.{Account, File, AccountTexts, FileTexts, is_numeral_or_none, is_name, is_formed}
-use Rattle.deck_model.specs.Spelling.{quota_told, texts_of, extension_of, file_texts, IsQuota}
+use Rattle.deck_model.specs.Spelling.{quota_told, texts_of, extension_of, file_texts, IsQuota, IsNameIn}
 use Rattle.deck_model.specs.Fronts.{MayTell, quota_from, entry_of, new_file, new_terminal}
-use Rattle.deck_model.specs.Refusals.{is_quota, is_in_range, is_extension, is_file_in_range, passes_quota, first_cause, account_causes, file_causes, terminal_causes}
+use Rattle.deck_model.specs.Refusals.{is_quota, is_in_range, is_stem, is_extension, most_code, is_file_in_range, passes_quota, first_cause, account_causes, file_causes, terminal_causes}
 use Rattle.basic_values.proofs.CutLaws.{and_left, and_right, and_both, same_bytes}
 use Rattle.deck_model.proofs.FieldLaws.{decimal_numeral}
 use Rattle.deck_model.proofs.VolumeLaws.{GoodVolume, owner_ranges, FitsIn, FitsAmong}
 use Rattle.deck_model.proofs.FileLaws.{FitsFile}
+use Rattle.deck_model.proofs.NameLaws.{name_good, code_good, name_in, in_line_range}
 
--- ---- where no cause applies
+-- ---- if no cause applies
 
 pub no_cause : (test : Bool) (why : DeckCause) (rest : Option DeckCause) → cond test (Some why) rest ≡ None → (test ≡ false) × (rest ≡ None)
 no_cause true why rest e = absurd (cc)
@@ -60,7 +61,7 @@ number_is low high n small least most =
     let v : digits_value 10 (decimal n) ≡ n = value_is n small in
     rw (v, same_bytes (decimal n), least, most) refl
 
--- a quota as a version tells it, or the disk's blocks where it tells none
+-- a quota that a version gives, or else the disk's blocks
 pub record IsSoundQuota (version : Version) (blocks : ℕ) (quota : Option (List ℕ)) : Type 0 where
   pub most : nat_le (quota_from blocks quota) 16384 ≡ true
   pub told : quota_told version (quota_from blocks quota) ≡ quota
@@ -71,8 +72,12 @@ sound_quota One blocks None may e size = record { most = size; told = refl; is =
 sound_quota Two blocks (Some text) may e size =
     let n = number_parts 0 16384 text e in
     record { most = n.most; told = ap (λ (t : List ℕ). Some t) (sym n.text_is); is = tt }
+sound_quota Three blocks (Some text) may e size =
+    let n = number_parts 0 16384 text e in
+    record { most = n.most; told = ap (λ (t : List ℕ). Some t) (sym n.text_is); is = tt }
 sound_quota One blocks (Some text) may e size = absurd may
 sound_quota Two blocks None may e size = absurd may
+sound_quota Three blocks None may e size = absurd may
 
 pub record IsWrittenQuota (version : Version) (blocks quota : ℕ) : Type 0 where
   pub in_range : is_quota (quota_told version quota) ≡ true
@@ -90,8 +95,16 @@ written_quota Two blocks quota is most =
       formed = decimal_numeral quota small;
       may = tt;
     }
+written_quota Three blocks quota is most =
+    let small : quota < 2 ^ 32 = omega (arith, leb-true _ _ most) in
+    record {
+      in_range = number_is 0 16384 quota small (le-leb 0 quota (omega arith)) most;
+      quota_is = value_is quota small;
+      formed = decimal_numeral quota small;
+      may = tt;
+    }
 
--- on a disk of so many blocks
+-- an account on a disk of that many blocks
 pub record IsSound (version : Version) (blocks : ℕ) (texts : AccountTexts) : Type 0 where
   pub good : is_good_entry (entry_of blocks texts) ≡ true
   pub texts_are : texts_of version (entry_of blocks texts) ≡ texts
@@ -127,7 +140,7 @@ pub record Ranges (e : AccountEntry) : Type 0 where
   pub limit : nat_le e.limit 16384 ≡ true
   pub quota : nat_le e.quota 16384 ≡ true
 
-ranges_of : (e : AccountEntry) → is_good_entry e ≡ true → Ranges e
+pub ranges_of : (e : AccountEntry) → is_good_entry e ≡ true → Ranges e
 ranges_of e good =
     let p : Bool = is_between 1 254 e.account.project in
     let n : Bool = nat_le e.account.programmer 254 in
@@ -150,7 +163,7 @@ ranges_of e good =
 pub record Written (version : Version) (blocks : ℕ) (e : AccountEntry) : Type 0 where
   pub in_range : is_in_range (texts_of version e) ≡ true
   pub entry_is : entry_of blocks (texts_of version e) ≡ e
-  pub formed : is_formed (Account (texts_of version e)) ≡ true
+  pub formed : is_formed version (Account (texts_of version e)) ≡ true
   pub may : MayTell version (texts_of version e).quota
 
 capitals : (text : List ℕ) → is_password text ≡ true → is_name text ≡ true
@@ -171,7 +184,7 @@ written version blocks e good is =
       may = q.may;
     }
 
--- what is known of fields for which no cause applies
+-- what is known of an account to which no cause applies
 pub record TakenAccount (version : Version) (deck : Deck) (texts : AccountTexts) : Type 0 where
   pub fits : FitsIn deck.accounts (entry_of deck.blocks texts)
   pub texts_are : texts_of version (entry_of deck.blocks texts) ≡ texts
@@ -197,45 +210,28 @@ account_none version deck e fits w =
 
 -- ---- the fields of a file
 
-extension_short : (extension : Option (List ℕ)) → is_extension extension ≡ true → is_text_of is_capital_or_digit 0 3 (unwrap_or extension []) ≡ true
-extension_short None e = refl
-extension_short (Some text) e =
-    let all = list_all is_capital_or_digit text in
-    let lengths = and_left (nat_le 1 (length text) && nat_le (length text) 3) all e in
-    and_both (nat_le 0 (length text) && nat_le (length text) 3) all
-    (and_both (nat_le 0 (length text)) (nat_le (length text) 3) (le-leb 0 (length text) (omega arith)) (and_right (nat_le 1 (length text)) (nat_le (length text) 3) lengths))
-    (and_right (nat_le 1 (length text) && nat_le (length text) 3) all e)
-
-extension_told : (extension : Option (List ℕ)) → is_extension extension ≡ true → extension_of (unwrap_or extension []) ≡ extension
-extension_told None e = refl
-extension_told (Some []) e = absurd (cc)
-extension_told (Some (b ∷ bs)) e = refl
-
-extension_there : (text : List ℕ) → is_text_of is_capital_or_digit 0 3 text ≡ true → is_extension (extension_of text) ≡ true
-extension_there [] e = refl
-extension_there (b ∷ bs) e =
-    let all = list_all is_capital_or_digit (b ∷ bs) in
-    let lengths = and_left (nat_le 0 (length (b ∷ bs)) && nat_le (length (b ∷ bs)) 3) all e in
-    and_both (nat_le 1 (length (b ∷ bs)) && nat_le (length (b ∷ bs)) 3) all
-    (and_both (nat_le 1 (length (b ∷ bs))) (nat_le (length (b ∷ bs)) 3) (le-leb 1 (length (b ∷ bs)) (omega arith)) (and_right (nat_le 0 (length (b ∷ bs))) (nat_le (length (b ∷ bs)) 3) lengths))
-    (and_right (nat_le 0 (length (b ∷ bs)) && nat_le (length (b ∷ bs)) 3) all e)
+extension_told : (version : Version) (extension : Option (List ℕ)) → is_extension version extension ≡ true → extension_of (unwrap_or extension []) ≡ extension
+extension_told version None e = refl
+extension_told version (Some []) e = absurd (cc)
+extension_told version (Some (b ∷ bs)) e = refl
 
 extension_back : (text : List ℕ) → unwrap_or (extension_of text) [] ≡ text
 extension_back [] = refl
 extension_back (b ∷ bs) = refl
 
-pub record IsSoundFile (texts : FileTexts) : Type 0 where
+pub record IsSoundFile (version : Version) (texts : FileTexts) : Type 0 where
   pub named : is_good_name (new_file texts).name ≡ true
-  pub code : nat_le (new_file texts).code 63 ≡ true
+  pub code : nat_le (new_file texts).code 255 ≡ true
+  pub in_version : IsNameIn version (new_file texts).name (new_file texts).code
   pub texts_are : file_texts (new_file texts) ≡ texts
 
-sound_file : (texts : FileTexts) → is_file_in_range texts ≡ true → IsSoundFile texts
-sound_file t e =
+sound_file : (version : Version) (texts : FileTexts) → is_file_in_range version texts ≡ true → IsSoundFile version texts
+sound_file version t e =
     let p : Bool = is_number_between 1 254 t.project in
     let n : Bool = is_number_between 0 254 t.programmer in
-    let s : Bool = is_password t.stem in
-    let x : Bool = is_extension t.extension in
-    let c : Bool = is_number_between 0 63 t.code in
+    let s : Bool = is_stem version t.stem in
+    let x : Bool = is_extension version t.extension in
+    let c : Bool = is_number_between 0 (most_code version) t.code in
     let b : Bool = is_number_between 0 16384 t.blocks in
     let e5 = and_left (p && n && s && x && c) b e in
     let e4 = and_left (p && n && s && x) c e5 in
@@ -245,42 +241,40 @@ sound_file t e =
     let programmer = number_parts 0 254 t.programmer (and_right p n e2) in
     let stem : s ≡ true = and_right (p && n) s e3 in
     let short : x ≡ true = and_right (p && n && s) x e4 in
-    let code = number_parts 0 63 t.code (and_right (p && n && s && x) c e5) in
+    let code = number_parts 0 (most_code version) t.code (and_right (p && n && s && x) c e5) in
     let blocks = number_parts 0 16384 t.blocks (and_right (p && n && s && x && c) b e) in
+    let file : model.File = new_file t in
     record {
-      named = and_both (is_text_of is_capital_or_digit 1 6 t.stem) (is_text_of is_capital_or_digit 0 3 (unwrap_or t.extension [])) stem (extension_short t.extension short);
-      code = code.most;
+      named = name_good version file.name t.extension stem short refl;
+      code = code_good version file.code code.most;
+      in_version = name_in version file.name file.code t.extension stem short refl code.most;
       texts_are = λ i. record {
         project = sym project.text_is i;
         programmer = sym programmer.text_is i;
         stem = t.stem;
-        extension = extension_told t.extension short i;
+        extension = extension_told version t.extension short i;
         code = sym code.text_is i;
         blocks = sym blocks.text_is i;
       };
     }
 
 abbrev untexted : model.File → model.File
-untexted file = record file { texts = [] }
+untexted file = record file { content = [] }
 
-pub record WrittenFile (f : model.File) : Type 0 where
-  pub in_range : is_file_in_range (file_texts f) ≡ true
+pub record WrittenFile (version : Version) (f : model.File) : Type 0 where
+  pub in_range : is_file_in_range version (file_texts f) ≡ true
   pub file_is : new_file (file_texts f) ≡ untexted f
-  pub formed : is_formed (File (file_texts f)) ≡ true
+  pub formed : is_formed version (File (file_texts f)) ≡ true
 
-short_name : (text : List ℕ) → is_text_of is_capital_or_digit 0 3 text ≡ true → is_name text ≡ true
-short_name text e = and_right (nat_le 0 (length text) && nat_le (length text) 3) (is_name text) e
-
-written_file : (accounts : List AccountEntry) (f : model.File) → list_all is_good_entry accounts ≡ true → is_good_file accounts (file_entry f) ≡ true → f.blocks ≤ 16384 → WrittenFile f
-written_file accounts f each good most =
+pub written_file : (version : Version) (accounts : List AccountEntry) (f : model.File) → list_all is_good_entry accounts ≡ true → is_good_file accounts (file_entry f) ≡ true → IsNameIn version f.name f.code → f.blocks ≤ 16384 → WrittenFile version f
+written_file version accounts f each good in_version most =
     let name : FileName = f.name in
     let has : Bool = has_account accounts name.owner in
-    let few : Bool = nat_le f.code 63 in
+    let few : Bool = nat_le f.code 255 in
     let a = and_left (is_good_name name && few) has good in
     let named = and_left (is_good_name name) few a in
     let code : few ≡ true = and_right (is_good_name name) few a in
-    let stem = and_left (is_text_of is_capital_or_digit 1 6 name.stem) (is_text_of is_capital_or_digit 0 3 name.extension) named in
-    let short = and_right (is_text_of is_capital_or_digit 1 6 name.stem) (is_text_of is_capital_or_digit 0 3 name.extension) named in
+    let r = in_line_range version name f.code named code in_version in
     let owner = owner_ranges accounts name.owner each (and_right (is_good_name name && few) has good) in
     let small_p : name.owner.project < 2 ^ 32 = omega (arith, leb-true _ _ owner.project) in
     let small_n : name.owner.programmer < 2 ^ 32 = omega (arith, leb-true _ _ owner.programmer) in
@@ -290,7 +284,7 @@ written_file accounts f each good most =
     let least_c : nat_le 0 f.code ≡ true = le-leb 0 f.code (omega arith) in
     let least_b : nat_le 0 f.blocks ≡ true = le-leb 0 f.blocks (omega arith) in
     record {
-      in_range = rw (number_is 1 254 name.owner.project small_p owner.least owner.project, number_is 0 254 name.owner.programmer small_n least_n owner.programmer, stem, extension_there name.extension short, number_is 0 63 f.code small_c least_c code, number_is 0 16384 f.blocks small_b least_b (le-leb _ _ most)) refl;
+      in_range = rw (number_is 1 254 name.owner.project small_p owner.least owner.project, number_is 0 254 name.owner.programmer small_n least_n owner.programmer, r.stem, r.extension, number_is 0 (most_code version) f.code small_c least_c r.code, number_is 0 16384 f.blocks small_b least_b (le-leb _ _ most)) refl;
       file_is = λ i. record {
         name = record {
           owner = record { project = value_is name.owner.project small_p i; programmer = value_is name.owner.programmer small_n i };
@@ -299,51 +293,59 @@ written_file accounts f each good most =
         };
         code = value_is f.code small_c i;
         blocks = value_is f.blocks small_b i;
-        texts = [];
+        content = [];
       };
-      formed = rw (decimal_numeral name.owner.project small_p, decimal_numeral name.owner.programmer small_n, capitals name.stem stem, extension_back name.extension, short_name name.extension short, decimal_numeral f.code small_c, decimal_numeral f.blocks small_b) refl;
+      formed = rw (decimal_numeral name.owner.project small_p, decimal_numeral name.owner.programmer small_n, r.stem_word, extension_back name.extension, r.extension_word, decimal_numeral f.code small_c, decimal_numeral f.blocks small_b) refl;
     }
 
-pub file_fits : (deck : Deck) (texts : FileTexts) → first_cause (file_causes deck texts) ≡ None → FitsFile deck.blocks deck.accounts deck.files (new_file texts) × (file_texts (new_file texts) ≡ texts)
-file_fits deck texts e =
+-- what is known of a file to which no cause applies
+pub record FoundFile (version : Version) (deck : Deck) (texts : FileTexts) : Type 0 where
+  pub fits : FitsFile deck.blocks deck.accounts deck.files (new_file texts)
+  pub in_version : IsNameIn version (new_file texts).name (new_file texts).code
+  pub texts_are : file_texts (new_file texts) ≡ texts
+
+pub file_fits : (version : Version) (deck : Deck) (texts : FileTexts) → first_cause (file_causes version deck texts) ≡ None → FoundFile version deck texts
+file_fits version deck texts e =
     let file : model.File = new_file texts in
-    let a = no_cause (not (is_file_in_range texts)) _ _ e in
+    let a = no_cause (not (is_file_in_range version texts)) _ _ e in
     let b = no_cause (has_file deck.files file.name) _ _ a.1 in
     let c = no_cause (not (has_account deck.accounts file.name.owner)) _ _ b.1 in
     let d = no_cause (nat_le 512 (length deck.files)) _ _ c.1 in
-    let f = no_cause (nat_lt deck.blocks (blocks_in deck.files + file.blocks)) _ _ d.1 in
+    let f = no_cause (nat_lt deck.blocks (blocks_of deck.files + file.blocks)) _ _ d.1 in
     let q = no_cause (passes_quota deck.accounts deck.files file) _ _ f.1 in
-    let s = sound_file texts (not_false (is_file_in_range texts) a.0) in
-    let named = and_both (is_good_name file.name) (nat_le file.code 63) s.named s.code in (
-      record {
-        good = and_both (is_good_name file.name && nat_le file.code 63) (has_account deck.accounts file.name.owner) named (not_false _ c.0);
+    let s = sound_file version texts (not_false (is_file_in_range version texts) a.0) in
+    let named = and_both (is_good_name file.name) (nat_le file.code 255) s.named s.code in
+    record {
+      fits = record {
+        good = and_both (is_good_name file.name && nat_le file.code 255) (has_account deck.accounts file.name.owner) named (not_false _ c.0);
         new = b.0;
         room = leb-false 512 (length deck.files) d.0;
-        fit = ltb-false deck.blocks (blocks_in deck.files + file.blocks) f.0;
+        fit = ltb-false deck.blocks (blocks_of deck.files + file.blocks) f.0;
         within = q.0;
-      },
-      s.texts_are,
-    )
+      };
+      in_version = s.in_version;
+      texts_are = s.texts_are;
+    }
 
 -- what is known of a file that fits in a good deck
-pub record TakenFile (deck : Deck) (f : model.File) : Type 0 where
-  pub formed : is_formed (File (file_texts f)) ≡ true
-  pub none : first_cause (file_causes deck (file_texts f)) ≡ None
+pub record TakenFile (version : Version) (deck : Deck) (f : model.File) : Type 0 where
+  pub formed : is_formed version (File (file_texts f)) ≡ true
+  pub none : first_cause (file_causes version deck (file_texts f)) ≡ None
   pub file_is : new_file (file_texts f) ≡ untexted f
 
-pub file_taken : (deck : Deck) (f : model.File) → GoodVolume deck.blocks deck.accounts → FitsFile deck.blocks deck.accounts deck.files f → TakenFile deck f
-file_taken deck f good fits =
+pub file_taken : (version : Version) (deck : Deck) (f : model.File) → GoodVolume deck.blocks deck.accounts → FitsFile deck.blocks deck.accounts deck.files f → IsNameIn version f.name f.code → TakenFile version deck f
+file_taken version deck f good fits in_version =
     let size : deck.blocks ≤ 16384 = leb-true _ _ (and_right (nat_le 1 deck.blocks) (nat_le deck.blocks 16384) good.size) in
     let most : f.blocks ≤ 16384 = omega (arith, size, fits.fit) in
-    let w = written_file deck.accounts f good.each fits.good most in
+    let w = written_file version deck.accounts f good.each fits.good in_version most in
     let g : model.File = new_file (file_texts f) in
     let new : has_file deck.files g.name ≡ false = ap (λ (x : model.File). has_file deck.files x.name) w.file_is ∙ fits.new in
     let owner : has_account deck.accounts g.name.owner ≡ true =
     ap (λ (x : model.File). has_account deck.accounts x.name.owner) w.file_is
-    ∙ and_right (is_good_name f.name && nat_le f.code 63) (has_account deck.accounts f.name.owner) fits.good in
+    ∙ and_right (is_good_name f.name && nat_le f.code 255) (has_account deck.accounts f.name.owner) fits.good in
     let room : nat_le 512 (length deck.files) ≡ false = lt-leb 512 (length deck.files) fits.room in
-    let fit : nat_lt deck.blocks (blocks_in deck.files + g.blocks) ≡ false =
-    ap (λ (x : model.File). nat_lt deck.blocks (blocks_in deck.files + x.blocks)) w.file_is ∙ le-ltb deck.blocks (blocks_in deck.files + f.blocks) fits.fit in
+    let fit : nat_lt deck.blocks (blocks_of deck.files + g.blocks) ≡ false =
+    ap (λ (x : model.File). nat_lt deck.blocks (blocks_of deck.files + x.blocks)) w.file_is ∙ le-ltb deck.blocks (blocks_of deck.files + f.blocks) fits.fit in
     let within : passes_quota deck.accounts deck.files g ≡ false = ap (passes_quota deck.accounts deck.files) w.file_is ∙ fits.within in
     record { formed = w.formed; none = rw (w.in_range, new, owner, room, fit, within) refl; file_is = w.file_is }
 

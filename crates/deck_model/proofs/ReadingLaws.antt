@@ -1,30 +1,30 @@
--- The two laws: what is told of bytes is so, and what is so is told.
-use Rattle.std.proofs.Common.{◌≡◌, ℕ, ◌+◌, ◌≤◌, List, [], ◌∷◌, ◌++◌, length, map, Ok, Err, refl, sym, ap, subst, ◌∙◌, append_assoc, arith}
-use Rattle.std.specs.Prelude.{Result, ◌*◌, ◌&&◌, nat_le, true, codes}
+-- The verdict of reading is right, and every deck and every rejection is found.
+use Rattle.std.proofs.Common.{◌≡◌, ℕ, ◌+◌, ◌≤◌, List, [], ◌∷◌, ◌++◌, length, map, None, Ok, Err, refl, sym, ap, subst, ◌∙◌, append_assoc, arith}
+use Rattle.std.specs.Prelude.{Result, ◌*◌, ◌&&◌, nat_le, true}
 use Rattle.std.specs.List.{flat_map, AllByRecursion}
 use Rattle.std.specs.Fmt.{decimal}
 use Rattle.std.proofs.lemmas.Bool.{le-ltb}
 use Rattle.std.proofs.lemmas.List.{append-nil, length-append}
-use Rattle.std.proofs.lemmas.List.Concat.{flat_map-append}
 use Rattle.monitor_calls.specs.declared.volumes.AccountEntry.{AccountEntry}
+use Rattle.monitor_calls.specs.declared.files.FileEntry.{FileEntry}
 use Rattle.deck_model.specs.declared.faults.DeckCause.{DeckCause}
 use Rattle.deck_model.specs.declared.versions.Version.{Version}
-use Rattle.deck_model.specs.Files.{text_of, FitsText}
+use Rattle.deck_model.specs.Files.{file_entry, ContentLine, TextLine, BlockLine, block_of, line_bytes, content_of}
 use Rattle.deck_model.specs.Deck as model
 use Rattle.deck_model.specs.Deck.{Deck, IsDeck, IsKeyLine, AreTerminals}
 use Rattle.deck_model.specs.Lines.{whole_lines, cut_line}
-use Rattle.deck_model.specs.Forms.{LineForm, Heading, Disk, Account, File, Terminal, Keys, End, line_of, is_name}
-use Rattle.deck_model.specs.Spelling.{texts_of, account_line, file_texts, file_lines, key_line, terminal_lines, group_lines, deck_lines, IsQuota, Spelled}
-use Rattle.deck_model.specs.Fronts.{Front, Nothing, Versioned, InAccounts, InFile, InTerminal, Whole, with_file, with_terminal, front_lines, IsDeckIn, IsFront, May, new_file, new_terminal, adds}
+use Rattle.deck_model.specs.Forms.{LineForm, Heading, Disk, Account, File, Terminal, Keys, End, line_of, is_name, is_formed}
+use Rattle.deck_model.specs.Spelling.{texts_of, account_line, file_texts, content_form, content_line, FileWithLines, volume_entry, MayHave, HasLines, HaveLines, file_lines, key_line, terminal_lines, group_lines, deck_lines, IsQuota, IsNameIn, AreNamesIn, Spelled}
+use Rattle.deck_model.specs.Fronts.{Front, Nothing, Versioned, InAccounts, InFile, InTerminal, Whole, with_file, with_terminal, with_content, version_at, IsDeckIn, BeginsWhole, BeginsDeck, May, new_file, new_terminal, adds}
 use Rattle.deck_model.specs.Refusals.{first_cause, file_causes, causes, StopsAt, Refused}
 use Rattle.deck_model.specs.Reading.{behind_line, DeckVerdict, Yields, Refuses, at_end, onwards, reading, verdict}
 use Rattle.basic_values.proofs.CutLaws.{and_right}
-use Rattle.deck_model.proofs.VolumeLaws.{GoodVolume, volume_parts, volume_whole, volume_front, volume_last, FitsAmong, terminals_front, terminals_last, all_front}
+use Rattle.deck_model.proofs.VolumeLaws.{GoodVolume, volume_parts, volume_whole, volume_front, volume_last, FitsAmong, terminals_front, terminals_last, all_front, all_back}
 use Rattle.deck_model.proofs.FileLaws.{files_parts, files_whole, files_front}
 use Rattle.deck_model.proofs.RangeLaws.{account_none, terminal_none, written, TakenFile, file_taken}
-use Rattle.deck_model.proofs.FrontLaws.{Follows, adds_front, Takes, line_behind, line_takes, line_refuses, refused_behind, deck_last, heading_behind, disk_behind}
+use Rattle.deck_model.proofs.FrontLaws.{adds_front, Takes, line_behind, line_takes, line_refuses, refused_behind, deck_last, heading_behind, disk_behind}
 
--- ---- what is so is told
+-- ---- what is so is found
 
 -- these lines lead from one front to another
 record Leads (from : Front) (lines : List (List ℕ)) (to : Front) : Type 0 where
@@ -54,7 +54,7 @@ leads_form from form to e same = leads_line from (line_of form) to (e ∙ ap (λ
 abbrev with_accounts : ℕ → List AccountEntry → Deck
 with_accounts blocks accounts = record { blocks = blocks; accounts = accounts; files = []; terminals = [] }
 
--- quotas that the version can tell
+-- quotas that the version can give
 abbrev AreQuotas : Version → ℕ → List AccountEntry → Type 0
 AreQuotas version blocks entries = AllByRecursion (λ (entry : AccountEntry). IsQuota version blocks entry.quota) entries
 
@@ -78,25 +78,33 @@ module _ (version : Version) (blocks : ℕ) where
 
 -- ---- the lines of one group
 
-abbrev texted : model.File → List (List ℕ) → model.File
-texted file texts = record file { texts = texts }
+abbrev filled : model.File → List ℕ → model.File
+filled file bytes = record file { content = bytes }
 
-text_no_longer : (xs ys : List (List ℕ)) → length (text_of xs) ≤ length (text_of (xs ++ ys))
-text_no_longer xs ys =
-    let split : length (text_of (xs ++ ys)) ≡ length (text_of xs ++ text_of ys) = ap length (flat_map-append (λ (text : List ℕ). text ++ codes "\r\n") xs ys) in
-    omega (arith, split, length-append (text_of xs) (text_of ys))
+-- what is known of a line of content after a file
+record TakesLine (version : Version) (deck : Deck) (file : model.File) (line : ContentLine) : Type 0 where
+  may : May (InFile version deck file) (content_form line)
+  formed : is_formed version (content_form line) ≡ true
+  adds_is : adds (InFile version deck file) (content_form line) ≡ InFile version deck (with_content file (line_bytes line))
+  none : length (file.content ++ line_bytes line) ≤ 512 * file.blocks → first_cause (causes (InFile version deck file) (content_form line)) ≡ None
 
-texts_lead : (version : Version) (deck : Deck) (file : model.File) (done texts : List (List ℕ)) → FitsText (texted file (done ++ texts)) → Leads (InFile version deck (texted file done)) (map key_line texts) (InFile version deck (texted file (done ++ texts)))
-texts_lead version deck file done [] fits = leads_none _ _ (ap (λ (ts : List (List ℕ)). InFile version deck (texted file ts)) (sym (append-nil done)))
-texts_lead version deck file done (t ∷ texts) fits =
-    let regroup : (done ++ t ∷ []) ++ texts ≡ done ++ t ∷ texts = append_assoc done (t ∷ []) texts in
-    let more : FitsText (texted file ((done ++ t ∷ []) ++ texts)) = subst (λ (ts : List (List ℕ)). FitsText (texted file ts)) (sym regroup) fits in
-    let short : length (text_of (done ++ t ∷ [])) ≤ 512 * file.blocks = omega (arith, more, text_no_longer (done ++ t ∷ []) texts) in
-    let from : Front = InFile version deck (texted file done) in
-    let to : Front = InFile version deck (texted file (done ++ t ∷ [])) in
-    let one : Leads from (line_of (Keys t) ∷ []) to = leads_form from (Keys t) to (line_behind from (Keys t) tt refl (rw (le-ltb (512 * file.blocks) (length (text_of (done ++ t ∷ []))) short) refl)) refl in
-    leads_both from (key_line t ∷ []) to (map key_line texts) (InFile version deck (texted file (done ++ t ∷ texts))) one
-    (subst (λ (ts : List (List ℕ)). Leads to (map key_line texts) (InFile version deck (texted file ts))) regroup (texts_lead version deck file (done ++ t ∷ []) texts more))
+takes_line : (version : Version) (deck : Deck) (file : model.File) (line : ContentLine) → MayHave version line → TakesLine version deck file line
+takes_line version deck file (TextLine text) may = record { may = tt; formed = refl; adds_is = refl; none = λ fits. rw (le-ltb (512 * file.blocks) (length (file.content ++ line_bytes (TextLine text))) fits) refl }
+takes_line version deck file (BlockLine bytes) may = record { may = may.0; formed = may.1; adds_is = refl; none = λ fits. rw (le-ltb 512 (length bytes) may.2, le-ltb (512 * file.blocks) (length (file.content ++ block_of bytes)) fits) refl }
+
+contents_lead : (version : Version) (deck : Deck) (file : model.File) (done : List ℕ) (lines : List ContentLine) → AllByRecursion (MayHave version) lines → length (done ++ content_of lines) ≤ 512 * file.blocks → Leads (InFile version deck (filled file done)) (map content_line lines) (InFile version deck (filled file (done ++ content_of lines)))
+contents_lead version deck file done [] may fits = leads_none _ _ (ap (λ (bytes : List ℕ). InFile version deck (filled file bytes)) (sym (append-nil done)))
+contents_lead version deck file done (l ∷ lines) may fits =
+    let bytes : List ℕ = line_bytes l in
+    let regroup : (done ++ bytes) ++ content_of lines ≡ done ++ content_of (l ∷ lines) = append_assoc done bytes (content_of lines) in
+    let more : length ((done ++ bytes) ++ content_of lines) ≤ 512 * file.blocks = subst (λ (all : List ℕ). length all ≤ 512 * file.blocks) (sym regroup) fits in
+    let short : length (done ++ bytes) ≤ 512 * file.blocks = omega (arith, more, length-append (done ++ bytes) (content_of lines)) in
+    let from : Front = InFile version deck (filled file done) in
+    let to : Front = InFile version deck (filled file (done ++ bytes)) in
+    let takes = takes_line version deck (filled file done) l may.0 in
+    let one : Leads from (content_line l ∷ []) to = leads_form from (content_form l) to (line_behind from (content_form l) takes.may takes.formed (takes.none short)) takes.adds_is in
+    leads_both from (content_line l ∷ []) to (map content_line lines) (InFile version deck (filled file (done ++ content_of (l ∷ lines)))) one
+    (subst (λ (all : List ℕ). Leads to (map content_line lines) (InFile version deck (filled file all))) regroup (contents_lead version deck file (done ++ bytes) lines may.1 more))
 
 abbrev named : List ℕ → List (List ℕ) → model.Terminal
 named name keys = record { name = name; keys = keys }
@@ -110,9 +118,9 @@ keys_lead version deck name done (k ∷ keys) short =
     leads_both from (key_line k ∷ []) to (map key_line keys) (InTerminal version deck (named name (done ++ k ∷ keys))) one
     (subst (λ (ks : List (List ℕ)). Leads to (map key_line keys) (InTerminal version deck (named name ks))) (append_assoc done (k ∷ []) keys) (keys_lead version deck name (done ++ k ∷ []) keys short.1))
 
--- ---- fronts behind whole groups
+-- ---- fronts after whole groups
 
--- the groups of the deck are read, in this version, and its last one may go on
+-- all groups of the deck were read in this version, and the last one may go on
 abbrev IsAt : Front → Version × Deck → Type 0
 IsAt (InAccounts version deck) whole = (version, deck) ≡ whole
 IsAt (InFile version deck file) whole = (version, with_file deck file) ≡ whole
@@ -128,7 +136,7 @@ end_taken front whole at = absurd at
 capitals_formed : (t : model.Terminal) → model.IsTerminal t → is_name t.name ≡ true
 capitals_formed t good = and_right (nat_le 1 (length t.name) && nat_le (length t.name) 8) (is_name t.name) good.name
 
--- the front behind the line of a terminal
+-- the front after a TERMINAL line
 abbrev opened : Version × Deck → model.Terminal → Result Front DeckCause
 opened whole t = Ok (InTerminal whole.0 whole.1 (new_terminal t.name))
 
@@ -144,35 +152,38 @@ terminal_taken (InTerminal version deck terminal) whole t at fits =
     line_behind (InTerminal version deck terminal) (Terminal t.name) tt (capitals_formed t fits.good) (terminal_none (deck.terminals ++ terminal ∷ []) t own) ∙ ap (λ (d : Version × Deck). opened d t) at
 terminal_taken front whole t at fits = absurd at
 
--- the front behind the line of a file, whose text is not there yet
+-- the front after a FILE line, without content
 abbrev filed : Version × Deck → model.File → Result Front DeckCause
-filed whole f = Ok (InFile whole.0 whole.1 (texted f []))
+filed whole f = Ok (InFile whole.0 whole.1 (filled f []))
 
--- one more is not none
+-- a list with one more is not empty
 one_more : {A : Type 0} (xs : List A) (x : A) → (xs ++ x ∷ []) ≡ [] → ⊥
 one_more [] x e = absurd (cc)
 one_more (y ∷ xs) x e = absurd (cc)
 
-file_opens : (front : Front) (whole : Version × Deck) (f : model.File) → May front (File (file_texts f)) → adds front (File (file_texts f)) ≡ InFile whole.0 whole.1 (new_file (file_texts f)) → causes front (File (file_texts f)) ≡ file_causes whole.1 (file_texts f) → TakenFile whole.1 f → behind_line front (line_of (File (file_texts f))) ≡ filed whole f
-file_opens front whole f may next why taken =
-    line_behind front (File (file_texts f)) may taken.formed (ap first_cause why ∙ taken.none)
+file_opens : (front : Front) (whole : Version × Deck) (f : model.File) → May front (File (file_texts f)) → is_formed (version_at front) (File (file_texts f)) ≡ true → adds front (File (file_texts f)) ≡ InFile whole.0 whole.1 (new_file (file_texts f)) → causes front (File (file_texts f)) ≡ file_causes whole.0 whole.1 (file_texts f) → TakenFile whole.0 whole.1 f → behind_line front (line_of (File (file_texts f))) ≡ filed whole f
+file_opens front whole f may formed next why taken =
+    line_behind front (File (file_texts f)) may formed (ap first_cause why ∙ taken.none)
     ∙ ap (λ (n : Front). Ok n) (next ∙ ap (InFile whole.0 whole.1) taken.file_is)
 
-file_line_taken : (front : Front) (whole : Version × Deck) (f : model.File) → IsAt front whole → whole.1.terminals ≡ [] → TakenFile whole.1 f → behind_line front (line_of (File (file_texts f))) ≡ filed whole f
+file_line_taken : (front : Front) (whole : Version × Deck) (f : model.File) → IsAt front whole → whole.1.terminals ≡ [] → TakenFile whole.0 whole.1 f → behind_line front (line_of (File (file_texts f))) ≡ filed whole f
 file_line_taken (InAccounts version deck) whole f at none taken =
-    let own : TakenFile deck f = subst (λ (d : Version × Deck). TakenFile d.1 f) (sym at) taken in
-    file_opens (InAccounts version deck) (version, deck) f tt refl refl own ∙ ap (λ (d : Version × Deck). filed d f) at
+    let own : TakenFile version deck f = subst (λ (d : Version × Deck). TakenFile d.0 d.1 f) (sym at) taken in
+    file_opens (InAccounts version deck) (version, deck) f tt own.formed refl refl own ∙ ap (λ (d : Version × Deck). filed d f) at
 file_line_taken (InFile version deck file) whole f at none taken =
-    let own : TakenFile (with_file deck file) f = subst (λ (d : Version × Deck). TakenFile d.1 f) (sym at) taken in
-    file_opens (InFile version deck file) (version, with_file deck file) f tt refl refl own ∙ ap (λ (d : Version × Deck). filed d f) at
+    let own : TakenFile version (with_file deck file) f = subst (λ (d : Version × Deck). TakenFile d.0 d.1 f) (sym at) taken in
+    file_opens (InFile version deck file) (version, with_file deck file) f tt own.formed refl refl own ∙ ap (λ (d : Version × Deck). filed d f) at
 file_line_taken (InTerminal version deck terminal) whole f at none taken =
     absurd (one_more deck.terminals terminal (ap (λ (d : Version × Deck). d.1.terminals) at ∙ none))
 file_line_taken front whole f at none taken = absurd at
 
 module _ (version : Version) where
-  file_leads : (from : Front) (deck : Deck) (f : model.File) → behind_line from (line_of (File (file_texts f))) ≡ filed (version, deck) f → FitsText f → Leads from (file_lines f) (InFile version deck f)
-  file_leads from deck f e fits =
-      leads_both from (line_of (File (file_texts f)) ∷ []) (InFile version deck (texted f [])) (map key_line f.texts) (InFile version deck f) (leads_line from (line_of (File (file_texts f))) (InFile version deck (texted f [])) e) (texts_lead version deck f [] f.texts fits)
+  file_leads : (from : Front) (deck : Deck) (t : FileWithLines) → behind_line from (line_of (File (file_texts t.file))) ≡ filed (version, deck) t.file → HasLines version t → Leads from (file_lines t) (InFile version deck t.file)
+  file_leads from deck t e is =
+      let fits : length ([] ++ content_of t.lines) ≤ 512 * t.file.blocks = subst (λ (bytes : List ℕ). length bytes ≤ 512 * t.file.blocks) is.content is.fits in
+      let all : Leads (InFile version deck (filled t.file [])) (map content_line t.lines) (InFile version deck t.file) =
+      subst (λ (bytes : List ℕ). Leads (InFile version deck (filled t.file [])) (map content_line t.lines) (InFile version deck (filled t.file bytes))) (sym is.content) (contents_lead version deck t.file [] t.lines is.may fits) in
+      leads_both from (line_of (File (file_texts t.file)) ∷ []) (InFile version deck (filled t.file [])) (map content_line t.lines) (InFile version deck t.file) (leads_line from (line_of (File (file_texts t.file))) (InFile version deck (filled t.file [])) e) all
 
   terminal_leads : (from : Front) (deck : Deck) (t : model.Terminal) → behind_line from (line_of (Terminal t.name)) ≡ opened (version, deck) t → AllByRecursion IsKeyLine t.keys → Leads from (terminal_lines t) (InTerminal version deck t)
   terminal_leads from deck t e short =
@@ -180,49 +191,50 @@ module _ (version : Version) where
 
   -- ---- the lines of all groups
 
-  -- these lines lead to a front at which the groups of the deck are read
+  -- these lines lead to a front at which all groups of the deck were read
   record Reaches (lines : List (List ℕ)) (deck : Deck) : Type 0 where
     front : Front
     at : IsAt front (version, deck)
     leads : Leads Nothing lines front
 
-  reach_file : (lines : List (List ℕ)) (deck : Deck) (f : model.File) → Reaches lines deck → deck.terminals ≡ [] → IsDeck (with_file deck f) → Reaches (lines ++ file_lines f) (with_file deck f)
-  reach_file lines deck f reached none good =
-      let last = deck_last deck f good in
-      let volume = volume_parts deck.blocks deck.accounts (model.volume_files deck) last.before.volume in
-      let taken = file_taken deck f volume.0 last.fits in
+  reach_file : (lines : List (List ℕ)) (deck : Deck) (t : FileWithLines) → Reaches lines deck → deck.terminals ≡ [] → IsDeck (with_file deck t.file) → IsNameIn version t.file.name t.file.code → HasLines version t → Reaches (lines ++ file_lines t) (with_file deck t.file)
+  reach_file lines deck t reached none good named is =
+      let last = deck_last deck t.file good in
+      let volume = volume_parts deck.blocks deck.accounts deck.files last.before.volume in
+      let taken = file_taken version deck t.file volume.0 last.fits named in
       record {
-        front = InFile version deck f;
+        front = InFile version deck t.file;
         at = refl;
-        leads = leads_both Nothing lines reached.front (file_lines f) (InFile version deck f) reached.leads
-            (file_leads reached.front deck f (file_line_taken reached.front (version, deck) f reached.at none taken) last.short);
+        leads = leads_both Nothing lines reached.front (file_lines t) (InFile version deck t.file) reached.leads
+            (file_leads reached.front deck t (file_line_taken reached.front (version, deck) t.file reached.at none taken) is);
       }
 
-  abbrev with_files : Deck → List model.File → Deck
+  abbrev with_files : Deck → List FileEntry → Deck
   with_files deck files = record deck { files = files }
 
-  -- the first of the files are good where all are
-  deck_front : (deck : Deck) (fs gs : List model.File) → IsDeck (with_files deck (fs ++ gs)) → IsDeck (with_files deck fs)
+  -- the first files are good if all are
+  deck_front : (deck : Deck) (fs gs : List FileEntry) → IsDeck (with_files deck (fs ++ gs)) → IsDeck (with_files deck fs)
   deck_front deck fs gs good =
-      let parts = volume_parts deck.blocks deck.accounts (model.volume_files (with_files deck (fs ++ gs))) good.volume in
+      let parts = volume_parts deck.blocks deck.accounts (fs ++ gs) good.volume in
       let files = files_front deck.blocks deck.accounts fs gs (files_parts deck.blocks deck.accounts (fs ++ gs) parts.1) in
       record {
-        volume = volume_whole deck.blocks deck.accounts (model.volume_files (with_files deck fs)) parts.0 (files_whole deck.blocks deck.accounts fs files);
-        texts = all_front FitsText fs gs good.texts;
+        volume = volume_whole deck.blocks deck.accounts fs parts.0 (files_whole deck.blocks deck.accounts fs files);
         terminals = good.terminals;
       }
 
-  reach_files : (lines : List (List ℕ)) (deck : Deck) (fs : List model.File) → Reaches lines deck → deck.terminals ≡ [] → IsDeck (with_files deck (deck.files ++ fs)) → Reaches (lines ++ flat_map file_lines fs) (with_files deck (deck.files ++ fs))
-  reach_files lines deck [] reached none good =
+  reach_files : (lines : List (List ℕ)) (deck : Deck) (ts : List FileWithLines) → Reaches lines deck → deck.terminals ≡ [] → AllByRecursion (HasLines version) ts → AreNamesIn version (map volume_entry ts) → IsDeck (with_files deck (deck.files ++ map volume_entry ts)) → Reaches (lines ++ flat_map file_lines ts) (with_files deck (deck.files ++ map volume_entry ts))
+  reach_files lines deck [] reached none are named good =
       let at : deck.files ≡ deck.files ++ [] = sym (append-nil deck.files) in
       let no_more : lines ≡ lines ++ [] = sym (append-nil lines) in
-      subst (λ (x : List (List ℕ) × List model.File). Reaches x.0 (with_files deck x.1)) (λ i. (no_more i, at i)) reached
-  reach_files lines deck (f ∷ fs) reached none good =
-      let regroup : (deck.files ++ f ∷ []) ++ fs ≡ deck.files ++ f ∷ fs = append_assoc deck.files (f ∷ []) fs in
-      let again : (lines ++ file_lines f) ++ flat_map file_lines fs ≡ lines ++ (file_lines f ++ flat_map file_lines fs) = append_assoc lines (file_lines f) (flat_map file_lines fs) in
-      let all : IsDeck (with_files deck ((deck.files ++ f ∷ []) ++ fs)) = subst (λ (x : List model.File). IsDeck (with_files deck x)) (sym regroup) good in
-      let one = reach_file lines deck f reached none (deck_front deck (deck.files ++ f ∷ []) fs all) in
-      subst (λ (x : List (List ℕ) × List model.File). Reaches x.0 (with_files deck x.1)) (λ i. (again i, regroup i)) (reach_files (lines ++ file_lines f) (with_file deck f) fs one none all)
+      subst (λ (x : List (List ℕ) × List FileEntry). Reaches x.0 (with_files deck x.1)) (λ i. (no_more i, at i)) reached
+  reach_files lines deck (t ∷ ts) reached none are named good =
+      let e : FileEntry = volume_entry t in
+      let es : List FileEntry = map volume_entry ts in
+      let regroup : (deck.files ++ e ∷ []) ++ es ≡ deck.files ++ e ∷ es = append_assoc deck.files (e ∷ []) es in
+      let again : (lines ++ file_lines t) ++ flat_map file_lines ts ≡ lines ++ (file_lines t ++ flat_map file_lines ts) = append_assoc lines (file_lines t) (flat_map file_lines ts) in
+      let all : IsDeck (with_files deck ((deck.files ++ e ∷ []) ++ es)) = subst (λ (x : List FileEntry). IsDeck (with_files deck x)) (sym regroup) good in
+      let one = reach_file lines deck t reached none (deck_front deck (deck.files ++ e ∷ []) es all) named.0 are.0 in
+      subst (λ (x : List (List ℕ) × List FileEntry). Reaches x.0 (with_files deck x.1)) (λ i. (again i, regroup i)) (reach_files (lines ++ file_lines t) (with_file deck t.file) ts one none are.1 named.1 all)
 
   reach_terminal : (lines : List (List ℕ)) (deck : Deck) (t : model.Terminal) → Reaches lines deck → AreTerminals (deck.terminals ++ t ∷ []) → Reaches (lines ++ terminal_lines t) (with_terminal deck t)
   reach_terminal lines deck t reached good =
@@ -258,12 +270,12 @@ module _ (version : Version) where
       (leads_line Nothing (line_of (Heading version)) (Versioned version) (heading_behind version))
       (leads_line (Versioned version) (line_of (Disk (decimal blocks))) (InAccounts version (with_accounts blocks [])) (disk_behind version blocks good.size))
 
-  groups_reach : (deck : Deck) → IsDeckIn version deck → Reaches (group_lines version deck) deck
-  groups_reach deck is =
+  groups_reach : (deck : Deck) (listed : List FileWithLines) → IsDeckIn version deck → HaveLines version deck.files listed → Reaches (group_lines version deck listed) deck
+  groups_reach deck listed is are =
       let good = is.is_deck in
-      let volume = volume_parts deck.blocks deck.accounts (model.volume_files deck) good.volume in
+      let volume = volume_parts deck.blocks deck.accounts deck.files good.volume in
       let accounts : List (List ℕ) = map (account_line version) deck.accounts in
-      let files : List (List ℕ) = flat_map file_lines deck.files in
+      let files : List (List ℕ) = flat_map file_lines listed in
       let terminals : List (List ℕ) = flat_map terminal_lines deck.terminals in
       let base : Deck = with_accounts deck.blocks deck.accounts in
       let start : Reaches (head deck.blocks ++ accounts) base =
@@ -272,57 +284,65 @@ module _ (version : Version) where
         at = refl;
         leads = leads_both Nothing (head deck.blocks) (InAccounts version (with_accounts deck.blocks [])) accounts (InAccounts version base) (head_leads deck.blocks deck.accounts volume.0) (accounts_lead version deck.blocks [] deck.accounts volume.0 is.quotas);
       } in
-      let no_terminals : IsDeck (with_files base deck.files) = record { volume = good.volume; texts = good.texts; terminals = terminals_front [] deck.terminals good.terminals } in
-      let filed = reach_files (head deck.blocks ++ accounts) base deck.files start refl no_terminals in
-      let all = reach_terminals ((head deck.blocks ++ accounts) ++ files) (with_files base deck.files) deck.terminals filed good.terminals in
+      let no_terminals : IsDeck (with_files base (map volume_entry listed)) = subst (λ (fs : List FileEntry). IsDeck (with_files base fs)) (sym are.files_are) (record { volume = good.volume; terminals = terminals_front [] deck.terminals good.terminals }) in
+      let filed_ : Reaches ((head deck.blocks ++ accounts) ++ files) (with_files base deck.files) = subst (λ (fs : List FileEntry). Reaches ((head deck.blocks ++ accounts) ++ files) (with_files base fs)) are.files_are (reach_files (head deck.blocks ++ accounts) base listed start refl are.each (subst (AreNamesIn version) (sym are.files_are) is.names) no_terminals) in
+      let all = reach_terminals ((head deck.blocks ++ accounts) ++ files) (with_files base deck.files) deck.terminals filed_ good.terminals in
       subst (λ (lines : List (List ℕ)). Reaches lines deck) (append_assoc (head deck.blocks ++ accounts) files terminals ∙ append_assoc (head deck.blocks) accounts (files ++ terminals)) all
 
-  -- a front at which there are no files and no terminals is that of the accounts
+  -- without files and terminals the front is that of the accounts
   at_accounts : (front : Front) (deck : Deck) → IsAt front (version, deck) → deck.files ≡ [] → deck.terminals ≡ [] → front ≡ InAccounts version deck
   at_accounts (InAccounts other own) deck at no_file none = ap (λ (d : Version × Deck). InAccounts d.0 d.1) at
-  at_accounts (InFile other own file) deck at no_file none = absurd (one_more own.files file (ap (λ (d : Version × Deck). d.1.files) at ∙ no_file))
+  at_accounts (InFile other own file) deck at no_file none = absurd (one_more own.files (file_entry file) (ap (λ (d : Version × Deck). d.1.files) at ∙ no_file))
   at_accounts (InTerminal other own terminal) deck at no_file none = absurd (one_more own.terminals terminal (ap (λ (d : Version × Deck). d.1.terminals) at ∙ none))
   at_accounts front deck at no_file none = absurd at
 
 -- the lines of a front lead to it
-front_leads : (front : Front) → IsFront front → Leads Nothing (front_lines front) front
-front_leads Nothing is = leads_none _ _ refl
-front_leads (Versioned version) is = leads_line Nothing (line_of (Heading version)) (Versioned version) (heading_behind version)
-front_leads (InAccounts version deck) is =
-    let reached = groups_reach version deck is.0 in
-    subst (λ (f : Front). Leads Nothing (group_lines version deck) f) (at_accounts version reached.front deck reached.at is.1 is.2) reached.leads
-front_leads (InFile version deck file) is =
-    let last = deck_last deck file is.0.is_deck in
-    let volume = volume_parts deck.blocks deck.accounts (model.volume_files deck) last.before.volume in
-    let taken = file_taken deck file volume.0 last.fits in
-    let reached = groups_reach version deck (record { is_deck = last.before; quotas = is.0.quotas }) in
-    leads_both Nothing (group_lines version deck) reached.front (file_lines file) (InFile version deck file) reached.leads
-    (file_leads version reached.front deck file (file_line_taken reached.front (version, deck) file reached.at is.1 taken) last.short)
-front_leads (InTerminal version deck terminal) is =
-    let fits = terminals_last deck.terminals terminal is.is_deck.terminals in
-    let good : IsDeck deck = record { volume = is.is_deck.volume; texts = is.is_deck.texts; terminals = terminals_front deck.terminals (terminal ∷ []) is.is_deck.terminals } in
-    let reached = groups_reach version deck (record { is_deck = good; quotas = is.quotas }) in
-    leads_both Nothing (group_lines version deck) reached.front (terminal_lines terminal) (InTerminal version deck terminal) reached.leads
-    (terminal_leads version reached.front deck terminal (terminal_taken reached.front (version, deck) terminal reached.at fits) fits.good.keys)
-front_leads (Whole version deck) is =
-    let reached = groups_reach version deck is in
-    leads_both Nothing (group_lines version deck) reached.front (line_of End ∷ []) (Whole version deck) reached.leads
-    (leads_line reached.front (line_of End) (Whole version deck) (end_taken reached.front (version, deck) reached.at))
+front_leads : (front : Front) (lines : List (List ℕ)) → BeginsDeck front lines → Leads Nothing lines front
+front_leads Nothing lines is = subst (λ (ls : List (List ℕ)). Leads Nothing ls Nothing) (sym is) (leads_none _ _ refl)
+front_leads (Versioned version) lines is = subst (λ (ls : List (List ℕ)). Leads Nothing ls (Versioned version)) (sym is) (leads_line Nothing (line_of (Heading version)) (Versioned version) (heading_behind version))
+front_leads (InAccounts version deck) lines is =
+    let reached = groups_reach version deck [] is.is (record { each = tt; files_are = sym is.no_file }) in
+    subst (λ (ls : List (List ℕ)). Leads Nothing ls (InAccounts version deck)) (sym is.lines_are)
+    (subst (λ (f : Front). Leads Nothing (group_lines version deck []) f) (at_accounts version reached.front deck reached.at is.no_file is.no_terminal) reached.leads)
+front_leads (InFile version deck file) lines is =
+    let t : FileWithLines = record { file = file; lines = is.last } in
+    let last = deck_last deck file is.is.is_deck in
+    let volume = volume_parts deck.blocks deck.accounts deck.files last.before.volume in
+    let P : FileEntry → Type 0 = λ f. IsNameIn version f.name f.code in
+    let named = (all_back P deck.files (file_entry file ∷ []) is.is.names).0 in
+    let taken = file_taken version deck file volume.0 last.fits named in
+    let before : IsDeckIn version deck = record { is_deck = last.before; quotas = is.is.quotas; names = all_front P deck.files (file_entry file ∷ []) is.is.names } in
+    let reached = groups_reach version deck is.with_lines before is.have_lines in
+    subst (λ (ls : List (List ℕ)). Leads Nothing ls (InFile version deck file)) (sym is.lines_are)
+    (leads_both Nothing (group_lines version deck is.with_lines) reached.front (file_lines t) (InFile version deck file) reached.leads
+    (file_leads version reached.front deck t (file_line_taken reached.front (version, deck) file reached.at is.no_terminal taken) is.has_lines))
+front_leads (InTerminal version deck terminal) lines is =
+    let fits = terminals_last deck.terminals terminal is.is.is_deck.terminals in
+    let good : IsDeck deck = record { volume = is.is.is_deck.volume; terminals = terminals_front deck.terminals (terminal ∷ []) is.is.is_deck.terminals } in
+    let reached = groups_reach version deck is.with_lines (record { is_deck = good; quotas = is.is.quotas; names = is.is.names }) is.have_lines in
+    subst (λ (ls : List (List ℕ)). Leads Nothing ls (InTerminal version deck terminal)) (sym is.lines_are)
+    (leads_both Nothing (group_lines version deck is.with_lines) reached.front (terminal_lines terminal) (InTerminal version deck terminal) reached.leads
+    (terminal_leads version reached.front deck terminal (terminal_taken reached.front (version, deck) terminal reached.at fits) fits.good.keys))
+front_leads (Whole version deck) lines is =
+    let reached = groups_reach version deck is.with_lines is.is is.have_lines in
+    subst (λ (ls : List (List ℕ)). Leads Nothing ls (Whole version deck)) (sym is.lines_are)
+    (leads_both Nothing (group_lines version deck is.with_lines) reached.front (line_of End ∷ []) (Whole version deck) reached.leads
+    (leads_line reached.front (line_of End) (Whole version deck) (end_taken reached.front (version, deck) reached.at)))
 
--- what is told of bytes whose lines begin by those of a front
-verdict_behind : (bytes : List ℕ) (front : Front) (rest : List (List ℕ)) → IsFront front → whole_lines bytes ≡ front_lines front ++ rest → verdict bytes ≡ reading front (length (front_lines front) + 1) rest (cut_line bytes)
+-- the verdict on bytes whose first lines lead to a front
+verdict_behind : (bytes : List ℕ) (front : Front) (lines rest : List (List ℕ)) → BeginsDeck front lines → whole_lines bytes ≡ lines ++ rest → verdict bytes ≡ reading front (length lines + 1) rest (cut_line bytes)
 unfolding verdict
-verdict_behind bytes front rest is e =
-    let place : 1 + length (front_lines front) ≡ length (front_lines front) + 1 = omega arith in
+verdict_behind bytes front lines rest is e =
+    let place : 1 + length lines ≡ length lines + 1 = omega arith in
     ap (λ (ls : List (List ℕ)). reading Nothing 1 ls (cut_line bytes)) e
-    ∙ (front_leads front is).reads 1 rest (cut_line bytes)
+    ∙ (front_leads front lines is).reads 1 rest (cut_line bytes)
     ∙ ap (λ (n : ℕ). reading front n rest (cut_line bytes)) place
 
 pub spelled_told : (bytes : List ℕ) (deck : Deck) → Spelled bytes deck → verdict bytes ≡ Yields deck
 unfolding reading
 spelled_told bytes deck s =
-    let lines = deck_lines s.version deck in
-    verdict_behind bytes (Whole s.version deck) [] (record { is_deck = s.is_deck; quotas = s.quotas }) (s.lines_are ∙ sym (append-nil lines))
+    let lines = deck_lines s.version deck s.with_lines in
+    verdict_behind bytes (Whole s.version deck) lines [] (record { is = record { is_deck = s.is_deck; quotas = s.quotas; names = s.names }; with_lines = s.with_lines; have_lines = s.have_lines; lines_are = refl }) (s.lines_are ∙ sym (append-nil lines))
     ∙ ap (λ (cut : List ℕ). at_end (Whole s.version deck) (length lines + 1) cut) s.ends
 
 stops_told : (front : Front) (number : ℕ) (rest : List (List ℕ)) (cut : List ℕ) (why : DeckCause) → StopsAt front rest cut why → reading front number rest cut ≡ Refuses number why
@@ -339,59 +359,61 @@ stops_told front number (line ∷ lines) cut why stops =
 
 pub refused_told : (bytes : List ℕ) (line : ℕ) (why : DeckCause) → Refused bytes line why → verdict bytes ≡ Refuses line why
 refused_told bytes line why r =
-    verdict_behind bytes r.front r.rest r.is_front r.lines_are
-    ∙ stops_told r.front (length (front_lines r.front) + 1) r.rest (cut_line bytes) why r.stops
+    verdict_behind bytes r.front r.begun r.rest r.begins r.lines_are
+    ∙ stops_told r.front (length r.begun + 1) r.rest (cut_line bytes) why r.stops
     ∙ ap (λ (n : ℕ). Refuses n why) (sym r.line_is)
 
--- ---- what is told is so
+-- ---- what is found is so
 
 record Stopped (all : List (List ℕ)) (cut : List ℕ) (line : ℕ) (why : DeckCause) : Type 0 where
   front : Front
+  begun : List (List ℕ)
   rest : List (List ℕ)
-  is_front : IsFront front
-  lines_are : all ≡ front_lines front ++ rest
-  line_is : line ≡ length (front_lines front) + 1
+  begins : BeginsDeck front begun
+  lines_are : all ≡ begun ++ rest
+  line_is : line ≡ length begun + 1
   stops : StopsAt front rest cut why
 
 abbrev IsSo : List (List ℕ) → List ℕ → DeckVerdict → Type 0
-IsSo all cut (Yields deck) = (version : Version) × IsDeckIn version deck × (all ≡ deck_lines version deck) × (cut ≡ [])
+IsSo all cut (Yields deck) = (version : Version) × BeginsWhole version deck all × (cut ≡ [])
 IsSo all cut (Refuses line why) = Stopped all cut line why
 
 module _ (all : List (List ℕ)) where
-  end_so : (front : Front) (number : ℕ) (cut : List ℕ) → IsFront front → number ≡ length (front_lines front) + 1 → all ≡ front_lines front ++ [] → IsSo all cut (at_end front number cut)
-  end_so (Whole version deck) number [] is place lines = (version, is, lines ∙ append-nil (deck_lines version deck), refl)
-  end_so (Whole version deck) number (b ∷ cut) is place lines = record { front = Whole version deck; rest = []; is_front = is; lines_are = lines; line_is = place; stops = (omega arith, refl) }
-  end_so Nothing number cut is place lines = record { front = Nothing; rest = []; is_front = is; lines_are = lines; line_is = place; stops = refl }
-  end_so (Versioned version) number cut is place lines = record { front = Versioned version; rest = []; is_front = is; lines_are = lines; line_is = place; stops = refl }
-  end_so (InAccounts version deck) number cut is place lines = record { front = InAccounts version deck; rest = []; is_front = is; lines_are = lines; line_is = place; stops = refl }
-  end_so (InFile version deck file) number cut is place lines = record { front = InFile version deck file; rest = []; is_front = is; lines_are = lines; line_is = place; stops = refl }
-  end_so (InTerminal version deck terminal) number cut is place lines = record { front = InTerminal version deck terminal; rest = []; is_front = is; lines_are = lines; line_is = place; stops = refl }
+  end_so : (front : Front) (begun : List (List ℕ)) (number : ℕ) (cut : List ℕ) → BeginsDeck front begun → number ≡ length begun + 1 → all ≡ begun ++ [] → IsSo all cut (at_end front number cut)
+  end_so (Whole version deck) begun number [] is place lines = (version, record { is = is.is; with_lines = is.with_lines; have_lines = is.have_lines; lines_are = lines ∙ append-nil begun ∙ is.lines_are }, refl)
+  end_so (Whole version deck) begun number (b ∷ cut) is place lines = record { front = Whole version deck; begun = begun; rest = []; begins = is; lines_are = lines; line_is = place; stops = (omega arith, refl) }
+  end_so Nothing begun number cut is place lines = record { front = Nothing; begun = begun; rest = []; begins = is; lines_are = lines; line_is = place; stops = refl }
+  end_so (Versioned version) begun number cut is place lines = record { front = Versioned version; begun = begun; rest = []; begins = is; lines_are = lines; line_is = place; stops = refl }
+  end_so (InAccounts version deck) begun number cut is place lines = record { front = InAccounts version deck; begun = begun; rest = []; begins = is; lines_are = lines; line_is = place; stops = refl }
+  end_so (InFile version deck file) begun number cut is place lines = record { front = InFile version deck file; begun = begun; rest = []; begins = is; lines_are = lines; line_is = place; stops = refl }
+  end_so (InTerminal version deck terminal) begun number cut is place lines = record { front = InTerminal version deck terminal; begun = begun; rest = []; begins = is; lines_are = lines; line_is = place; stops = refl }
 
-  -- the front behind a line that is taken, and what the lines are then
-  next_follows : (front next : Front) (line : List ℕ) → IsFront front → Takes front line next → Follows next front line
-  next_follows front next line is takes =
-      let f = adds_front front takes.form is takes.has.may takes.none in
-      subst (λ (n : Front). Follows n front line) takes.next_is (record { is_front = f.is_front; lines_are = f.lines_are ∙ ap (λ (l : List ℕ). front_lines front ++ l ∷ []) (sym takes.has.line_is) })
+  -- one more accepted line leads to the next front
+  next_begins : (front next : Front) (begun : List (List ℕ)) (line : List ℕ) → BeginsDeck front begun → Takes front line next → BeginsDeck next (begun ++ line ∷ [])
+  next_begins front next begun line is takes =
+      let f = adds_front front takes.form begun is takes.has.may takes.has.is_formed takes.none in
+      subst (λ (n : Front). BeginsDeck n (begun ++ line ∷ [])) takes.next_is
+      (subst (λ (l : List ℕ). BeginsDeck (adds front takes.form) (begun ++ l ∷ [])) (sym takes.has.line_is) f)
 
-  reading_so : (front : Front) (number : ℕ) (lines : List (List ℕ)) (cut : List ℕ) → IsFront front → number ≡ length (front_lines front) + 1 → all ≡ front_lines front ++ lines → IsSo all cut (reading front number lines cut)
+  reading_so : (front : Front) (begun : List (List ℕ)) (number : ℕ) (lines : List (List ℕ)) (cut : List ℕ) → BeginsDeck front begun → number ≡ length begun + 1 → all ≡ begun ++ lines → IsSo all cut (reading front number lines cut)
   unfolding reading
-  reading_so front number [] cut is place so = end_so front number cut is place so
-  reading_so front number (line ∷ lines) cut is place so = go (behind_line front line) refl (λ next e. let f = next_follows front next line is (line_takes front line next e) in reading_so next (number + 1) lines cut f.is_front (omega (arith, place, ap length f.lines_are, length-append (front_lines front) (line ∷ []))) (so ∙ sym (append_assoc (front_lines front) (line ∷ []) lines) ∙ ap (λ (ls : List (List ℕ)). ls ++ lines) (sym f.lines_are)))
+  reading_so front begun number [] cut is place so = end_so front begun number cut is place so
+  reading_so front begun number (line ∷ lines) cut is place so = go (behind_line front line) refl (λ next e. reading_so next (begun ++ line ∷ []) (number + 1) lines cut (next_begins front next begun line is (line_takes front line next e)) (omega (arith, place, length-append begun (line ∷ []))) (so ∙ sym (append_assoc begun (line ∷ []) lines)))
     where
       go : (r : Result Front DeckCause) → behind_line front line ≡ r → ((next : Front) → behind_line front line ≡ Ok next → IsSo all cut (reading next (number + 1) lines cut)) → IsSo all cut (onwards r number (λ next. reading next (number + 1) lines cut))
       go (Ok next) e onward = onward next e
-      go (Err why) e onward = record { front = front; rest = line ∷ lines; is_front = is; lines_are = so; line_is = place; stops = line_refuses front line why e }
+      go (Err why) e onward = record { front = front; begun = begun; rest = line ∷ lines; begins = is; lines_are = so; line_is = place; stops = line_refuses front line why e }
 
 verdict_so : (bytes : List ℕ) (v : DeckVerdict) → verdict bytes ≡ v → IsSo (whole_lines bytes) (cut_line bytes) v
 unfolding verdict
-verdict_so bytes v e = subst (IsSo (whole_lines bytes) (cut_line bytes)) e (reading_so (whole_lines bytes) Nothing 1 (whole_lines bytes) (cut_line bytes) tt (omega arith) refl)
+verdict_so bytes v e = subst (IsSo (whole_lines bytes) (cut_line bytes)) e (reading_so (whole_lines bytes) Nothing [] 1 (whole_lines bytes) (cut_line bytes) refl (omega arith) refl)
 
 pub told_spelled : (bytes : List ℕ) (deck : Deck) → verdict bytes ≡ Yields deck → Spelled bytes deck
 told_spelled bytes deck e =
     let so = verdict_so bytes (Yields deck) e in
-    record { version = so.0; is_deck = so.1.is_deck; quotas = so.1.quotas; lines_are = so.2; ends = so.3 }
+    record { version = so.0; with_lines = so.1.with_lines; is_deck = so.1.is.is_deck; quotas = so.1.is.quotas; names = so.1.is.names; have_lines = so.1.have_lines; lines_are = so.1.lines_are; ends = so.2 }
 
 pub told_refused : (bytes : List ℕ) (line : ℕ) (why : DeckCause) → verdict bytes ≡ Refuses line why → Refused bytes line why
 told_refused bytes line why e =
     let so = verdict_so bytes (Refuses line why) e in
-    record { front = so.front; rest = so.rest; is_front = so.is_front; lines_are = so.lines_are; line_is = so.line_is; stops = so.stops }
+    record { front = so.front; begun = so.begun; rest = so.rest; begins = so.begins; lines_are = so.lines_are; line_is = so.line_is; stops = so.stops }

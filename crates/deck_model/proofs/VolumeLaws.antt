@@ -45,7 +45,7 @@ pub or_none : (a b : Bool) → (a || b) ≡ false → (a ≡ false) × (b ≡ fa
 or_none true b e = absurd (cc)
 or_none false b e = (refl, e)
 
-same_sides : (a b : Bool) → (a ≡ true → b ≡ true) → (b ≡ true → a ≡ true) → a ≡ b
+pub same_sides : (a b : Bool) → (a ≡ true → b ≡ true) → (b ≡ true → a ≡ true) → a ≡ b
 same_sides true true f g = refl
 same_sides true false f g = absurd (let e : false ≡ true = f refl in cc)
 same_sides false true f g = absurd (let e : false ≡ true = g refl in cc)

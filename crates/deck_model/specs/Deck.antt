@@ -1,5 +1,5 @@
--- A deck: the disk's blocks, the accounts, the files with their texts, and the terminals with their keys.
-use Rattle.std.specs.Prelude.{◌≡◌, ℕ, ◌≤◌, ◌&&◌, Bool, true, not, List, [], ◌∷◌, length, bytes_eq, map}
+-- A deck: the disk's blocks, the accounts, the files with their pages, and the terminals with their keys.
+use Rattle.std.specs.Prelude.{◌≡◌, ℕ, ◌≤◌, ◌&&◌, Bool, true, not, List, [], ◌∷◌, length, bytes_eq}
 use Rattle.std.specs.List.{AllByRecursion, list_any}
 use Rattle.basic_values.specs.declared.limits.TheConstants.{MOST_JOBS}
 use Rattle.basic_values.specs.declared.lists.TheConstants.{LINE_LENGTH}
@@ -7,10 +7,9 @@ use Rattle.monitor_calls.specs.declared.volumes.AccountEntry.{AccountEntry}
 use Rattle.monitor_calls.specs.declared.files.FileEntry.{FileEntry}
 use Rattle.monitor_calls.specs.Names.{is_terminal_name}
 use Rattle.monitor_calls.specs.Volumes.{is_good_volume}
-use Rattle.deck_model.specs.Files.{FitsText, file_entry}
 pub use Rattle.deck_model.specs.Files.{File}
 
--- a terminal's name, and the keys of each line behind which RETURN is pressed
+-- a terminal's name, and its key lines, each ended by RETURN
 pub record Terminal : Type 0 where
   pub name : List ℕ
   pub keys : List (List ℕ)
@@ -18,7 +17,7 @@ pub record Terminal : Type 0 where
 pub record Deck : Type 0 where
   pub blocks : ℕ
   pub accounts : List AccountEntry
-  pub files : List File
+  pub files : List FileEntry
   pub terminals : List Terminal
 
 abbrev pub IsKeyLine : List ℕ → Type 0
@@ -45,13 +44,7 @@ pub record AreTerminals (terminals : List Terminal) : Type 0 where
   pub apart : are_named_apart terminals ≡ true
   pub few : length terminals ≤ MOST_JOBS
 
--- the files as the deck's volume has them
-abbrev pub volume_files : Deck → List FileEntry
-volume_files deck = map file_entry deck.files
-
--- a deck that can be run: its volume is good, the texts of its files fit in their blocks, and its
--- terminals are good
+-- a deck that can be run: its volume and its terminals are good
 pub record IsDeck (deck : Deck) : Type 0 where
-  pub volume : is_good_volume deck.blocks deck.accounts (volume_files deck) ≡ true
-  pub texts : AllByRecursion FitsText deck.files
+  pub volume : is_good_volume deck.blocks deck.accounts deck.files ≡ true
   pub terminals : AreTerminals deck.terminals

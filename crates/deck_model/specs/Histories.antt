@@ -1,7 +1,7 @@
 -- The text of a history: how many entries it has, and a line for each.
-use Rattle.std.specs.Prelude.{ℕ, ◌+◌, ◌/◌, ◌%◌, Bool, true, false, nat_lt, if◌then◌else◌, List, [], ◌∷◌, ◌++◌, length, Option, Some, None, codes}
+use Rattle.std.specs.Prelude.{◌≡◌, ◌⊎◌, ℕ, suc, ◌+◌, ◌/◌, ◌%◌, Bool, true, false, nat_lt, if◌then◌else◌, List, [], ◌∷◌, ◌++◌, length, Option, Some, None, codes}
 use Rattle.std.specs.List.{flat_map}
-use Rattle.std.specs.Fmt.{decimal}
+use Rattle.std.specs.Fmt.{decimal, digits_onto}
 use Rattle.monitor_calls.specs.declared.names.Account.{Account}
 use Rattle.monitor_calls.specs.declared.calls.Entry.{Entry}
 use Rattle.monitor_calls.specs.declared.calls.Request.{Request}
@@ -119,7 +119,20 @@ abbrev pub entry_lines : List Entry → List ℕ
 entry_lines [] = []
 entry_lines (entry ∷ entries) = entry_line entry ++ entry_lines entries
 
+-- The digits of a number of any size, without a leading zero; `decimal` shows the last 64 digits at most.
+unfoldable pub count_text : ℕ → List ℕ
+count_text n = digits_onto (suc n) 10 false n []
+
 -- HISTORY and the number of entries, and the entries in their order
 abbrev pub history_text : List Entry → List ℕ
 history_text history =
-    codes "HISTORY " ++ decimal (length history) ++ codes "\n" ++ entry_lines history
+    codes "HISTORY " ++ count_text (length history) ++ codes "\n" ++ entry_lines history
+
+-- A journal has a star in place of the number. After any of its lines it may be cut: then it is the
+-- journal of fewer entries.
+abbrev pub journal_text : List Entry → List ℕ
+journal_text history = codes "HISTORY *\n" ++ entry_lines history
+
+-- a text of this history, counted or not
+abbrev pub IsHistoryText : List ℕ → List Entry → Type 0
+IsHistoryText text history = (text ≡ history_text history) ⊎ (text ≡ journal_text history)

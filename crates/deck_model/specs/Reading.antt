@@ -4,10 +4,11 @@ use Rattle.basic_values.specs.Cuts.{◌>>=◌, behind, cut}
 use Rattle.deck_model.specs.declared.faults.DeckCause.{DeckCause}
 use Rattle.deck_model.specs.declared.faults.DeckCause.TheVariants as cause
 use Rattle.deck_model.specs.declared.versions.Version.{Version}
-use Rattle.deck_model.specs.declared.versions.Version.TheVariants.{One, Two}
+use Rattle.deck_model.specs.declared.versions.Version.TheVariants.{One, Two, Three}
 use Rattle.deck_model.specs.Deck.{Deck}
+use Rattle.deck_model.specs.Hex.{is_hex, hex_bytes}
 use Rattle.deck_model.specs.Lines.{whole_lines, cut_line}
-use Rattle.deck_model.specs.Forms.{LineForm, Heading, Disk, Account, File, Terminal, Keys, End, AccountTexts, FileTexts, heading, is_numeral, is_numeral_or_none, is_name}
+use Rattle.deck_model.specs.Forms.{LineForm, Heading, Disk, Account, File, Terminal, Keys, Block, End, AccountTexts, FileTexts, heading, has_block_lines, is_numeral, is_numeral_or_none, is_name, is_file_word}
 use Rattle.deck_model.specs.Fronts.{Front, Nothing, Versioned, InAccounts, InFile, InTerminal, Whole, adds}
 use Rattle.deck_model.specs.Refusals.{causes, first_cause, shape_cause}
 
@@ -21,19 +22,25 @@ or_else (Some a) other = Some a
 unfoldable pub version_in : List ℕ → Option LineForm
 version_in line =
     if bytes_eq line (heading One) then Some (Heading One)
-    else if bytes_eq line (heading Two) then Some (Heading Two) else None
+    else if bytes_eq line (heading Two) then Some (Heading Two)
+    else if bytes_eq line (heading Three) then Some (Heading Three) else None
 
 unfoldable pub disk_in : List ℕ → Option LineForm
 disk_in line = do
   blocks ← behind (codes "DISK ") line
   if is_numeral blocks then Some (Disk blocks) else None
 
--- the limit of an account's calls, and in version 2 its quota
-abbrev pub limits_in : Version → List ℕ → Option (List ℕ × Option (List ℕ))
-limits_in One text = Some (text, None)
-limits_in Two text = do
+-- the limit of an account's calls, and its quota after a space
+abbrev pub limit_and_quota : List ℕ → Option (List ℕ × Option (List ℕ))
+limit_and_quota text = do
   parts ← cut 32 text
   Some (parts.0, Some parts.1)
+
+-- in version 1 the limit alone
+abbrev pub limits_in : Version → List ℕ → Option (List ℕ × Option (List ℕ))
+limits_in One text = Some (text, None)
+limits_in Two text = limit_and_quota text
+limits_in Three text = limit_and_quota text
 
 -- the texts of the fields of an account
 unfoldable pub texts_in : Version → List ℕ → Option AccountTexts
@@ -58,7 +65,7 @@ account_in version line = do
       && is_numeral texts.limit && is_numeral_or_none texts.quota
       then Some (Account texts) else None
 
--- the stem of a file's name, and its extension behind the first point
+-- the stem of a file's name, and its extension after the first point
 abbrev pub stem_before : List ℕ → Option (List ℕ × List ℕ) → List ℕ
 stem_before name None = name
 stem_before name (Some parts) = parts.0
@@ -85,15 +92,16 @@ file_texts_in line = do
     blocks = blocks;
   })
 
-abbrev pub are_file_texts : FileTexts → Bool
-are_file_texts texts =
-    is_numeral texts.project && is_numeral texts.programmer && is_name texts.stem
-    && is_name (unwrap_or texts.extension []) && is_numeral texts.code && is_numeral texts.blocks
+abbrev pub are_file_texts : Version → FileTexts → Bool
+are_file_texts version texts =
+    is_numeral texts.project && is_numeral texts.programmer && is_file_word version texts.stem
+    && is_file_word version (unwrap_or texts.extension []) && is_numeral texts.code
+    && is_numeral texts.blocks
 
-unfoldable pub file_in : List ℕ → Option LineForm
-file_in line = do
+unfoldable pub file_in : Version → List ℕ → Option LineForm
+file_in version line = do
   texts ← file_texts_in line
-  if are_file_texts texts then Some (File texts) else None
+  if are_file_texts version texts then Some (File texts) else None
 
 unfoldable pub terminal_in : List ℕ → Option LineForm
 terminal_in line = do
@@ -105,6 +113,12 @@ keys_in line = do
   keys ← behind (codes ">") line
   Some (Keys keys)
 
+-- the bytes of a block, in version 3
+unfoldable pub block_in : Version → List ℕ → Option LineForm
+block_in version line = do
+  digits ← behind (codes "=") line
+  if has_block_lines version && is_hex digits then Some (Block (hex_bytes digits)) else None
+
 unfoldable pub end_in : List ℕ → Option LineForm
 end_in line = if bytes_eq line (codes "END") then Some End else None
 
@@ -112,29 +126,30 @@ end_in line = if bytes_eq line (codes "END") then Some End else None
 unfoldable pub groups_in : Version → List ℕ → Option LineForm
 groups_in version line =
     or_else (account_in version line)
-    (or_else (file_in line) (or_else (terminal_in line) (end_in line)))
+    (or_else (file_in version line) (or_else (terminal_in line) (end_in line)))
 
--- a form behind a file
-unfoldable pub contents_in : List ℕ → Option LineForm
-contents_in line =
-    or_else (keys_in line) (or_else (file_in line) (or_else (terminal_in line) (end_in line)))
+-- a form after a FILE line
+unfoldable pub contents_in : Version → List ℕ → Option LineForm
+contents_in version line =
+    or_else (keys_in line) (or_else (block_in version line)
+    (or_else (file_in version line) (or_else (terminal_in line) (end_in line))))
 
--- a form behind a terminal
+-- a form after a TERMINAL line
 unfoldable pub session_in : List ℕ → Option LineForm
 session_in line = or_else (keys_in line) (or_else (terminal_in line) (end_in line))
 
--- the form that a line has behind a front
+-- the form of the line after a front
 unfoldable pub form_at : Front → List ℕ → Option LineForm
 form_at Nothing line = version_in line
 form_at (Versioned version) line = disk_in line
 form_at (InAccounts version deck) line = groups_in version line
-form_at (InFile version deck file) line = contents_in line
+form_at (InFile version deck file) line = contents_in version line
 form_at (InTerminal version deck terminal) line = session_in line
 form_at (Whole version deck) line = None
 
 -- FRONTS
 
--- the front behind a line of a form, unless a cause applies
+-- the front after a line of a form, unless a cause applies
 abbrev pub unless_refused : Front → Option DeckCause → Result Front DeckCause
 unless_refused front None = Ok front
 unless_refused front (Some why) = Err why
@@ -143,33 +158,33 @@ unfoldable pub behind_form : Front → Option LineForm → Result Front DeckCaus
 behind_form front None = Err (shape_cause front)
 behind_form front (Some form) = unless_refused (adds front form) (first_cause (causes front form))
 
--- the front behind one line
+-- the front after one line
 unfoldable pub behind_line : Front → List ℕ → Result Front DeckCause
 behind_line front line = behind_form front (form_at front line)
 
 -- VERDICTS
 
--- bytes spell a deck, or are refused at a line, from 1, for a cause
+-- bytes spell a deck, or are rejected at a line, counted from 1, for a cause
 pub data DeckVerdict : Type 0 where
   Yields : Deck → DeckVerdict
   Refuses : ℕ → DeckCause → DeckVerdict
 
--- where the lines have ended
+-- at the end of the lines
 abbrev pub at_end : Front → ℕ → List ℕ → DeckVerdict
 at_end (Whole version deck) line [] = Yields deck
 at_end front line cut = Refuses line cause.Cut
 
--- on to the front behind a line, unless the line is refused
+-- on to the front after a line, unless the line is rejected
 abbrev pub onwards : Result Front DeckCause → ℕ → (Front → DeckVerdict) → DeckVerdict
 onwards (Ok front) number next = next front
 onwards (Err why) number next = Refuses number why
 
--- what is told of a front, the number of its next line, the lines from there, and a line that is cut
+-- the verdict from a front, the number of its next line, the lines from there, and a line that is cut
 unfoldable pub reading : Front → ℕ → List (List ℕ) → List ℕ → DeckVerdict
 reading front number [] cut = at_end front number cut
 reading front number (line ∷ lines) cut =
     onwards (behind_line front line) number (λ next. reading next (number + 1) lines cut)
 
--- what is told of bytes
+-- the verdict on bytes
 unfoldable pub verdict : List ℕ → DeckVerdict
 verdict bytes = reading Nothing 1 (whole_lines bytes) (cut_line bytes)

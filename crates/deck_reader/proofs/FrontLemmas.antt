@@ -1,5 +1,5 @@
 -- What a line adds to a front, by what the code finds of it.
-use Rattle.std.proofs.Common.{◌≡◌, ℕ, ◌<◌, ◌≤◌, true, false, cond, List, length, map, Some, Ok, Err, refl, sym, ap, ◌∙◌, arith}
+use Rattle.std.proofs.Common.{◌≡◌, ℕ, ◌<◌, ◌≤◌, true, false, cond, List, length, map, Some, Ok, Err, refl, sym, ◌∙◌, arith}
 use Rattle.std.specs.Prelude.{Result, None, nat_le}
 use Rattle.std.proofs.lemmas.Bool.{le-leb, lt-leb}
 use Rattle.std.proofs.lemmas.List.{length-map}
@@ -10,13 +10,11 @@ use Rattle.deck_model.specs.declared.versions.Version.{Version}
 use Rattle.deck_model.specs.Deck as model
 use Rattle.deck_model.specs.Deck.{has_terminal}
 use Rattle.deck_model.specs.Forms as forms
-use Rattle.deck_model.specs.Forms.{Account, File, Keys, AccountTexts, FileTexts}
-use Rattle.deck_model.specs.Fronts.{Front, InAccounts, InFile, InTerminal, with_account, with_file, with_text, with_terminal, entry_of, new_file, new_terminal}
-use Rattle.deck_model.specs.Refusals.{is_in_range, first_cause, account_causes, file_causes, text_causes, terminal_causes}
+use Rattle.deck_model.specs.Forms.{Account, File, Keys, Block, AccountTexts, FileTexts}
+use Rattle.deck_model.specs.Fronts.{Front, InAccounts, InFile, InTerminal, with_account, with_file, with_block, with_text, with_terminal, entry_of, new_file, new_terminal}
+use Rattle.deck_model.specs.Refusals.{is_in_range, first_cause, account_causes, file_causes, content_causes, block_causes, terminal_causes}
 use Rattle.deck_model.specs.Reading.{groups_in, contents_in, session_in, form_at, unless_refused, behind_form, behind_line}
 use Rattle.basic_values.proofs.PlaceLemmas.{missed}
-use Rattle.deck_model.proofs.FormLaws.{form_takes}
-use Rattle.deck_reader.specs.Filed.{has_line_feed}
 use Rattle.deck_reader.specs.declared.decks.Terminal.{Terminal}
 use Rattle.deck_reader.specs.Seen.{terminal_of, is_named}
 use Rattle.deck_reader.proofs.NameLemmas.{named_is}
@@ -45,29 +43,29 @@ account_behind version deck line texts e = rw e refl
 
 -- the front behind the line of a file
 abbrev pub filed : Version → model.Deck → FileTexts → Result Front DeckCause
-filed version deck texts = unless_refused (InFile version deck (new_file texts)) (first_cause (file_causes deck texts))
+filed version deck texts = unless_refused (InFile version deck (new_file texts)) (first_cause (file_causes version deck texts))
 
 pub file_behind : (version : Version) (deck : model.Deck) (line : List ℕ) (texts : FileTexts) → groups_in version line ≡ Some (File texts) → behind_line (InAccounts version deck) line ≡ filed version deck texts
 unfolding behind_line behind_form form_at
 file_behind version deck line texts e = rw e refl
 
-pub next_file_behind : (version : Version) (deck : model.Deck) (file : model.File) (line : List ℕ) (texts : FileTexts) → contents_in line ≡ Some (File texts) → behind_line (InFile version deck file) line ≡ filed version (with_file deck file) texts
+pub next_file_behind : (version : Version) (deck : model.Deck) (file : model.File) (line : List ℕ) (texts : FileTexts) → contents_in version line ≡ Some (File texts) → behind_line (InFile version deck file) line ≡ filed version (with_file deck file) texts
 unfolding behind_line behind_form form_at
 next_file_behind version deck file line texts e = rw e refl
 
-pub text_behind : (version : Version) (deck : model.Deck) (file : model.File) (line text : List ℕ) → contents_in line ≡ Some (Keys text) → behind_line (InFile version deck file) line ≡ unless_refused (InFile version deck (with_text file text)) (first_cause (text_causes file text))
+pub text_behind : (version : Version) (deck : model.Deck) (file : model.File) (line text : List ℕ) → contents_in version line ≡ Some (Keys text) → behind_line (InFile version deck file) line ≡ unless_refused (InFile version deck (with_text file text)) (first_cause (content_causes (with_text file text)))
 unfolding behind_line behind_form form_at
 text_behind version deck file line text e = rw e refl
 
-pub text_lacks : (version : Version) (deck : model.Deck) (file : model.File) (line text : List ℕ) → contents_in line ≡ Some (Keys text) → has_line_feed line ≡ false → has_line_feed text ≡ false
-unfolding form_at
-text_lacks version deck file line text e lacks = ap has_line_feed (sym (form_takes (InFile version deck file) line (Keys text) e).line_is) ∙ lacks
+pub block_behind : (version : Version) (deck : model.Deck) (file : model.File) (line bytes : List ℕ) → contents_in version line ≡ Some (Block bytes) → behind_line (InFile version deck file) line ≡ unless_refused (InFile version deck (with_block file bytes)) (first_cause (block_causes file bytes))
+unfolding behind_line behind_form form_at
+block_behind version deck file line bytes e = rw e refl
 
 -- the front behind the line of a terminal
 abbrev pub named : Version → model.Deck → List ℕ → Result Front DeckCause
 named version deck name = unless_refused (InTerminal version deck (new_terminal name)) (first_cause (terminal_causes deck.terminals name))
 
-pub named_behind : (version : Version) (deck : model.Deck) (file : model.File) (line name : List ℕ) → contents_in line ≡ Some (forms.Terminal name) → behind_line (InFile version deck file) line ≡ named version (with_file deck file) name
+pub named_behind : (version : Version) (deck : model.Deck) (file : model.File) (line name : List ℕ) → contents_in version line ≡ Some (forms.Terminal name) → behind_line (InFile version deck file) line ≡ named version (with_file deck file) name
 unfolding behind_line behind_form form_at
 named_behind version deck file line name e = rw e refl
 

@@ -1,20 +1,19 @@
--- What was read, as the definitions have it, and what reading answers.
+-- What the code reads, in the words of the definitions, and what its answers say.
 use Rattle.std.specs.Prelude.{◌≡◌, ℕ, ◌+◌, ◌&&◌, nat_lt, Bool, bytes_eq, List, [], ◌∷◌, Option, Some, None, Result, Ok, Err, map, ⊤}
 use Rattle.std.specs.List.{list_any}
 use Rattle.std.specs.Borrow.{Bor}
 use Rattle.basic_values.specs.declared.failures.Trouble.{Trouble}
 use Rattle.basic_values.specs.declared.failures.Trouble.TheVariants as trouble
 use Rattle.monitor_calls.specs.declared.names.Account.{Account}
-use Rattle.monitor_calls.specs.declared.files.FileName.{FileName}
 use Rattle.monitor_calls.specs.declared.files.FileEntry.{FileEntry}
 use Rattle.monitor_calls.specs.declared.volumes.AccountEntry.{AccountEntry}
-use Rattle.monitor_calls.specs.FileNames.{same_name}
 use Rattle.monitor_calls.specs.Volumes.{same_account, blocks_owned}
 use Rattle.deck_model.specs.declared.faults.DeckCause.{DeckCause}
 use Rattle.deck_model.specs.declared.faults.DeckFault.{DeckFault}
 use Rattle.deck_model.specs.Deck as model
 use Rattle.deck_model.specs.Forms as forms
 use Rattle.deck_model.specs.Fronts as fronts
+use Rattle.deck_model.specs.Hex.{hex_bytes}
 use Rattle.deck_model.specs.Lines.{whole_lines, cut_line}
 use Rattle.deck_model.specs.Reading.{DeckVerdict, Yields, Refuses}
 use Rattle.deck_reader.specs.declared.decks.Deck.{Deck}
@@ -32,7 +31,6 @@ use Rattle.deck_reader.specs.declared.forms.SessionForm.{SessionForm}
 use Rattle.deck_reader.specs.declared.forms.SessionForm.TheVariants as session
 use Rattle.deck_reader.specs.declared.fronts.Front.{Front}
 use Rattle.deck_reader.specs.declared.fronts.Front.TheVariants as code
-use Rattle.deck_reader.specs.Filed.{file_of}
 
 abbrev pub terminal_of : Terminal → model.Terminal
 terminal_of terminal = record { name = terminal.name; keys = terminal.keys.items }
@@ -41,11 +39,7 @@ terminal_of terminal = record { name = terminal.name; keys = terminal.keys.items
 unfoldable pub is_named : List Terminal → List ℕ → Bool
 is_named terminals name = list_any (λ (terminal : Terminal). bytes_eq terminal.name name) terminals
 
--- whether a file has this name
-unfoldable pub is_filed : List FileEntry → FileName → Bool
-is_filed files name = list_any (λ (file : FileEntry). same_name file.name name) files
-
--- whether the owner is one of the accounts, and has not the quota for so many blocks more
+-- whether the owner is one of the accounts, with too small a quota for this many blocks more
 unfoldable pub is_over : List AccountEntry → List FileEntry → Account → ℕ → Bool
 is_over accounts files owner blocks =
     let owned = blocks_owned files owner + blocks in
@@ -53,22 +47,22 @@ is_over accounts files owner blocks =
     (λ (entry : AccountEntry). same_account entry.account owner && nat_lt entry.quota owned)
     accounts
 
--- a deck without where it lies in memory
+-- a deck as a value
 abbrev pub deck_of : Deck → model.Deck
 deck_of deck = record {
   blocks = deck.volume.blocks;
   accounts = deck.volume.accounts.items;
-  files = map file_of deck.volume.files.items;
+  files = deck.volume.files.items;
   terminals = map terminal_of deck.terminals.items;
 }
 
--- a file whose text may go on
+-- a file that may get more content
 abbrev pub open_of : OpenFile → model.File
 open_of file = record {
   name = file.name;
   code = file.code;
   blocks = file.blocks;
-  texts = whole_lines file.text.items;
+  content = file.content.items;
 }
 
 abbrev pub front_of : Front → fronts.Front
@@ -80,7 +74,7 @@ front_of (code.InTerminal version deck terminal) =
     fronts.InTerminal version (deck_of deck) (terminal_of terminal)
 front_of (code.Whole version deck) = fronts.Whole version (deck_of deck)
 
--- a text that may not be there
+-- an optional text as a value
 abbrev pub option_seen : Option (Bor (List ℕ)) → Option (List ℕ)
 option_seen None = None
 option_seen (Some text) = Some text.now
@@ -112,6 +106,7 @@ group_seen group.End = forms.End
 
 abbrev pub contents_seen : ContentsForm → forms.LineForm
 contents_seen (contents.Text text) = forms.Keys text.now
+contents_seen (contents.Block digits) = forms.Block (hex_bytes digits.now)
 contents_seen (contents.File texts) = forms.File (file_texts_seen texts)
 contents_seen (contents.Terminal name) = forms.Terminal name.now
 contents_seen contents.End = forms.End
@@ -121,14 +116,14 @@ session_seen (session.Keys keys) = forms.Keys keys.now
 session_seen (session.Terminal name) = forms.Terminal name.now
 session_seen session.End = forms.End
 
--- the first line, and the bytes behind it; or there is no whole line
+-- the first line and the bytes after it; or there is no whole line
 abbrev pub CutsLine : {X : Type 0} → (X → List ℕ × List ℕ) → List ℕ → Option X → Type 0
 CutsLine view bytes None = (whole_lines bytes ≡ []) × (cut_line bytes ≡ bytes)
 CutsLine view bytes (Some x) =
     (whole_lines bytes ≡ (view x).0 ∷ whole_lines (view x).1)
     × (cut_line bytes ≡ cut_line (view x).1)
 
--- what was answered, seen by view, is what reading answers, unless memory ran out
+-- the answer, seen by view, is what reading says, unless memory ran out
 abbrev pub Decides : {X Y : Type 0} → (X → Y) → Result X ReadError → Result Y DeckCause → Type 0
 Decides view (Ok x) read = read ≡ Ok (view x)
 Decides view (Err errors.Memory) read = ⊤
@@ -138,12 +133,12 @@ abbrev pub trouble_at : ReadError → ℕ → Trouble DeckFault
 trouble_at errors.Memory line = trouble.NoMemory
 trouble_at (errors.Refused why) line = trouble.Refused (record { line = line; cause = why })
 
--- the line and the cause of a refusal
+-- a fact of the line and the cause of a rejection
 abbrev pub IfRefused : Result Deck (Trouble DeckFault) → (DeckFault → Type 0) → Type 0
 IfRefused (Err (trouble.Refused fault)) P = P fault
 IfRefused answer P = Unit {0}
 
--- what was answered is the verdict, unless memory ran out
+-- the answer is the verdict, unless memory ran out
 abbrev pub Tells : Result Deck (Trouble DeckFault) → DeckVerdict → Type 0
 Tells (Ok deck) v = v ≡ Yields (deck_of deck)
 Tells (Err (trouble.Refused fault)) v = v ≡ Refuses fault.line fault.cause

@@ -1,34 +1,37 @@
-//! Files of a deck: begun, their texts, and their pages on the volume.
+//! Files of a deck: their names, their content, and their pages on the volume.
 
-ghost use Rattle.std.specs.Prelude.{◌≡◌, ◌≤◌, ◌+◌, ◌*◌, false, if◌then◌else◌, not, [], Some, None, length, map, nat_le, nat_lt, unwrap_or, IfOk};
+ghost use Rattle.std.specs.Prelude.{◌≡◌, ◌<◌, ◌≤◌, ◌+◌, ◌*◌, ◌^◌, ◌++◌, false, if◌then◌else◌};
+ghost use Rattle.std.specs.Prelude.{[], Some, None, length, nat_le, nat_lt, unwrap_or, IfOk, OnOk};
 ghost use Rattle.basic_values.specs.declared.limits.TheConstants.{BLOCK_BYTES};
-ghost use Rattle.monitor_calls.specs.Volumes.{same_account, has_account, blocks_of, blocks_for, blocks_owned};
-ghost use Rattle.deck_model.specs.Files.{text_of, pages_of, file_entry};
+ghost use Rattle.monitor_calls.specs.Volumes.{same_account, has_file, blocks_of, blocks_for};
+ghost use Rattle.monitor_calls.specs.Volumes.{blocks_owned};
+ghost use Rattle.deck_model.specs.declared.versions.Version.TheVariants.{One, Three};
+ghost use Rattle.deck_model.specs.Files.{block_of, pages_of, file_entry};
 ghost use Rattle.deck_model.specs.Fronts as model;
-ghost use Rattle.deck_model.specs.Refusals.{is_extension, is_file_in_range};
+ghost use Rattle.deck_model.specs.Hex.{hex_value, hex_bytes};
+ghost use Rattle.deck_model.specs.Refusals.{is_stem, is_extension, most_code, is_file_in_range};
 ghost use Rattle.basic_values.specs.Cuts.{Finds};
-ghost use Rattle.deck_reader.specs.Filed.{file_of, has_line_feed};
-ghost use Rattle.deck_reader.specs.Seen.{option_seen, file_texts_seen, open_of, is_filed};
+ghost use Rattle.deck_reader.specs.Seen.{option_seen, file_texts_seen, open_of};
 
 use crate::decks::OpenFile;
 use crate::forms::FileTexts;
 use basic_values::limits::{BLOCK_BYTES, MOST_BLOCKS, MOST_CODE};
 use basic_values::{NoMemory, Series, number_between};
+use deck_model::Version;
 use monitor_calls::{Account, FileEntry, FileName, Page, Short};
 use std::alloc::Global;
 
-/// The file of such fields, which has no text yet, where its numbers and its name are in their
-/// ranges.
-#[tactic(auto, unfolding(deck_model::specs::Lines::whole_lines))]
-pub(crate) fn new_file(alloc: Global, texts: &FileTexts<'_>) -> Option<OpenFile>
-    ensures { Finds open_of result (if is_file_in_range (file_texts_seen texts.now)
+/// Returns the file of these fields, without content, if its numbers and its name are in the ranges
+/// of the version.
+pub(crate) fn new_file(alloc: Global, version: Version, texts: &FileTexts<'_>) -> Option<OpenFile>
+    ensures { Finds open_of result (if is_file_in_range version (file_texts_seen texts.now)
         then Some (model.new_file (file_texts_seen texts.now)) else None) }
 {
     let project = number_between(1, 254, texts.project)?;
     let programmer = number_between(0, 254, texts.programmer)?;
-    let stem = Short::password(texts.stem)?;
-    let extension = extension_of(texts.extension)?;
-    let code = number_between(0, u32::from(MOST_CODE), texts.code)?;
+    let stem = stem_of(version, texts.stem)?;
+    let extension = extension_of(version, texts.extension)?;
+    let code = number_between(0, most_code(version), texts.code)?;
     let blocks = number_between(0, u32::from(MOST_BLOCKS), texts.blocks)?;
     let owner = Account {
         project: project as u8,
@@ -42,74 +45,180 @@ pub(crate) fn new_file(alloc: Global, texts: &FileTexts<'_>) -> Option<OpenFile>
         },
         code: code as u8,
         blocks: blocks as u16,
-        text: Vec::new(alloc),
+        content: Vec::new(alloc),
     })
 }
 
-/// The extension behind a point, of 1 to 3 capital letters and digits; empty where there is no
-/// point.
-fn extension_of(text: Option<&[u8]>) -> Option<Short>
-    ensures { result ≡ (if is_extension (option_seen text.entry)
+/// Returns the stem, if it is in the range of the version.
+fn stem_of(version: Version, text: &[u8]) -> Option<Short>
+    ensures { result ≡ (if is_stem version text.now then Some text.now else None) }
+{
+    match version {
+        Version::One | Version::Two => Short::password(text),
+        Version::Three => Short::of(text),
+    }
+}
+
+/// Returns the extension after the point, if it is in the range of the version. It is empty if
+/// there is no point.
+fn extension_of(version: Version, text: Option<&[u8]>) -> Option<Short>
+    ensures { result ≡ (if is_extension version (option_seen text.entry)
         then Some (unwrap_or (option_seen text.entry) []) else None) }
 {
     match text {
         None => Short::of(b""),
-        Some(text) if text.len() <= 3 => Short::password(text),
-        Some(_) => None,
+        Some(text) => extension_after_point(version, text),
+    }
+}
+
+fn extension_after_point(version: Version, text: &[u8]) -> Option<Short>
+    ensures { result ≡ (if is_extension version (Some text.now) then Some text.now else None) }
+{
+    match version {
+        Version::One | Version::Two => capital_extension(text),
+        Version::Three => any_extension(text),
+    }
+}
+
+/// Returns the extension, if it has 1 to 3 capital letters and digits.
+fn capital_extension(text: &[u8]) -> Option<Short>
+    ensures { result ≡ (if is_extension One (Some text.now) then Some text.now else None) }
+{
+    if text.len() <= 3 {
+        Short::password(text)
+    } else {
+        None
+    }
+}
+
+/// Returns the extension, if it has 1 to 6 letters and digits.
+fn any_extension(text: &[u8]) -> Option<Short>
+    ensures { result ≡ (if is_extension Three (Some text.now) then Some text.now else None) }
+{
+    if text.is_empty() {
+        None
+    } else {
+        Short::of(text)
+    }
+}
+
+/// Returns the greatest code of a file.
+fn most_code(version: Version) -> u32
+    ensures { result ≡ most_code version }
+{
+    match version {
+        Version::One | Version::Two => u32::from(MOST_CODE),
+        Version::Three => 255,
     }
 }
 
 impl OpenFile {
-    /// Whether the file's blocks have no room for one line of text more.
-    pub(crate) fn is_full_at(&self, text: &[u8]) -> bool
+    /// Returns whether the file's blocks have no room for this many bytes more.
+    pub(crate) fn lacks(&self, more: usize) -> bool
         ensures { result ≡ nat_lt (BLOCK_BYTES * self.now.blocks)
-            (length (text_of (model.with_text (open_of self.now) text.now).texts)) }
+            (length self.now.content.items + more) }
     {
-        let room = BLOCK_BYTES * self.blocks as usize - self.text.len();
-        text.len() + 2 > room
+        let room = BLOCK_BYTES * self.blocks as usize - self.content.len();
+        more > room
     }
 
-    /// One line of text more, which has room.
+    /// Adds a line of text, for which there is room.
     pub(crate) fn with_text(self, text: &[u8]) -> Result<OpenFile, NoMemory>
-        requires line { has_line_feed text.now ≡ false }
-        requires room { nat_lt (BLOCK_BYTES * self.blocks)
-            (length (text_of (model.with_text (open_of self) text.now).texts)) ≡ false }
+        requires { nat_lt (BLOCK_BYTES * self.blocks)
+            (length (model.with_text (open_of self) text.now).content) ≡ false }
         ensures { IfOk result (λ file. open_of file ≡ model.with_text (open_of self) text.now) }
     {
         let OpenFile {
             name,
             code,
             blocks,
-            text: mut bytes,
+            mut content,
         } = self;
-        bytes.extend_from_slice(text)?;
-        bytes.extend_from_slice(b"\r\n")?;
+        content.extend_from_slice(text)?;
+        content.extend_from_slice(b"\r\n")?;
         Ok(OpenFile {
             name,
             code,
             blocks,
-            text: bytes,
+            content,
         })
     }
 
-    /// The file as the volume has it: its text, and zeros to the end of its blocks.
-    pub(crate) fn into_entry(self, alloc: Global) -> Result<FileEntry, NoMemory>
-        ensures entry { IfOk result (λ entry. entry ≡ file_entry (open_of self)) }
-        ensures again { IfOk result (λ entry. file_of entry ≡ open_of self) }
+    /// Adds the block that starts with the bytes of these digits, for which there is room.
+    pub(crate) fn with_block(self, digits: &[u8]) -> Result<OpenFile, NoMemory>
+        requires few { length (hex_bytes digits.now) ≤ BLOCK_BYTES }
+        requires room { length self.content.items + BLOCK_BYTES ≤ BLOCK_BYTES * self.blocks }
+        ensures { IfOk result (λ file.
+            open_of file ≡ model.with_block (open_of self) (hex_bytes digits.now)) }
     {
         let OpenFile {
             name,
             code,
             blocks,
-            text: mut bytes,
+            mut content,
         } = self;
-        bytes.resize(BLOCK_BYTES * blocks as usize, 0)?;
-        let pages = pages_of(alloc, blocks, bytes.as_slice())?;
+        push_block(&mut content, digits)?;
+        Ok(OpenFile {
+            name,
+            code,
+            blocks,
+            content,
+        })
+    }
+
+    /// Returns the file as the volume has it: its content, then zeros up to the end of its blocks.
+    pub(crate) fn into_entry(self, alloc: Global) -> Result<FileEntry, NoMemory>
+        ensures { IfOk result (λ entry. entry ≡ file_entry (open_of self)) }
+    {
+        let OpenFile {
+            name,
+            code,
+            blocks,
+            mut content,
+        } = self;
+        content.resize(BLOCK_BYTES * blocks as usize, 0)?;
+        let pages = pages_of(alloc, blocks, content.as_slice())?;
         Ok(FileEntry { name, code, pages })
     }
 }
 
-/// The bytes in so many pages, which they fill.
+/// Adds a block that starts with the bytes of these digits.
+fn push_block(content: &mut Vec<u8>, digits: &[u8]) -> Result<(), NoMemory>
+    requires few { length (hex_bytes digits.now) ≤ BLOCK_BYTES }
+    requires small { length content.old.items ≤ 2 ^ 26 }
+    ensures { OnOk result
+        (content.new.items ≡ content.old.items ++ block_of (hex_bytes digits.now)) }
+{
+    let whole = content.len() + BLOCK_BYTES;
+    push_bytes(content, digits)?;
+    Ok(content.resize(whole, 0)?)
+}
+
+/// Adds the byte of each two digits.
+fn push_bytes(bytes: &mut Vec<u8>, digits: &[u8]) -> Result<(), NoMemory>
+    ensures { OnOk result (bytes.new.items ≡ bytes.old.items ++ hex_bytes digits.now) }
+{
+    let mut rest = digits;
+    while let [high, low, after @ ..] = rest {
+        bytes.push(16 * hex_value(*high) + hex_value(*low))?;
+        rest = after;
+    }
+    Ok(())
+}
+
+/// Returns the number of a hexadecimal digit, or 0 for any other byte.
+fn hex_value(digit: u8) -> u8
+    ensures value { result ≡ hex_value digit }
+    ensures small { result < 16 }
+{
+    match digit {
+        b'0'..=b'9' => digit - b'0',
+        b'a'..=b'f' => digit - b'a' + 10,
+        _ => 0,
+    }
+}
+
+/// Returns the bytes as pages, which they fill.
 fn pages_of(alloc: Global, blocks: u16, bytes: &[u8]) -> Result<Series<Page>, NoMemory>
     requires { length bytes.now ≡ BLOCK_BYTES * blocks }
     ensures { IfOk result (λ pages. pages ≡ pages_of blocks bytes.now) }
@@ -126,15 +235,14 @@ fn pages_of(alloc: Global, blocks: u16, bytes: &[u8]) -> Result<Series<Page>, No
     Ok(Series::from_vec(pages))
 }
 
-/// Whether a file has this name. The walk is short: there are at most 512 files.
-#[tactic(auto, unfolding(crate::specs::Seen::is_filed))]
-pub(crate) fn is_filed(files: &[FileEntry], name: &FileName) -> bool
-    ensures { result ≡ is_filed files.now name.now }
+/// Returns whether a file has this name. There are at most 512 files to look at.
+pub(crate) fn has_file(files: &[FileEntry], name: &FileName) -> bool
+    ensures { result ≡ has_file files.now name.now }
 {
     files.iter().any(|file| file.name.is_same(name))
 }
 
-/// Whether the files have no more blocks than this.
+/// Returns whether the files have at most this many blocks.
 pub(crate) fn fit_in(blocks: usize, files: &[FileEntry]) -> bool
     ensures { result ≡ nat_le (blocks_of files.now) blocks }
 {
@@ -147,7 +255,7 @@ pub(crate) fn fit_in(blocks: usize, files: &[FileEntry]) -> bool
     }
 }
 
-/// Whether the files of an owner have no more blocks than this.
+/// Returns whether the files of an owner have at most this many blocks.
 pub(crate) fn owns_at_most(blocks: usize, owner: Account, files: &[FileEntry]) -> bool
     ensures { result ≡ nat_le (blocks_owned files.now owner) blocks }
 {
@@ -160,7 +268,7 @@ pub(crate) fn owns_at_most(blocks: usize, owner: Account, files: &[FileEntry]) -
     }
 }
 
-/// The blocks of a file, where it is the owner's.
+/// Returns the blocks of a file if it is the owner's, or else 0.
 fn blocks_for(file: &FileEntry, owner: Account) -> usize
     ensures { result ≡ blocks_for file.now owner }
 {

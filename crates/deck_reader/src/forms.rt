@@ -1,17 +1,24 @@
-//! The forms of lines: which words stand in front, and numbers and names where they have to.
+//! The forms of lines: their first words, and fields that are numbers and names.
 
 ghost use Rattle.std.specs.Prelude.{◌≡◌};
 ghost use Rattle.std.specs.List.{list_all};
 ghost use Rattle.std.specs.Char.{is_ascii_digit};
-ghost use Rattle.deck_model.specs.Forms.{Heading, Disk, Account, File, Terminal, is_numeral, is_numeral_or_none, is_name};
-ghost use Rattle.deck_model.specs.Reading.{version_in, disk_in, limits_in, texts_in, account_in, stem_before, extension_behind, file_texts_in, are_file_texts, file_in, terminal_in, groups_in, contents_in, session_in};
+ghost use Rattle.deck_model.specs.Hex.{is_hex_digit, is_hex, hex_bytes};
+ghost use Rattle.deck_model.specs.Forms.{Heading, Disk, Account, File, Terminal, Block};
+ghost use Rattle.deck_model.specs.Forms.{has_block_lines, is_numeral, is_numeral_or_none, is_name};
+ghost use Rattle.deck_model.specs.Forms.{is_file_letter, is_file_word};
+ghost use Rattle.deck_model.specs.Reading.{version_in, disk_in, limits_in, texts_in, account_in};
+ghost use Rattle.deck_model.specs.Reading.{stem_before, extension_behind, file_texts_in};
+ghost use Rattle.deck_model.specs.Reading.{are_file_texts, file_in, terminal_in, groups_in};
+ghost use Rattle.deck_model.specs.Reading.{block_in, contents_in, session_in};
 ghost use Rattle.basic_values.specs.Cuts.{Finds, cut};
-ghost use Rattle.deck_reader.specs.Seen.{texts_seen, option_seen, file_texts_seen, group_seen, contents_seen, session_seen};
+ghost use Rattle.deck_reader.specs.Seen.{texts_seen, option_seen, file_texts_seen, group_seen};
+ghost use Rattle.deck_reader.specs.Seen.{contents_seen, session_seen};
 
 use basic_values::{behind, cut};
 use deck_model::Version;
 
-/// The texts of an account's fields; its quota where version 2 tells it.
+/// The texts of an account's fields; a quota if the line has one.
 #[derive(Clone, Copy)]
 pub(crate) struct AccountTexts<'a> {
     pub(crate) project: &'a [u8],
@@ -21,7 +28,7 @@ pub(crate) struct AccountTexts<'a> {
     pub(crate) quota: Option<&'a [u8]>,
 }
 
-/// The texts of a file's fields; its extension where a point stands.
+/// The texts of a file's fields; an extension if the name has a point.
 #[derive(Clone, Copy)]
 pub(crate) struct FileTexts<'a> {
     pub(crate) project: &'a [u8],
@@ -41,16 +48,18 @@ pub(crate) enum GroupForm<'a> {
     End,
 }
 
-/// The form of a line behind a file.
+/// The form of a line after a FILE line.
 #[derive(Clone, Copy)]
 pub(crate) enum ContentsForm<'a> {
     Text(&'a [u8]),
+    /// The hexadecimal digits of a block.
+    Block(&'a [u8]),
     File(FileTexts<'a>),
     Terminal(&'a [u8]),
     End,
 }
 
-/// The form of a line behind a terminal.
+/// The form of a line after a TERMINAL line.
 #[derive(Clone, Copy)]
 pub(crate) enum SessionForm<'a> {
     Keys(&'a [u8]),
@@ -58,7 +67,7 @@ pub(crate) enum SessionForm<'a> {
     End,
 }
 
-/// The version that the first line tells.
+/// Returns the version that the first line gives.
 #[tactic(auto, unfolding(deck_model::specs::Reading::version_in))]
 pub(crate) fn version_of(line: &[u8]) -> Option<Version>
     ensures { Finds (λ version. Heading version) result (version_in line.now) }
@@ -67,12 +76,14 @@ pub(crate) fn version_of(line: &[u8]) -> Option<Version>
         Some(Version::One)
     } else if line == b"RSTS-DECK 2".as_slice() {
         Some(Version::Two)
+    } else if line == b"RSTS-DECK 3".as_slice() {
+        Some(Version::Three)
     } else {
         None
     }
 }
 
-/// The number of blocks of a DISK line.
+/// Returns the number of blocks of a DISK line.
 #[tactic(auto, unfolding(deck_model::specs::Reading::disk_in))]
 pub(crate) fn disk_blocks(line: &[u8]) -> Option<&[u8]>
     ensures { Finds (λ blocks. Disk blocks.now) result (disk_in line.now) }
@@ -85,7 +96,7 @@ pub(crate) fn disk_blocks(line: &[u8]) -> Option<&[u8]>
     }
 }
 
-/// The form that a line has where accounts may stand.
+/// Returns the form of a line among the accounts.
 #[tactic(auto, unfolding(deck_model::specs::Reading::groups_in, deck_model::specs::Reading::end_in))]
 pub(crate) fn group_form(version: Version, line: &[u8]) -> Option<GroupForm<'_>>
     ensures { Finds group_seen result (groups_in version line.now) }
@@ -93,7 +104,7 @@ pub(crate) fn group_form(version: Version, line: &[u8]) -> Option<GroupForm<'_>>
     if let Some(texts) = account_texts(version, line) {
         return Some(GroupForm::Account(texts));
     }
-    if let Some(texts) = file_texts(line) {
+    if let Some(texts) = file_texts(version, line) {
         return Some(GroupForm::File(texts));
     }
     if let Some(name) = terminal_name(line) {
@@ -106,15 +117,18 @@ pub(crate) fn group_form(version: Version, line: &[u8]) -> Option<GroupForm<'_>>
     }
 }
 
-/// The form that a line has where the text of a file may go on.
+/// Returns the form of a line after a FILE line.
 #[tactic(auto, unfolding(deck_model::specs::Reading::contents_in, deck_model::specs::Reading::keys_in, deck_model::specs::Reading::end_in))]
-pub(crate) fn contents_form(line: &[u8]) -> Option<ContentsForm<'_>>
-    ensures { Finds contents_seen result (contents_in line.now) }
+pub(crate) fn contents_form(version: Version, line: &[u8]) -> Option<ContentsForm<'_>>
+    ensures { Finds contents_seen result (contents_in version line.now) }
 {
     if let Some(text) = behind(b">", line) {
         return Some(ContentsForm::Text(text));
     }
-    if let Some(texts) = file_texts(line) {
+    if let Some(digits) = block_digits(version, line) {
+        return Some(ContentsForm::Block(digits));
+    }
+    if let Some(texts) = file_texts(version, line) {
         return Some(ContentsForm::File(texts));
     }
     if let Some(name) = terminal_name(line) {
@@ -127,7 +141,7 @@ pub(crate) fn contents_form(line: &[u8]) -> Option<ContentsForm<'_>>
     }
 }
 
-/// The form that a line has where keys may stand.
+/// Returns the form of a line after a TERMINAL line.
 #[tactic(auto, unfolding(deck_model::specs::Reading::session_in, deck_model::specs::Reading::keys_in, deck_model::specs::Reading::end_in))]
 pub(crate) fn session_form(line: &[u8]) -> Option<SessionForm<'_>>
     ensures { Finds session_seen result (session_in line.now) }
@@ -145,7 +159,7 @@ pub(crate) fn session_form(line: &[u8]) -> Option<SessionForm<'_>>
     }
 }
 
-/// The fields of an ACCOUNT line.
+/// Returns the fields of an ACCOUNT line.
 #[tactic(auto, unfolding(deck_model::specs::Reading::account_in))]
 fn account_texts(version: Version, line: &[u8]) -> Option<AccountTexts<'_>>
     ensures { Finds (λ texts. Account (texts_seen texts)) result (account_in version line.now) }
@@ -176,30 +190,30 @@ fn fields_of(version: Version, line: &[u8]) -> Option<AccountTexts<'_>>
     })
 }
 
-/// The limit of calls, and the quota that version 2 tells behind it.
+/// Returns the limit of calls, and the quota after it in versions 2 and 3.
 fn limits_of(version: Version, text: &[u8]) -> Option<(&[u8], Option<&[u8]>)>
     ensures { Finds (λ limits. (limits.0.now, option_seen limits.1)) result
         (limits_in version text.now) }
 {
     match version {
         Version::One => Some((text, None)),
-        Version::Two => {
+        Version::Two | Version::Three => {
             let (limit, quota) = cut(b' ', text)?;
             Some((limit, Some(quota)))
         }
     }
 }
 
-/// The fields of a FILE line.
+/// Returns the fields of a FILE line.
 #[tactic(auto, unfolding(deck_model::specs::Reading::file_in))]
-fn file_texts(line: &[u8]) -> Option<FileTexts<'_>>
-    ensures { Finds (λ texts. File (file_texts_seen texts)) result (file_in line.now) }
+fn file_texts(version: Version, line: &[u8]) -> Option<FileTexts<'_>>
+    ensures { Finds (λ texts. File (file_texts_seen texts)) result (file_in version line.now) }
 {
     let texts = file_fields(line)?;
     let is_formed = is_numeral(texts.project)
         && is_numeral(texts.programmer)
-        && is_name(texts.stem)
-        && is_name(texts.extension.unwrap_or(&[]))
+        && is_file_word(version, texts.stem)
+        && is_file_word(version, texts.extension.unwrap_or(&[]))
         && is_numeral(texts.code)
         && is_numeral(texts.blocks);
     if is_formed { Some(texts) } else { None }
@@ -225,7 +239,7 @@ fn file_fields(line: &[u8]) -> Option<FileTexts<'_>>
     })
 }
 
-/// The stem of a name, and the extension behind its first point.
+/// Returns the stem of a name, and the extension after its first point.
 fn name_parts(name: &[u8]) -> (&[u8], Option<&[u8]>)
     ensures stem { result.0.now ≡ stem_before name.now (cut 46 name.now) }
     ensures extension { option_seen result.1 ≡ extension_behind (cut 46 name.now) }
@@ -236,7 +250,53 @@ fn name_parts(name: &[u8]) -> (&[u8], Option<&[u8]>)
     }
 }
 
-/// The name in a TERMINAL line.
+/// Returns the digits of a line of a block.
+#[tactic(auto, unfolding(deck_model::specs::Reading::block_in))]
+fn block_digits(version: Version, line: &[u8]) -> Option<&[u8]>
+    ensures { Finds (λ digits. Block (hex_bytes digits.now)) result (block_in version line.now) }
+{
+    let digits = behind(b"=", line)?;
+    if has_block_lines(version) && is_hex(digits) {
+        Some(digits)
+    } else {
+        None
+    }
+}
+
+/// Returns whether a version has lines of blocks.
+fn has_block_lines(version: Version) -> bool
+    ensures { result ≡ has_block_lines version }
+{
+    match version {
+        Version::One | Version::Two => false,
+        Version::Three => true,
+    }
+}
+
+/// Returns whether the text is hexadecimal digits of bytes, two for each.
+#[tactic(auto, using(deck_model::proofs::HexLaws::even_hex, deck_model::proofs::HexLaws::odd_hex))]
+fn is_hex(text: &[u8]) -> bool
+    ensures { result ≡ is_hex text.now }
+{
+    if text.len() % 2 != 0 {
+        return false;
+    }
+    are_hex_digits(text)
+}
+
+fn are_hex_digits(text: &[u8]) -> bool
+    ensures { result ≡ list_all is_hex_digit text.now }
+{
+    text.iter().all(|digit| is_hex_digit(*digit))
+}
+
+fn is_hex_digit(digit: u8) -> bool
+    ensures { result ≡ is_hex_digit digit }
+{
+    digit.is_ascii_digit() || (b'a' <= digit && digit <= b'f')
+}
+
+/// Returns the name in a TERMINAL line.
 #[tactic(auto, unfolding(deck_model::specs::Reading::terminal_in))]
 fn terminal_name(line: &[u8]) -> Option<&[u8]>
     ensures { Finds (λ name. Terminal name.now) result (terminal_in line.now) }
@@ -245,7 +305,7 @@ fn terminal_name(line: &[u8]) -> Option<&[u8]>
     if is_name(name) { Some(name) } else { None }
 }
 
-/// Whether the text is 0, or digits without a leading zero.
+/// Returns whether the text is 0, or digits without a leading zero.
 fn is_numeral(text: &[u8]) -> bool
     ensures { result ≡ is_numeral text.now }
 {
@@ -270,10 +330,27 @@ fn is_digits(text: &[u8]) -> bool
     text.iter().all(|byte| byte.is_ascii_digit())
 }
 
-/// Whether the text is capital letters and digits, or empty.
+/// Returns whether the text is capital letters and digits, or empty.
 fn is_name(text: &[u8]) -> bool
     ensures { result ≡ is_name text.now }
 {
     text.iter()
         .all(|byte| byte.is_ascii_uppercase() || byte.is_ascii_digit())
+}
+
+/// Returns whether the text may be part of a file's name, or is empty.
+fn is_file_word(version: Version, text: &[u8]) -> bool
+    ensures { result ≡ is_file_word version text.now }
+{
+    text.iter().all(|byte| is_file_letter(version, *byte))
+}
+
+/// Returns whether a file's name may have this byte.
+fn is_file_letter(version: Version, byte: u8) -> bool
+    ensures { result ≡ is_file_letter version byte }
+{
+    match version {
+        Version::One | Version::Two => byte.is_ascii_uppercase() || byte.is_ascii_digit(),
+        Version::Three => byte.is_ascii_alphanumeric(),
+    }
 }

@@ -1,50 +1,54 @@
 //! The front of a deck: what its lines said so far, and what the next one adds.
 
-ghost use Rattle.std.specs.Prelude.{◌≡◌, ◌+◌, ◌==◌, ◌&&◌, false, if◌then◌else◌, Some, None, length, nat_le, nat_lt, bytes_eq, IfOk};
+ghost use Rattle.std.specs.Prelude.{◌≡◌, ◌+◌, ◌==◌, ◌&&◌, false, if◌then◌else◌, Some, None, length};
+ghost use Rattle.std.specs.Prelude.{nat_le, nat_lt, bytes_eq, IfOk};
 ghost use Rattle.basic_values.specs.declared.limits.TheConstants.{MOST_FILES};
-ghost use Rattle.monitor_calls.specs.Volumes.{has_account, blocks_owned};
-ghost use Rattle.deck_model.specs.Files.{has_file, blocks_in};
+ghost use Rattle.monitor_calls.specs.Volumes.{has_account, blocks_of, blocks_owned};
+ghost use Rattle.deck_model.specs.Hex.{hex_bytes};
 ghost use Rattle.deck_model.specs.Fronts as model;
 ghost use Rattle.deck_model.specs.Fronts.{quota_from, entry_of};
-ghost use Rattle.deck_model.specs.Refusals.{is_quota, is_in_range, passes_quota, first_cause, account_causes, filing_causes, file_causes, text_causes, terminal_causes, keys_causes};
+ghost use Rattle.deck_model.specs.Refusals.{is_quota, is_in_range, passes_quota, first_cause};
+ghost use Rattle.deck_model.specs.Refusals.{account_causes, filing_causes, file_causes};
+ghost use Rattle.deck_model.specs.Refusals.{content_causes, block_causes, terminal_causes};
+ghost use Rattle.deck_model.specs.Refusals.{keys_causes};
 ghost use Rattle.deck_model.specs.Reading.{behind_line, unless_refused, at_end};
-ghost use Rattle.deck_reader.specs.Filed.{has_line_feed};
-ghost use Rattle.deck_reader.specs.Seen.{Decides, Tells, option_seen, texts_seen, file_texts_seen, deck_of, open_of, terminal_of, front_of, is_over, is_named};
+ghost use Rattle.deck_reader.specs.Seen.{Decides, Tells, option_seen, texts_seen, file_texts_seen};
+ghost use Rattle.deck_reader.specs.Seen.{deck_of, open_of, terminal_of, front_of, is_over};
+ghost use Rattle.deck_reader.specs.Seen.{is_named};
 
 use crate::decks::{Deck, OpenFile, Terminal};
 use crate::failures::ReadError;
-use crate::files::{fit_in, is_filed, is_same, new_file, owns_at_most};
+use crate::files::{fit_in, has_file, is_same, new_file, owns_at_most};
 use crate::forms::{
     AccountTexts, ContentsForm, FileTexts, GroupForm, SessionForm, contents_form, disk_blocks,
     group_form, session_form, version_of,
 };
 use basic_values::limits::{
-    MOST_ACCOUNTS, MOST_BLOCKS, MOST_CALLS, MOST_FILES, MOST_JOBS, MOST_QUOTA,
+    BLOCK_BYTES, MOST_ACCOUNTS, MOST_BLOCKS, MOST_CALLS, MOST_FILES, MOST_JOBS, MOST_QUOTA,
 };
 use basic_values::{KeyLine, LINE_LENGTH, NoMemory, Trouble, number_between};
 use deck_model::{DeckCause, DeckFault, Version};
-use monitor_calls::{Account, AccountEntry, FileEntry, FileName, Short, TerminalName, Volume};
+use monitor_calls::{Account, AccountEntry, FileEntry, Short, TerminalName, Volume};
 use std::alloc::Global;
 
-/// What the lines of a deck said so far. Behind the first line each keeps the version.
+/// What the lines of a deck said so far. After the first line each keeps the version.
 #[derive(Drop)]
 pub(crate) enum Front {
     Nothing,
     Versioned(Version),
     /// The disk and the accounts.
     InAccounts(Version, Deck),
-    /// A deck without terminals, and its last file, whose text may still go on.
+    /// A deck without terminals, and its last file, which may get more content.
     InFile(Version, Deck, OpenFile),
-    /// A deck, and its last terminal, which may still get keys.
+    /// A deck, and its last terminal, which may get more keys.
     InTerminal(Version, Deck, Terminal),
     /// A deck with its END.
     Whole(Version, Deck),
 }
 
 impl Front {
-    /// The front behind one line more.
+    /// Returns the front after one more line.
     pub(crate) fn behind(self, alloc: Global, line: &[u8]) -> Result<Front, ReadError>
-        requires { has_line_feed line.now ≡ false }
         ensures { Decides front_of result (behind_line (front_of self) line.now) }
     {
         match self {
@@ -59,7 +63,7 @@ impl Front {
         }
     }
 
-    /// The deck, where the lines have ended behind it and no line is cut.
+    /// Returns the deck, if it is whole and no line is cut.
     pub(crate) fn at_end(self, number: u32, cut: &[u8]) -> Result<Deck, Trouble<DeckFault>>
         ensures { Tells result (at_end (front_of self) number cut.now) }
     {
@@ -127,13 +131,13 @@ fn behind_file(
     file: OpenFile,
     line: &[u8],
 ) -> Result<Front, ReadError>
-    requires { has_line_feed line.now ≡ false }
     ensures { Decides front_of result
         (behind_line (model.InFile version (deck_of deck) (open_of file)) line.now) }
 {
-    match contents_form(line) {
+    match contents_form(version, line) {
         None => Err(ReadError::Refused(DeckCause::Shape)),
         Some(ContentsForm::Text(text)) => with_text(version, deck, file, text),
+        Some(ContentsForm::Block(digits)) => with_block(version, deck, file, digits),
         Some(ContentsForm::File(texts)) => {
             let before = filed(alloc, deck, file)?;
             with_file(alloc, version, before, &texts)
@@ -174,7 +178,7 @@ fn behind_terminal(
     }
 }
 
-/// Nothing stands behind END.
+/// Rejects a line after END.
 #[tactic(auto, unfolding(deck_model::specs::Reading::behind_line, deck_model::specs::Reading::behind_form, deck_model::specs::Reading::form_at))]
 fn behind_end(version: Version, deck: Deck, line: &[u8]) -> Result<Front, ReadError>
     ensures { Decides front_of result (behind_line (model.Whole version (deck_of deck)) line.now) }
@@ -183,7 +187,7 @@ fn behind_end(version: Version, deck: Deck, line: &[u8]) -> Result<Front, ReadEr
     Err(ReadError::Refused(DeckCause::Shape))
 }
 
-/// One account more.
+/// Adds an account.
 fn with_account(version: Version, deck: Deck, texts: &AccountTexts<'_>) -> Result<Front, ReadError>
     ensures { Decides front_of result (unless_refused
         (model.InAccounts version (model.with_account (deck_of deck)
@@ -205,7 +209,7 @@ fn with_account(version: Version, deck: Deck, texts: &AccountTexts<'_>) -> Resul
     Ok(Front::InAccounts(version, deck))
 }
 
-/// One file more, without its text.
+/// Adds a file, without its content.
 fn with_file(
     alloc: Global,
     version: Version,
@@ -214,15 +218,15 @@ fn with_file(
 ) -> Result<Front, ReadError>
     ensures { Decides front_of result (unless_refused
         (model.InFile version (deck_of deck) (model.new_file (file_texts_seen texts.now)))
-        (first_cause (file_causes (deck_of deck) (file_texts_seen texts.now)))) }
+        (first_cause (file_causes version (deck_of deck) (file_texts_seen texts.now)))) }
 {
-    match new_file(alloc, texts) {
+    match new_file(alloc, version, texts) {
         None => Err(ReadError::Refused(DeckCause::Range)),
         Some(file) => with_new_file(version, deck, file),
     }
 }
 
-/// One file more, whose numbers and name are in their ranges.
+/// Adds a file whose numbers and name are in their ranges.
 fn with_new_file(version: Version, deck: Deck, file: OpenFile) -> Result<Front, ReadError>
     ensures { Decides front_of result (unless_refused
         (model.InFile version (deck_of deck) (open_of file))
@@ -234,11 +238,11 @@ fn with_new_file(version: Version, deck: Deck, file: OpenFile) -> Result<Front, 
     }
 }
 
-/// Why the deck can't have the file, whose numbers and name are in their ranges.
+/// Returns why the deck can't have the file, whose numbers and name are in their ranges.
 fn filing_cause(deck: &Deck, file: &OpenFile) -> Option<DeckCause>
     ensures { result ≡ first_cause (filing_causes (deck_of deck.now) (open_of file.now)) }
 {
-    if has_file(deck, &file.name) {
+    if has_file(deck.volume.files.as_slice(), &file.name) {
         Some(DeckCause::Double)
     } else if !has_account(deck.volume.accounts.as_slice(), file.name.owner) {
         Some(DeckCause::Owner)
@@ -249,23 +253,15 @@ fn filing_cause(deck: &Deck, file: &OpenFile) -> Option<DeckCause>
     }
 }
 
-#[tactic(auto, using(crate::proofs::FileLemmas::filed_is))]
-fn has_file(deck: &Deck, name: &FileName) -> bool
-    ensures { result ≡ has_file (deck_of deck.now).files name.now }
-{
-    is_filed(deck.volume.files.as_slice(), name)
-}
-
 fn has_all_files(deck: &Deck) -> bool
     ensures { result ≡ nat_le MOST_FILES (length (deck_of deck.now).files) }
 {
     deck.volume.files.len() >= MOST_FILES
 }
 
-/// Whether the disk has not so many blocks beside those of the files.
-#[tactic(auto, using(crate::proofs::FileLemmas::blocks_are))]
+/// Returns whether the disk has too few blocks for this many more.
 fn lacks_blocks(deck: &Deck, blocks: u16) -> bool
-    ensures { result ≡ nat_lt deck.now.volume.blocks (blocks_in (deck_of deck.now).files + blocks) }
+    ensures { result ≡ nat_lt deck.now.volume.blocks (blocks_of (deck_of deck.now).files + blocks) }
 {
     let disk = deck.volume.blocks as usize;
     let wanted = blocks as usize;
@@ -275,9 +271,9 @@ fn lacks_blocks(deck: &Deck, blocks: u16) -> bool
     !fit_in(disk - wanted, deck.volume.files.as_slice())
 }
 
-/// Whether the blocks of its owner's files pass the owner's quota with this file. One account is
-/// the owner, so the files are gone through once.
-#[tactic(auto, using(crate::proofs::FileLemmas::over_is))]
+/// Returns whether with this file the files of its owner have more blocks than the owner's quota.
+/// Only one account is the owner, so this looks at all files only once.
+#[tactic(auto, unfolding(crate::specs::Seen::is_over))]
 fn passes_quota(deck: &Deck, file: &OpenFile) -> bool
     ensures { result ≡ passes_quota (deck_of deck.now).accounts (deck_of deck.now).files
         (open_of file.now) }
@@ -287,7 +283,8 @@ fn passes_quota(deck: &Deck, file: &OpenFile) -> bool
     is_over(accounts, files, file.name.owner, file.blocks)
 }
 
-/// Whether the owner is one of the accounts, and has not the quota for so many blocks more.
+/// Returns whether the owner is one of the accounts, with too small a quota for this many blocks
+/// more.
 #[tactic(auto, unfolding(crate::specs::Seen::is_over))]
 fn is_over(accounts: &[AccountEntry], files: &[FileEntry], owner: Account, blocks: u16) -> bool
     ensures { result ≡ is_over accounts.now files.now owner blocks }
@@ -296,7 +293,7 @@ fn is_over(accounts: &[AccountEntry], files: &[FileEntry], owner: Account, block
         && lacks(entry.quota, files, owner, blocks))
 }
 
-/// Whether a quota has not so many blocks beside those of the owner's files.
+/// Returns whether a quota is too small for the owner's files and this many blocks more.
 fn lacks(quota: u16, files: &[FileEntry], owner: Account, blocks: u16) -> bool
     ensures { result ≡ nat_lt quota (blocks_owned files.now owner + blocks) }
 {
@@ -308,21 +305,42 @@ fn lacks(quota: u16, files: &[FileEntry], owner: Account, blocks: u16) -> bool
     !owns_at_most(most - wanted, owner, files)
 }
 
-/// One line more of the text of the last file.
+/// Adds a line of text to the last file.
 fn with_text(version: Version, deck: Deck, file: OpenFile, text: &[u8]) -> Result<Front, ReadError>
-    requires { has_line_feed text.now ≡ false }
     ensures { Decides front_of result (unless_refused
         (model.InFile version (deck_of deck) (model.with_text (open_of file) text.now))
-        (first_cause (text_causes (open_of file) text.now))) }
+        (first_cause (content_causes (model.with_text (open_of file) text.now)))) }
 {
-    if file.is_full_at(text) {
+    if file.lacks(text.len() + 2) {
         return Err(ReadError::Refused(DeckCause::Space));
     }
     let file = file.with_text(text)?;
     Ok(Front::InFile(version, deck, file))
 }
 
-/// The deck with its last file, whose text is whole.
+/// Adds a block to the last file.
+fn with_block(
+    version: Version,
+    deck: Deck,
+    file: OpenFile,
+    digits: &[u8],
+) -> Result<Front, ReadError>
+    ensures { Decides front_of result (unless_refused
+        (model.InFile version (deck_of deck)
+        (model.with_block (open_of file) (hex_bytes digits.now)))
+        (first_cause (block_causes (open_of file) (hex_bytes digits.now)))) }
+{
+    if digits.len() / 2 > BLOCK_BYTES {
+        return Err(ReadError::Refused(DeckCause::Range));
+    }
+    if file.lacks(BLOCK_BYTES) {
+        return Err(ReadError::Refused(DeckCause::Space));
+    }
+    let file = file.with_block(digits)?;
+    Ok(Front::InFile(version, deck, file))
+}
+
+/// Returns the deck with its last file, whose content is whole.
 fn filed(alloc: Global, deck: Deck, file: OpenFile) -> Result<Deck, NoMemory>
     ensures { IfOk result (λ whole. deck_of whole ≡ model.with_file (deck_of deck) (open_of file)) }
 {
@@ -332,7 +350,7 @@ fn filed(alloc: Global, deck: Deck, file: OpenFile) -> Result<Deck, NoMemory>
     Ok(deck)
 }
 
-/// The deck with its last terminal, whose keys are whole.
+/// Returns the deck with its last terminal, whose keys are whole.
 fn named(deck: Deck, terminal: Terminal) -> Result<Deck, NoMemory>
     ensures { IfOk result (λ whole.
         deck_of whole ≡ model.with_terminal (deck_of deck) (terminal_of terminal)) }
@@ -342,7 +360,7 @@ fn named(deck: Deck, terminal: Terminal) -> Result<Deck, NoMemory>
     Ok(deck)
 }
 
-/// One terminal more.
+/// Adds a terminal.
 #[tactic(auto, using(crate::proofs::NameLemmas::named_is))]
 fn with_terminal(
     alloc: Global,
@@ -372,7 +390,7 @@ fn with_terminal(
     ))
 }
 
-/// The keys of one line more.
+/// Adds a key line to the last terminal.
 fn with_keys(
     alloc: Global,
     version: Version,
@@ -392,8 +410,8 @@ fn with_keys(
     Ok(Front::InTerminal(version, deck, terminal))
 }
 
-/// The account of such fields, on a disk of so many blocks, where its numbers and its password are
-/// in their ranges.
+/// Returns the account of these fields, on a disk of that many blocks, if its numbers and its
+/// password are in their ranges.
 fn entry_of(disk: u16, texts: &AccountTexts<'_>) -> Option<AccountEntry>
     ensures { result ≡ (if is_in_range (texts_seen texts.now)
         then Some (entry_of disk (texts_seen texts.now)) else None) }
@@ -414,7 +432,7 @@ fn entry_of(disk: u16, texts: &AccountTexts<'_>) -> Option<AccountEntry>
     })
 }
 
-/// The quota that is told, where it is in its range; all blocks of the disk where none is told.
+/// Returns the quota of the line, if it is in its range, or the whole disk if the line has none.
 fn quota_of(disk: u16, text: Option<&[u8]>) -> Option<u16>
     ensures { result ≡ (if is_quota (option_seen text.entry)
         then Some (quota_from disk (option_seen text.entry)) else None) }

@@ -1,11 +1,11 @@
 //! Decks, read from their bytes.
 //!
-//! `read_deck` carries the promise: bytes that spell a deck are read as that deck, and bytes that
-//! spell none are refused at the first line that no deck can have there, for the first cause that
-//! applies to it (`reading`). A deck is read line by line: `fronts` keeps what was read so far and
-//! takes one line more, `files` has the texts of files and their pages, `forms` finds the form of a
-//! line, `lines` cuts bytes into lines and lines into their parts. It stands on `deck_model`, which
-//! says what decks and refusals are, and on `monitor_calls`, for accounts and volumes.
+//! `read_deck` carries the promise: bytes that spell a deck are read as that deck, and other bytes
+//! are rejected at the first line that no deck can have there, for the first cause that applies to
+//! it (`reading`). A deck is read line by line: `fronts` keeps what the lines said so far and adds
+//! one more, `files` has the files with their content and their pages, `forms` finds the form of a
+//! line, and `lines` cuts bytes into lines. The crate depends on `deck_model`, which defines decks
+//! and rejections, and on `monitor_calls` for accounts and volumes.
 #![tactic(auto)]
 
 mod decks;
@@ -17,4 +17,5 @@ mod lines;
 mod reading;
 
 pub use decks::{Deck, Terminal};
+pub use lines::next_line;
 pub use reading::read_deck;

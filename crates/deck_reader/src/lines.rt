@@ -6,8 +6,9 @@ ghost use Rattle.deck_reader.specs.Seen.{CutsLine};
 
 use basic_values::cut;
 
-/// The first line that ends by LF, without the LF and one CR before it, and the bytes behind it.
-pub(crate) fn next_line(bytes: &[u8]) -> Option<(&[u8], &[u8])>
+/// Returns the first line that ends with LF, without the LF and one CR before it, and the bytes
+/// after it.
+pub fn next_line(bytes: &[u8]) -> Option<(&[u8], &[u8])>
     ensures line { CutsLine (λ x. (x.0.now, x.1.now)) bytes.now result }
     ensures shorter { IfSome result (λ x. length x.1.now < length bytes.now) }
 {

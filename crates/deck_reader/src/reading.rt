@@ -13,8 +13,8 @@ use basic_values::Trouble;
 use deck_model::DeckFault;
 use std::alloc::Global;
 
-/// The deck that the bytes spell. Bytes that spell none are refused: the line, from 1, is the first
-/// that no deck can have behind the lines before it, and the cause the first that applies to it.
+/// Returns the deck that the bytes spell. Other bytes are rejected at the first line, counted from
+/// 1, that no deck can have after the lines before it, for the first cause that applies to it.
 pub fn read_deck(alloc: Global, bytes: &[u8]) -> Result<Deck, Trouble<DeckFault>>
     requires { length bytes.now ≤ 268435456 }
     ensures found { IfOk result (λ deck. Spelled bytes.now (deck_of deck)) }

@@ -61,7 +61,7 @@ static DECKS: [Row; 27] = [
     (b"RSTS-DECK 1\nDISK 8\nEND", 3, DeckCause::Cut),
     (b"RSTS-DECK 1\nDISK 8\nEND\nX", 4, DeckCause::Cut),
     (b"RSTS-DECK 9\n", 1, DeckCause::Version),
-    (b"RSTS-DECK 3\n", 1, DeckCause::Version),
+    (b"RSTS-DECK 4\n", 1, DeckCause::Version),
     (b"RSTS-DECK 2 \n", 1, DeckCause::Version),
     (b"\n", 1, DeckCause::Version),
     (b"RSTS-DECK 1\nDISK 007\n", 2, DeckCause::Shape),
@@ -222,6 +222,61 @@ fn each_cause_of_a_file_stands_at_its_line(rt: HostRuntime) -> Result<(), Fail> 
     expect_causes(rt.alloc(), FRONT, files())
 }
 
+/// A disk of two blocks and an account, in version 3.
+const THIRD_FRONT: &[u8] = b"RSTS-DECK 3\nDISK 2\nACCOUNT 100,5 DEMO 9 2\n";
+
+static BLOCKS: [Row; 14] = [
+    (b"FILE [100,5]a<256> 1\n", 4, DeckCause::Range),
+    (b"FILE [100,5]a<060> 1\n", 4, DeckCause::Shape),
+    (b"FILE [100,5]abcdefg<60> 1\n", 4, DeckCause::Range),
+    (b"FILE [100,5]a.abcdefg<60> 1\n", 4, DeckCause::Range),
+    (b"FILE [100,5]a-b<60> 1\n", 4, DeckCause::Shape),
+    (b"FILE [100,6]a<60> 9\n", 4, DeckCause::Owner),
+    (
+        b"FILE [100,5]a<60> 1\nFILE [100,5]a<7> 1\n",
+        5,
+        DeckCause::Double,
+    ),
+    (b"FILE [100,5]a<60> 1\n=0\n", 5, DeckCause::Shape),
+    (b"FILE [100,5]a<60> 1\n=0A\n", 5, DeckCause::Shape),
+    (b"FILE [100,5]a<60> 1\n=0g\n", 5, DeckCause::Shape),
+    (b"FILE [100,5]a<60> 1\n=0a\n=\n", 6, DeckCause::Space),
+    (b"FILE [100,5]a<60> 1\n=\n>\n", 6, DeckCause::Space),
+    (b"FILE [100,5]a<60> 1\n>10 END\n=ff\n", 6, DeckCause::Space),
+    (b"TERMINAL T1\n=00\n", 5, DeckCause::Shape),
+];
+
+fn blocks() -> &'static [Row] {
+    &BLOCKS
+}
+
+#[test]
+fn each_cause_of_a_line_of_bytes_is_at_its_line(rt: HostRuntime) -> Result<(), Fail> {
+    expect_causes(rt.alloc(), THIRD_FRONT, blocks())
+}
+
+static OLD_BLOCKS: [Row; 2] = [
+    (
+        b"RSTS-DECK 1\nDISK 2\nACCOUNT 100,5 DEMO 9\nFILE [100,5]A<60> 1\n=00\n",
+        5,
+        DeckCause::Shape,
+    ),
+    (
+        b"RSTS-DECK 2\nDISK 2\nACCOUNT 100,5 DEMO 9 2\nFILE [100,5]A<60> 1\n=00\n",
+        5,
+        DeckCause::Shape,
+    ),
+];
+
+fn old_blocks() -> &'static [Row] {
+    &OLD_BLOCKS
+}
+
+#[test]
+fn only_version_three_has_lines_of_bytes(rt: HostRuntime) -> Result<(), Fail> {
+    expect_causes(rt.alloc(), b"", old_blocks())
+}
+
 /// Fails with where bytes are refused, unless it is at that line and for that cause.
 fn expect_refusal(alloc: Global, bytes: &[u8], line: u32, cause: DeckCause) -> Result<(), Fail> {
     match refusal(alloc, bytes) {
@@ -231,10 +286,28 @@ fn expect_refusal(alloc: Global, bytes: &[u8], line: u32, cause: DeckCause) -> R
     }
 }
 
-/// A front, so many letters A behind it, and the end of a deck.
+/// Returns a front, this many letters A after it, and the end of a deck.
 fn deck_of_letters(alloc: Global, front: &[u8], letters: usize) -> Result<Vec<u8>, AllocError> {
     let letters = vec![in alloc; b'A'; letters]?;
     [front, letters.as_slice(), b"\nEND\n"].concat(alloc)
+}
+
+/// Returns a front, `=` with this many bytes of zero after it, and the end of a deck.
+fn deck_of_zeros(alloc: Global, front: &[u8], bytes: usize) -> Result<Vec<u8>, AllocError> {
+    let digits = vec![in alloc; b'0'; bytes.saturating_mul(2)]?;
+    [front, b"=", digits.as_slice(), b"\nEND\n"].concat(alloc)
+}
+
+#[test]
+fn a_line_of_bytes_has_at_most_512(rt: HostRuntime) -> Result<(), Fail> {
+    let front = b"RSTS-DECK 3\nDISK 2\nACCOUNT 100,5 DEMO 9 2\nFILE [100,5]a<60> 2\n";
+    let deck = deck_of_zeros(rt.alloc(), front, 513)?;
+    expect_refusal(rt.alloc(), deck.as_slice(), 5, DeckCause::Range)?;
+    let deck = deck_of_zeros(rt.alloc(), front, 512)?;
+    match refusal(rt.alloc(), deck.as_slice()) {
+        Some(_) => Err(Fail::new("512 bytes are rejected")),
+        None => Ok(()),
+    }
 }
 
 #[test]

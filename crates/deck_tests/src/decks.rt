@@ -171,3 +171,12 @@ FILE [100,5]A<60> 1\nEND\n";
     let want = b"8 blocks\n100,5 9 1 DEMO\n1,2 1 16384 A\n100,5 60 A.\n*";
     expect_told(rt.alloc(), deck, want)
 }
+
+/// In version 3 a name may have small letters and no stem, and a file lines of bytes.
+#[test]
+fn lines_of_bytes_are_read(rt: HostRuntime) -> Result<(), Fail> {
+    let deck = b"RSTS-DECK 3\nDISK 4\nACCOUNT 100,5 DEMO 9 4\n\
+FILE [100,5].Basic7<255> 3\n=4a4b\n=\n>10 END\nEND\n";
+    let want = b"4 blocks\n100,5 9 4 DEMO\n100,5 255 .Basic7\nJK**10 END\r\n*";
+    expect_told(rt.alloc(), deck, want)
+}

@@ -1,6 +1,7 @@
 //! The texts of histories.
 
 use crate::expects::expect_bytes;
+use basic_values::errors::NO_SUCH_FILE;
 use basic_values::{Fault, NoMemory, Series, Text};
 use monitor_calls::{Account, Entry, Page, Reply, Request, Short};
 use report_texts::push_history;
@@ -27,7 +28,12 @@ fn push_login(history: &mut Vec<Entry>, text: &[u8]) -> Result<(), Fail> {
         return Err(Fail::new("no short text"));
     };
     let request = Request::Login { account, password };
-    push_entry(history, 62, request, Reply::Failed(Fault::new(5)))
+    push_entry(
+        history,
+        62,
+        request,
+        Reply::Failed(Fault::new(NO_SUCH_FILE)),
+    )
 }
 
 /// Two refused logins, a Tick and a logout.

@@ -249,7 +249,7 @@ fn each_broken_line_is_refused(rt: HostRuntime) -> Result<(), Fail> {
 }
 
 /// Texts that are no history's.
-static TEXTS: [Row; 28] = [
+static TEXTS: [Row; 30] = [
     (b"", 0),
     (b"HISTORY 0", 0),
     (b"HISTORY 0\n0 TICK = DONE\n", 1),
@@ -283,9 +283,20 @@ static TEXTS: [Row; 28] = [
         b"HISTORY 1000000000000000000000000000000000000000000000000000000000000000\n",
         1,
     ),
+    // 64 digits that begin with zeros, and 65 digits that do not.
+    (
+        b"HISTORY 0000000000000000000000000000000000000000000000000000000000000001\n\
+          0 TICK = DONE\n",
+        0,
+    ),
     (
         b"HISTORY 10000000000000000000000000000000000000000000000000000000000000000\n",
-        0,
+        1,
+    ),
+    (
+        b"HISTORY 10000000000000000000000000000000000000000000000000000000000000000\n\
+          0 TICK = DONE\n",
+        2,
     ),
 ];
 

@@ -1,5 +1,5 @@
-//! Tests of the reader of decks and of what is written, of the words, the drill's deck and the ends, by
-//! their public calls alone.
+//! Tests of the reader of decks and of what is written, of the words, the drill's deck and the
+//! ends, by their public calls alone.
 #![tactic(auto)]
 
 #[cfg(test)]

@@ -3,9 +3,10 @@ use Rattle.std.specs.Prelude.{ℕ, zero, suc, List, [], ◌∷◌, ◌++◌, cod
 use Rattle.std.specs.Fmt.{decimal}
 use Rattle.basic_values.specs.declared.limits.TheConstants.{MOST_CALLS}
 use Rattle.monitor_calls.specs.declared.names.Account.{Account}
+use Rattle.monitor_calls.specs.declared.files.FileEntry.{FileEntry}
 use Rattle.monitor_calls.specs.declared.volumes.AccountEntry.{AccountEntry}
+use Rattle.monitor_calls.specs.Pages.{zeros}
 use Rattle.deck_model.specs.Deck.{Deck, Terminal}
-use Rattle.deck_model.specs.Files.{File}
 
 abbrev pub drill_account : Account
 drill_account = record { project = 100; programmer = 5 }
@@ -14,13 +15,12 @@ drill_account = record { project = 100; programmer = 5 }
 abbrev pub drill_entry : AccountEntry
 drill_entry = record { account = drill_account; password = codes "DEMO"; limit = MOST_CALLS; quota = 8 }
 
--- FILE [100,5]COUNT.DAT<60> 1, without text
-abbrev pub drill_file : File
+-- FILE [100,5]COUNT.DAT<60> 1, without lines of content: its one page is of zeros
+abbrev pub drill_file : FileEntry
 drill_file = record {
   name = record { owner = drill_account; stem = codes "COUNT"; extension = codes "DAT" };
   code = 60;
-  blocks = 1;
-  texts = [];
+  pages = zeros ∷ [];
 }
 
 -- the login, the program, RUNNH and BYE

@@ -1,3 +1,2 @@
 pub mod DrillDeck
-pub mod Kept
 pub mod Tallies

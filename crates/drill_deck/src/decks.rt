@@ -1,14 +1,15 @@
 //! The deck of the drill.
 
-ghost use Rattle.std.specs.Prelude.{◌≡◌, ◌≤◌, ◌++◌, ◌∷◌, [], true, codes, length, map, nat_le, IfOk};
+ghost use Rattle.std.specs.Prelude.{◌≡◌, ◌≤◌, ◌++◌, ◌∷◌, [], true, codes, length, map, nat_le};
+ghost use Rattle.std.specs.Prelude.{IfOk};
 ghost use Rattle.std.specs.List.{list_all};
 ghost use Rattle.std.specs.Fmt.{decimal};
 ghost use Rattle.basic_values.specs.declared.lists.TheConstants.{LINE_LENGTH};
 ghost use Rattle.program_words.specs.declared.words.TheConstants.{MOST_DRILL_JOBS};
 ghost use Rattle.deck_model.specs.Deck.{IsDeck};
-ghost use Rattle.drill_deck.specs.Kept.{count_entry};
 ghost use Rattle.deck_reader.specs.Seen.{deck_of, terminal_of};
-ghost use Rattle.drill_deck.specs.DrillDeck.{drill_deck, drill_entry, drill_terminal, drill_terminals};
+ghost use Rattle.drill_deck.specs.DrillDeck.{drill_deck, drill_entry, drill_file};
+ghost use Rattle.drill_deck.specs.DrillDeck.{drill_terminal, drill_terminals};
 
 use arrayvec::ArrayVec;
 use basic_values::limits::MOST_CALLS;
@@ -20,7 +21,7 @@ use monitor_calls::{
 };
 use std::alloc::Global;
 
-/// The login, the program, and what is typed behind it.
+/// The login, the program, and what is typed after it.
 static KEYS: [&str; 16] = [
     "HELLO 100,5;DEMO",
     "10 ON ERROR GOTO 100",
@@ -40,8 +41,8 @@ static KEYS: [&str; 16] = [
     "BYE",
 ];
 
-/// The drill's deck of so many terminals.
-#[tactic(auto, using(crate::proofs::DeckLemmas::is_deck, crate::proofs::DeckLemmas::told, crate::proofs::DeckLemmas::kept))]
+/// Returns the drill's deck with this number of terminals.
+#[tactic(auto, using(crate::proofs::DeckLemmas::is_deck))]
 pub fn drill_deck(alloc: Global, jobs: u32) -> Result<Deck, NoMemory>
     requires { jobs ≤ MOST_DRILL_JOBS }
     ensures deck { IfOk result (λ deck. deck_of deck ≡ drill_deck jobs) }
@@ -79,7 +80,7 @@ fn entry() -> AccountEntry
 
 /// The file in whose block they count: one page of zeros.
 fn count_file(alloc: Global) -> Result<FileEntry, NoMemory>
-    ensures { IfOk result (λ file. file ≡ count_entry) }
+    ensures { IfOk result (λ file. file ≡ drill_file) }
 {
     let mut pages = Vec::new(alloc);
     pages.push(Page::new(alloc)?)?;

@@ -1,4 +1,4 @@
--- Traps that are worked out.
+-- Traps, computed.
 use Rattle.std.proofs.Common.{◌≡◌, true, false, refl}
 use Rattle.std.specs.Prelude.{Some, None, Ok, Err}
 use Rattle.basic_values.specs.declared.failures.Halt.TheVariants.{NoError}
@@ -28,7 +28,7 @@ in_the_handler = refl
 back : (resumed handling).1 ≡ Ok 7
 back = refl
 
--- the error can still be told, and the next one is trapped again
+-- ERR and ERL are still known, and the next error is trapped again
 told_afterwards : resumed_once ≡ record { handler = Some 100; active = false; number = 61; line = 20; place = 7 }
 told_afterwards = refl
 

@@ -1,10 +1,10 @@
--- What a user relies on, over the definitions alone.
+-- The laws of the trap, about definitions alone.
 use Rattle.std.specs.Prelude.{◌≡◌, ℕ, true, false, Some, Ok}
 use Rattle.error_trap.specs.declared.trap.Trap.{Trap}
 use Rattle.error_trap.specs.declared.trap.Raised.TheVariants.{Report}
 use Rattle.error_trap.specs.Trapping.{raised, resumed}
 
--- RESUME behind an error that was trapped gives its place; the handler is as before, and the error is kept
+-- RESUME after a trapped error gives its place; the handler is as before, and the error is kept
 abbrev pub ResumeLeadsBack : Type 0
 ResumeLeadsBack = (trap : Trap) (handler fault line place : ℕ) → trap.handler ≡ Some handler → trap.active ≡ false
     → resumed ((raised fault line place trap).0) ≡ (record { handler = Some handler; active = false; number = fault; line = line; place = place }, Ok place)

@@ -8,13 +8,13 @@ use basic_values::{Fault, Halt};
 /// A job's trap. Lines are those of the program, and a place is one of its code at main level.
 #[derive(Clone, Copy)]
 pub struct Trap {
-    /// The line to which an error goes, where ON ERROR has named one.
+    /// The line to which an error goes, if ON ERROR set one.
     pub handler: Option<u16>,
     /// Whether an error is being handled.
     pub active: bool,
-    /// The number of the last error that was trapped, 0 before the first. The manual's ERR.
+    /// The number of the last trapped error, or 0 before the first: the manual's ERR.
     pub number: u8,
-    /// The line of the statement in which it arose. The manual's ERL.
+    /// The line of the statement in which it occurred: the manual's ERL.
     pub line: u16,
     /// The start of the statement at main level that was running then.
     pub place: u32,
@@ -28,7 +28,7 @@ pub enum Raised {
 }
 
 impl Trap {
-    /// A trap without a handler, before any error.
+    /// Returns a trap without a handler, before any error.
     pub fn new() -> Trap
         ensures { result ≡ untouched }
     {
@@ -41,8 +41,8 @@ impl Trap {
         }
     }
 
-    /// An error has come. Where there is a handler and no error is being handled, the trap keeps
-    /// it.
+    /// Handles an error that occurred. If there is a handler and no error is being handled, the
+    /// trap keeps the error.
     pub fn raise(&mut self, fault: Fault, line: u16, place: u32) -> Raised
         ensures { (self.new, result) ≡ raised fault line place self.old }
     {
@@ -62,7 +62,7 @@ impl Trap {
         Raised::Handle(handler)
     }
 
-    /// The error is dealt with, and the place of its statement is given. The manual's RESUME.
+    /// Ends the handling of the error, and returns the place of its statement: the manual's RESUME.
     pub fn resume(&mut self) -> Result<u32, Halt>
         ensures { (self.new, result) ≡ resumed self.old }
     {
@@ -73,8 +73,8 @@ impl Trap {
         Ok(self.place)
     }
 
-    /// Sets the handler. Where it is taken away while an error is being handled, that error and its
-    /// line are given, to be reported. The manual's ON ERROR.
+    /// Sets the handler: the manual's ON ERROR. If the handler is removed while an error is being
+    /// handled, returns that error and its line, to be reported.
     pub fn on_error(&mut self, handler: Option<u16>) -> Option<(Fault, u16)>
         ensures { (self.new, result) ≡ handled_by handler self.old }
     {

@@ -16,7 +16,7 @@ use Rattle.basic_values.specs.Cuts.{behind}
 use Rattle.basic_values.proofs.CutLaws.{and_left, and_right}
 use Rattle.file_names.specs.Names.{OwnerPlace, Untold, Library, Bracketed, Written, device_text, place_text, extension_written, code_written, written_text, IsPlace, IsExtension, IsCode, IsWritten, solid, squeezed, letters_in, has_device}
 
--- ---- one byte more
+-- ---- one more byte
 
 solid_more : (text : List ℕ) (i : ℕ) → i < length text → solid (take (suc i) text) ≡ solid (take i text) ++ solid (get_or text i 0 ∷ [])
 solid_more text i lt = ap solid (take-suc text i 0 lt) ∙ filter-append (λ byte. not (is_blank byte)) (take i text) (get_or text i 0 ∷ [])
@@ -42,7 +42,7 @@ front_grows most front byte lt =
 pub front_is_full : (most : ℕ) (front : List ℕ) (byte : ℕ) → most ≤ length (take most front) → take most (front ++ byte ∷ []) ≡ take most front
 front_is_full most front byte full = take-append-le most front (byte ∷ []) (omega (arith, length-take most front))
 
--- ---- the device in front
+-- ---- the device at the front
 
 all_front : (p : ℕ → Bool) (xs : List ℕ) → list_all p xs ≡ true → prefix_len p xs ≡ length xs
 all_front p [] all = refl
@@ -80,7 +80,7 @@ no_device_found text all =
     let nothing : slice_get (solid text) (letters_in text) ≡ None = slice_get_past (solid text) (letters_in text) (omega arith) in
     ap (λ o. nat_lt 0 (letters_in text) && eqb (unwrap_or o 0) 58) nothing ∙ and_no (nat_lt 0 (letters_in text))
 
--- ---- what stands in the front of a front
+-- ---- what the front of a front begins with
 
 found_if : (b : Bool) (x : List ℕ) → is_some (cond b (Some x) None) ≡ b
 found_if true x = refl
@@ -138,7 +138,7 @@ written_short w good =
     let c = code_short w.code good.code in
     omega (arith, length-append (device_text w.device ++ place_text w.place ++ w.stem ++ extension_written w.extension) (code_written w.code), length-append (device_text w.device ++ place_text w.place ++ w.stem) (extension_written w.extension), length-append (device_text w.device ++ place_text w.place) w.stem, length-append (device_text w.device) (place_text w.place))
 
--- a front that is shorter than it may be is the whole
+-- a front that is shorter than it can be is the whole text
 pub short_front : (most : ℕ) (text : List ℕ) → length (take most text) < most → take most text ≡ text
 short_front most text lt = take_all most text (omega (arith, length-take most text))
 

@@ -1,4 +1,4 @@
--- What is read of a text was written there.
+-- What is read of a text is written there.
 use Rattle.std.proofs.Common.{◌≡◌, ℕ, ◌≤◌, Bool, true, false, cond, eqb, List, [], ◌∷◌, ◌++◌, length, Option, Some, None, refl, sym, ap, subst, ◌∙◌, arith}
 use Rattle.std.specs.Prelude.{◌&&◌, unwrap_or, nat_le, bytes_eq, codes}
 use Rattle.std.specs.Fmt.{decimal}

@@ -54,7 +54,7 @@ specs_are_read own default text = record {
   refused = refused_if own default text (spec_in own default (squeezed text)) refl;
 }
 
--- ---- what stands as it is when blanks are dropped and letters raised
+-- ---- what stays the same when blanks are dropped and letters become capitals
 
 abbrev IsPlain : ℕ → Type 0
 IsPlain byte = (is_blank byte ≡ false) × (to_ascii_uppercase byte ≡ byte)
@@ -148,7 +148,7 @@ printed_is_read own default name good none =
       means = λ i. record { name = record { owner = name.owner; stem = name.stem; extension = told_or name.extension default none i }; code = None };
     }
 
--- ---- what is read of the front is what the text says
+-- ---- what is read of the front is what the text spells
 
 pub front_spells : (own : Account) (default text : List ℕ) (spec : Spec) → spec_in own default (take 32 (squeezed text)) ≡ Some spec → IsSpecOf own default text spec
 front_spells own default text spec e =
@@ -168,7 +168,7 @@ front_refuses own default text e spec s =
     let bad : Some spec ≡ None = sym (spelled_is_read own default text spec s) ∙ ap (spec_in own default) (sym whole) ∙ e in
     absurd cc
 
--- what is answered of the front is what is read of the text
+-- the answer for the front is the answer for the text
 pub said_by_front : (own : Account) (default text : List ℕ) (spec : Spec) → spec_in own default (take 32 (squeezed text)) ≡ Some spec → Ok spec ≡ spec_said own default text
 said_by_front own default text spec e = sym ((specs_are_read own default text).read spec (front_spells own default text spec e))
 

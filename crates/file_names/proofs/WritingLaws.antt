@@ -1,4 +1,4 @@
--- What was written in a text is read of it.
+-- What is written in a text is read from it.
 use Rattle.std.proofs.Common.{◌≡◌, ℕ, ◌≤◌, Bool, true, false, cond, eqb, List, [], ◌∷◌, ◌++◌, length, take, drop, Option, Some, None, refl, sym, ap, subst, ◌∙◌, arith}
 use Rattle.std.specs.Prelude.{◌&&◌, unwrap_or, nat_le, bytes_eq, codes}
 use Rattle.std.specs.List.{list_all}
@@ -19,7 +19,7 @@ use Rattle.file_names.proofs.ReadingLaws.{brackets, five}
 pub kind_of : (kind : ℕ → Bool) (least most : ℕ) (text : List ℕ) → is_text_of kind least most text ≡ true → list_all kind text ≡ true
 kind_of kind least most text e = and_right (nat_le least (length text) && nat_le (length text) most) (list_all kind text) e
 
--- a byte that is no capital letter or digit is lacking
+-- a byte that is no capital letter or digit does not occur
 stem_lacks : (byte : ℕ) → is_capital_or_digit byte ≡ false → (stem : List ℕ) → is_password stem ≡ true → Lacks byte stem
 stem_lacks byte other stem good = kind_lacks is_capital_or_digit byte other stem (kind_of is_capital_or_digit 1 6 stem good)
 

@@ -1,8 +1,9 @@
--- What a text has to say to name a file, and which file it names: the manual's file specification.
+-- Which texts name a file, and which file each names: the manual's file specification.
 use Rattle.std.specs.Prelude.{◌≡◌, ℕ, ◌≤◌, true, Bool, not, ◌&&◌, ◌==◌, nat_lt, if◌then◌else◌, List, [], ◌++◌, map, filter, slice_get, Option, Some, None, is_some, unwrap_or, codes}
 use Rattle.std.specs.Fmt.{decimal}
 use Rattle.std.specs.List.{prefix_len}
 use Rattle.std.specs.Char.{is_ascii_alphanumeric, to_ascii_uppercase}
+use Rattle.basic_values.specs.declared.errors.TheConstants.{ILLEGAL_FILE_NAME, NO_DEVICE}
 use Rattle.basic_values.specs.Blanks.{is_blank}
 use Rattle.basic_values.specs.declared.limits.TheConstants.{MOST_CODE}
 use Rattle.monitor_calls.specs.declared.names.Account.{Account}
@@ -11,7 +12,7 @@ use Rattle.monitor_calls.specs.NameTexts.{account_text}
 use Rattle.basic_values.specs.Cuts.{behind}
 use Rattle.file_names.specs.declared.spec.Spec.{Spec}
 
--- WHAT IS READ: without any blank, letters raised
+-- WHAT IS READ: no blanks, and letters as capitals
 
 abbrev pub solid : List ℕ → List ℕ
 solid text = filter (λ byte. not (is_blank byte)) text
@@ -19,9 +20,9 @@ solid text = filter (λ byte. not (is_blank byte)) text
 abbrev pub squeezed : List ℕ → List ℕ
 squeezed text = map to_ascii_uppercase (solid text)
 
--- WHAT IS WRITTEN OF A SPECIFICATION
+-- THE PARTS OF A SPECIFICATION
 
--- the owner: not told, told as the library by a dollar sign, or told in brackets
+-- the owner: none is named, the library by a dollar sign, or an account in brackets
 pub data OwnerPlace : Type 0 where
   Untold : OwnerPlace
   Library : OwnerPlace
@@ -81,7 +82,7 @@ pub record IsWritten (w : Written) : Type 0 where
   pub extension : IsExtension w.extension
   pub code : IsCode w.code
 
--- WHAT IT MEANS: who tells no owner means his own account, and who tells no extension the default
+-- WHAT IT MEANS: without an owner it is the caller's account, and without an extension the default
 
 abbrev pub library : Account
 library = record { project = 1; programmer = 2 }
@@ -101,17 +102,16 @@ spec_of own default w = record {
   code = w.code;
 }
 
--- the text says it, whose blanks are dropped and letters raised first
+-- the text spells the specification, after blanks are dropped and letters become capitals
 pub record IsSpecOf (own : Account) (default text : List ℕ) (spec : Spec) : Type 0 where
   pub written : Written
   pub proper : IsWritten written
   pub says : written_text written ≡ squeezed text
   pub means : spec_of own default written ≡ spec
 
--- WHAT REFUSES A TEXT THAT IS NO SPECIFICATION
+-- THE ERROR OF A TEXT THAT IS NO SPECIFICATION
 
--- it begins with the name of a device, letters or digits with a colon behind them, which is not the
--- system's own
+-- it begins with the name of a device, letters or digits and a colon, which is not the system's own
 abbrev pub letters_in : List ℕ → ℕ
 letters_in text = prefix_len is_ascii_alphanumeric (solid text)
 
@@ -124,4 +124,4 @@ names_device text = has_device text && not (is_some (behind (codes "SY:") (squee
 
 -- 8, the manual's "Device not available", or 2, "Illegal file name"
 abbrev pub refusal_of : List ℕ → ℕ
-refusal_of text = if names_device text then 8 else 2
+refusal_of text = if names_device text then NO_DEVICE else ILLEGAL_FILE_NAME

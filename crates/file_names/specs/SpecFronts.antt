@@ -1,5 +1,5 @@
--- Reading a specification from its front: what the calls of `spec` compute. What a text says by it is
--- the specification that it spells (`laws::specs_are_read`).
+-- Reading a specification from its front: what the functions of `spec` compute. The result is the
+-- specification that the text spells (`laws::specs_are_read`).
 use Rattle.std.specs.Prelude.{ℕ, ◌==◌, if◌then◌else◌, List, length, Option, Some, None, unwrap_or, Result, Ok, Err, codes}
 use Rattle.basic_values.specs.declared.limits.TheConstants.{MOST_CODE}
 use Rattle.basic_values.specs.Decimals.{number_between}
@@ -9,11 +9,11 @@ use Rattle.basic_values.specs.Cuts.{◌>>=◌, behind, cut}
 use Rattle.file_names.specs.declared.spec.Spec.{Spec}
 use Rattle.file_names.specs.Names.{library, is_extension, squeezed, refusal_of}
 
--- behind the system's own device, where that is named
+-- after the system's own device, if that is named
 abbrev pub without_device : List ℕ → List ℕ
 without_device text = unwrap_or (behind (codes "SY:") text) text
 
--- the account in brackets of which the first is read, and what stands behind them
+-- the account in brackets, whose first bracket was read, and what follows them
 unfoldable pub bracketed_in : List ℕ → Option (Account × List ℕ)
 bracketed_in text = do
   parts ← cut 93 text
@@ -28,7 +28,7 @@ owner_behind own text (Some rest) bracket = Some (library, rest)
 owner_behind own text None (Some inside) = bracketed_in inside
 owner_behind own text None None = Some (own, text)
 
--- the owner, and what stands behind it
+-- the owner, and what follows it
 abbrev pub owner_in : Account → List ℕ → Option (Account × List ℕ)
 owner_in own text = owner_behind own text (behind (codes "$") text) (behind (codes "[") text)
 
@@ -38,7 +38,7 @@ closed_code text = do
   code ← number_between 0 MOST_CODE parts.0
   if length parts.1 == 0 then Some code else None
 
--- what stands before the code, and the code
+-- what is before the code, and the code
 abbrev pub code_behind : List ℕ → Option (List ℕ × List ℕ) → Option (List ℕ × Option ℕ)
 code_behind text None = Some (text, None)
 code_behind text (Some parts) = do
@@ -79,6 +79,6 @@ abbrev pub spec_or : ℕ → Option Spec → Result Spec ℕ
 spec_or refusal None = Err refusal
 spec_or refusal (Some spec) = Ok spec
 
--- the specification that a text says, or the error that refuses it
+-- the specification that a text is, or the error that rejects it
 abbrev pub spec_said : Account → List ℕ → List ℕ → Result Spec ℕ
 spec_said own default text = spec_or (refusal_of text) (spec_in own default (squeezed text))

@@ -1,9 +1,8 @@
-//! Names of files as they are typed and printed.
+//! Names of files, as they are typed and printed.
 //!
-//! It stands on `basic_values`, for what stands before and behind a byte, and on `monitor_calls`, for
-//! names. `specs/Names` says which texts are a specification and which file each names:
-//! `parse_spec` finds exactly those, and refuses the others by 8 or 2. `print` writes a name, and
-//! `laws::printed_is_read` has it that what it writes is read as the same name again.
+//! `specs/Names` says which texts are a file specification, and which file each names. `parse_spec`
+//! finds exactly these, and rejects all others with error 8 or 2. `print` writes a name, and
+//! `laws::printed_is_read` says that what it writes is read as the same name.
 #![tactic(auto)]
 
 pub mod laws;

@@ -1,4 +1,4 @@
-//! What is printed of a name.
+//! What is printed for a name.
 
 ghost use Rattle.std.specs.Prelude.{◌≡◌};
 ghost use Rattle.monitor_calls.specs.NameTexts.{name_text};
@@ -7,8 +7,8 @@ use arrayvec::ArrayVec;
 use itoa::Buffer;
 use monitor_calls::FileName;
 
-/// At most 22 bytes: the name with its owner in brackets, and its extension behind a point where it
-/// has one.
+/// Returns at most 22 bytes: the owner in brackets, the stem, and a point and the extension if
+/// there is one.
 pub fn print(name: &FileName) -> ArrayVec<u8, 22>
     ensures { result.items ≡ name_text name.now }
 {

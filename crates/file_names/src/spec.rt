@@ -2,16 +2,19 @@
 
 ghost use Rattle.std.specs.Prelude.{◌≡◌, if◌then◌else◌, Some, None, take, IfOk, IfErr};
 ghost use Rattle.basic_values.specs.Cuts.{Finds};
-ghost use Rattle.file_names.specs.Names.{IsSpecOf, squeezed, is_extension, has_device, names_device, refusal_of};
-ghost use Rattle.file_names.specs.SpecFronts.{without_device, bracketed_in, owner_in, closed_code, code_in, stem_in, extension_in, spec_in, spec_said};
+ghost use Rattle.file_names.specs.Names.{IsSpecOf, squeezed, is_extension, has_device};
+ghost use Rattle.file_names.specs.Names.{names_device, refusal_of};
+ghost use Rattle.file_names.specs.SpecFronts.{without_device, bracketed_in, owner_in, closed_code};
+ghost use Rattle.file_names.specs.SpecFronts.{code_in, stem_in, extension_in, spec_in, spec_said};
 ghost use Rattle.file_names.specs.declared.spec.Spec.{Spec as TheSpec};
 
 use arrayvec::ArrayVec;
+use basic_values::errors::{ILLEGAL_FILE_NAME, NO_DEVICE};
 use basic_values::limits::MOST_CODE;
 use basic_values::{Fault, behind, cut, is_blank, number_between};
 use monitor_calls::{Account, FileName, Short};
 
-/// What names a file: its name, and the protection code that is told with it.
+/// What a specification names: a file, and a protection code if it has one.
 #[derive(Clone, Copy)]
 pub struct Spec {
     pub name: FileName,
@@ -27,11 +30,11 @@ const LIBRARY: Account = Account {
 /// More bytes than a specification can have.
 const FRONT: usize = 32;
 
-/// The specification that the text is, the manual's file specification: `SY:`, an owner in brackets
-/// or `$`, a stem of 1 to 6 letters and digits, an extension of 0 to 3 behind a point, and a
-/// protection code from 0 to 63 in angle brackets, of which all but the stem may be left out.
-/// Blanks are dropped, and letters raised. A text that names another device is error 8, any other
-/// that is no specification error 2.
+/// Reads the text as the manual's file specification. Everything but the stem is optional: `SY:`,
+/// an owner in brackets or `$`, a stem of 1 to 6 letters and digits, a point and an extension of 0
+/// to 3, and a protection code from 0 to 63 in angle brackets. Blanks are dropped, and letters
+/// become capitals. Error 8: the text names another device. Error 2: any other text that is no
+/// specification.
 pub fn parse_spec(text: &[u8], own: Account, extension: &Short) -> Result<Spec, Fault>
     ensures said { result ≡ spec_said own extension.now text.now }
     ensures read { IfOk result (λ spec. IsSpecOf own extension.now text.now spec) }
@@ -45,7 +48,7 @@ pub fn parse_spec(text: &[u8], own: Account, extension: &Short) -> Result<Spec, 
     }
 }
 
-/// The first bytes of the text, without its blanks and with its letters raised.
+/// Returns the first bytes of the text, without blanks and with letters as capitals.
 fn front_of(text: &[u8]) -> ArrayVec<u8, FRONT>
     ensures { result.items ≡ take FRONT (squeezed text.now) }
 {
@@ -58,19 +61,19 @@ fn front_of(text: &[u8]) -> ArrayVec<u8, FRONT>
     bytes
 }
 
-/// What refuses a text that is no specification.
+/// Returns the error of a text that is no specification.
 fn refusal_of(text: &[u8], front: &[u8]) -> Fault
     requires { front.now ≡ take FRONT (squeezed text.now) }
     ensures { result ≡ refusal_of text.now }
 {
     if names_device(text, front) {
-        Fault::new(8)
+        Fault::new(NO_DEVICE)
     } else {
-        Fault::new(2)
+        Fault::new(ILLEGAL_FILE_NAME)
     }
 }
 
-/// Whether it begins with the name of a device that is not the system's own.
+/// Returns whether it begins with the name of another device.
 fn names_device(text: &[u8], front: &[u8]) -> bool
     requires { front.now ≡ take FRONT (squeezed text.now) }
     ensures { result ≡ names_device text.now }
@@ -78,7 +81,7 @@ fn names_device(text: &[u8], front: &[u8]) -> bool
     has_device(text) && behind(b"SY:", front).is_none()
 }
 
-/// Whether letters or digits with a colon behind them stand in front.
+/// Returns whether the text begins with letters or digits and a colon.
 fn has_device(text: &[u8]) -> bool
     ensures { result ≡ has_device text.now }
 {
@@ -93,7 +96,7 @@ fn has_device(text: &[u8]) -> bool
     false
 }
 
-/// The specification that such a front is.
+/// Returns the specification that such a front is, if it is one.
 #[tactic(auto, unfolding(crate::specs::SpecFronts::spec_in))]
 fn spec_in(own: Account, extension: &Short, text: &[u8]) -> Option<Spec>
     ensures { result ≡ spec_in own extension.now text.now }
@@ -111,14 +114,14 @@ fn spec_in(own: Account, extension: &Short, text: &[u8]) -> Option<Spec>
     Some(Spec { name, code })
 }
 
-/// What stands behind the system's own device, where that is named.
+/// Returns the text after the system's own device, if that is named.
 fn without_device(text: &[u8]) -> &[u8]
     ensures { result.now ≡ without_device text.now }
 {
     behind(b"SY:", text).unwrap_or(text)
 }
 
-/// The owner, and what stands behind it.
+/// Returns the owner, and what follows it.
 fn owner_in(own: Account, text: &[u8]) -> Option<(Account, &[u8])>
     ensures { Finds (λ x. (x.0, x.1.now)) result (owner_in own text.now) }
 {
@@ -131,7 +134,7 @@ fn owner_in(own: Account, text: &[u8]) -> Option<(Account, &[u8])>
     }
 }
 
-/// The account in brackets of which the first is read, and what stands behind them.
+/// Returns the account in brackets, whose first bracket was read, and what follows them.
 #[tactic(auto, unfolding(crate::specs::SpecFronts::bracketed_in))]
 fn bracketed_in(text: &[u8]) -> Option<(Account, &[u8])>
     ensures { Finds (λ x. (x.0, x.1.now)) result (bracketed_in text.now) }
@@ -145,7 +148,7 @@ fn bracketed_in(text: &[u8]) -> Option<(Account, &[u8])>
     Some((account, rest))
 }
 
-/// What stands before the code, and the code.
+/// Returns what is before the code, and the code, if there is one.
 fn code_in(text: &[u8]) -> Option<(&[u8], Option<u8>)>
     ensures { Finds (λ x. (x.0.now, x.1)) result (code_in text.now) }
 {
@@ -155,7 +158,7 @@ fn code_in(text: &[u8]) -> Option<(&[u8], Option<u8>)>
     }
 }
 
-/// The code in brackets of which the first is read; nothing stands behind them.
+/// Returns the code in brackets, whose first bracket was read, if nothing follows them.
 #[tactic(auto, unfolding(crate::specs::SpecFronts::closed_code))]
 fn closed_code(text: &[u8]) -> Option<u8>
     ensures { result ≡ closed_code text.now }
@@ -165,7 +168,7 @@ fn closed_code(text: &[u8]) -> Option<u8>
     if rest.is_empty() { Some(code) } else { None }
 }
 
-/// The stem, which stands before the point.
+/// Returns the stem, which is before the point.
 fn stem_in(text: &[u8]) -> &[u8]
     ensures { result.now ≡ stem_in text.now }
 {
@@ -175,7 +178,7 @@ fn stem_in(text: &[u8]) -> &[u8]
     }
 }
 
-/// The extension behind the point, or the default where there is no point.
+/// Returns the extension after the point, or the default if there is no point.
 fn extension_in(default: &Short, text: &[u8]) -> Option<Short>
     ensures { Finds (λ x. x) result (extension_in default.now text.now) }
 {
@@ -185,7 +188,7 @@ fn extension_in(default: &Short, text: &[u8]) -> Option<Short>
     }
 }
 
-/// 0 to 3 capital letters and digits.
+/// Returns the text, if it is 0 to 3 capital letters and digits.
 fn short_extension(text: &[u8]) -> Option<Short>
     ensures { Finds (λ x. x) result (if is_extension text.now then Some text.now else None) }
 {

@@ -4,6 +4,10 @@
 #[cfg(test)]
 mod expects;
 #[cfg(test)]
+mod jobs;
+#[cfg(test)]
+mod lost_runs;
+#[cfg(test)]
 mod passes;
 #[cfg(test)]
 mod runs;

@@ -7,41 +7,42 @@ use crate::volumes::{login, opened};
 use basic_values::NoMemory;
 use monitor_calls::{Entry, Reply, Request, RunRecord};
 use monitor_gate::{Gate, JobSeat};
+use report_texts::push_request;
 use std::alloc::Global;
 use std::sync::Wait;
 use std::test::Fail;
 
-/// What an entry asks, by its name.
-fn asked(entry: &Entry) -> &'static str {
-    match entry.request {
-        Request::Login { .. } => "Login",
-        Request::Logout => "Logout",
-        Request::Tick => "Tick",
-        _ => "another",
+/// What entries are asked in turn: the job, and what it asks, as it stands in a history.
+static WANTED: [(u32, &str); 3] = [(1, "TICK"), (0, "LOGIN 100,5 44454d4f"), (0, "LOGOUT")];
+
+/// Whether an entry is of this job and asks this.
+fn asks(
+    alloc: Global,
+    entry: &Entry,
+    wanted: Option<&(u32, &'static str)>,
+) -> Result<bool, NoMemory> {
+    let mut text = Vec::new(alloc);
+    push_request(&mut text, &entry.request)?;
+    match wanted {
+        Some((job, asked)) => Ok(entry.job == *job && text.as_slice() == asked.as_bytes()),
+        None => Ok(false),
     }
 }
 
-/// What entries are asked in turn: the job, and the name of what it asks.
-static WANTED: [(u32, &str); 3] = [(1, "Tick"), (0, "Login"), (0, "Logout")];
-
 /// The place of the first entry that another job asks, or that asks another thing.
-fn first_other(record: &RunRecord) -> Option<usize> {
+fn first_other(alloc: Global, record: &RunRecord) -> Result<Option<usize>, NoMemory> {
     let entries = record.as_slice();
     if entries.len() != WANTED.len() {
-        return Some(WANTED.len());
+        return Ok(Some(WANTED.len()));
     }
     let mut place = 0usize;
     for entry in entries {
-        let is_wanted = match WANTED.get(place) {
-            Some((job, name)) => entry.job == *job && asked(entry) == *name,
-            None => false,
-        };
-        if !is_wanted {
-            return Some(place);
+        if !asks(alloc, entry, WANTED.get(place))? {
+            return Ok(Some(place));
         }
         place = place.saturating_add(1);
     }
-    None
+    Ok(None)
 }
 
 /// Whether the monitor does what the job of a seat asks.
@@ -82,7 +83,7 @@ fn done_in_turn<R: Wait>(
 fn expect_kept(alloc: Global, done: [bool; 3], record: &RunRecord) -> Result<(), Fail> {
     let [early, entered, left] = done;
     expect(!early && entered && left, "another reply")?;
-    expect_none(alloc, first_other(record))
+    expect_none(alloc, first_other(alloc, record)?)
 }
 
 #[test]
@@ -96,6 +97,32 @@ fn seats_ask_one_monitor(rt: HostRuntime) -> Result<(), Fail> {
     let done = done_in_turn(&rt, alloc, &gate, &mut first, &mut second, entering);
     gate.join(&mut spare, second);
     gate.join(&mut spare, first);
-    let record = gate.close(spare);
+    let (record, monitor) = gate.close(spare);
+    expect(monitor.job_count() == 2, "another monitor")?;
     expect_kept(alloc, done?, &record)
+}
+
+#[test]
+fn a_shut_gate_turns_every_seat_away(rt: HostRuntime) -> Result<(), Fail> {
+    let alloc = rt.alloc();
+    let monitor = opened(alloc, 2)?;
+    let (gate, mut spare) = Gate::new(alloc, monitor)?;
+    let mut first = gate.split(&mut spare);
+    let mut second = gate.split(&mut spare);
+    let early = is_done(&rt, alloc, &gate, &mut first, Request::Tick);
+    gate.shut();
+    let is_first_away = gate.ask(&rt, alloc, &mut first, Request::Tick).is_err();
+    let is_second_away = gate.ask(&rt, alloc, &mut second, Request::Tick).is_err();
+    gate.join(&mut spare, first);
+    gate.join(&mut spare, second);
+    let (record, _monitor) = gate.close(spare);
+    expect(early.is_ok(), "the gate was shut too early")?;
+    expect(
+        is_first_away && is_second_away,
+        "a seat was not turned away",
+    )?;
+    expect(
+        record.as_slice().len() == 1,
+        "a call at a shut gate was kept",
+    )
 }

@@ -1,12 +1,15 @@
 //! Jobs that run beside each other.
 
 ghost use Rattle.std.specs.Prelude.{◌≡◌, ◌≤◌, [], ◌∷◌};
-ghost use Rattle.monitor_calls.specs.Pairs.{requests};
+ghost use Rattle.monitor_calls.specs.Pairs.{requests, pairs_of};
 ghost use Rattle.monitor_calls.specs.declared.calls.Request.TheVariants.{Login, Logout};
 
-use crate::volumes::{DEMO, opened, password};
-use basic_values::NoMemory;
-use monitor_calls::{Account, Port, Request, Screen2, Short};
+use crate::expects::expect;
+use crate::jobs::ran;
+use crate::volumes::{BLOCKS, DEMO, opened, password};
+use basic_values::{NoMemory, Trouble};
+use history_replay::{Dispute, after_history};
+use monitor_calls::{Account, Entry, Port, Request, Screen2, Short};
 use monitor_core::Monitor;
 use monitor_gate::JobSeat;
 use std::alloc::Global;
@@ -16,7 +19,7 @@ use std::test::Fail;
 use std::thread;
 use std::thread::Threads;
 use std::time::{Clock, Duration};
-use terminal_runner::{JobBody, Pacer, RunEnd, Telling, Tellings, run_jobs};
+use terminal_runner::{BatchKeyboard, JobBody, Pacer, RunEnd, Telling, Tellings};
 
 /// How many milliseconds a call waits for the first calls of the other jobs.
 const MOST_NAPS: u32 = 20_000;
@@ -29,8 +32,8 @@ struct InAndOut {
 }
 
 impl JobBody for InAndOut {
-    ghost does = { λ body pairs screen.
-        requests pairs ≡ Login body.account body.password ∷ Logout ∷ [] };
+    ghost does = { λ body events screen.
+        requests (pairs_of events) ≡ Login body.account body.password ∷ Logout ∷ [] };
 
     fn run<P: Port>(self, alloc: Global, port: &mut P) -> Result<Screen2, NoMemory> {
         port.ask(
@@ -45,10 +48,9 @@ impl JobBody for InAndOut {
     }
 }
 
-/// A body for each of so many jobs.
-fn bodies_for(alloc: Global, jobs: u32) -> Result<Vec<InAndOut>, Fail> {
+fn bodies(alloc: Global, count: u32) -> Result<Vec<InAndOut>, Fail> {
     let mut bodies = Vec::new(alloc);
-    for _ in 0..jobs {
+    for _ in 0..count {
         bodies.push(InAndOut {
             account: DEMO,
             password: password()?,
@@ -133,7 +135,7 @@ impl<'a, R: Clock> Pacer for Together<'a, R> {
 }
 
 /// How many entries of a run are a job's.
-fn entries_of(end: &RunEnd, job: u32) -> u64 {
+fn entries_of(end: &RunEnd<BatchKeyboard>, job: u32) -> u64 {
     let mut count = 0u64;
     for entry in end.run.as_slice() {
         if entry.job == job {
@@ -156,7 +158,11 @@ fn calls_of<R: Clock>(pacer: &Together<'_, R>, job: u32) -> (u64, u64) {
 
 /// Fails unless each of so many jobs made two calls, at each of which the pacer held it, and no job
 /// waited for the others in vain.
-fn expect_held<R: Clock>(pacer: &Together<'_, R>, end: &RunEnd, jobs: u32) -> Result<(), Fail> {
+fn expect_held<R: Clock>(
+    pacer: &Together<'_, R>,
+    end: &RunEnd<BatchKeyboard>,
+    jobs: u32,
+) -> Result<(), Fail> {
     if pacer.late.load(Ordering::SeqCst) != 0 {
         return Err("a job waited for the others in vain")?;
     }
@@ -171,20 +177,6 @@ fn expect_held<R: Clock>(pacer: &Together<'_, R>, end: &RunEnd, jobs: u32) -> Re
     Ok(())
 }
 
-/// All jobs of a monitor are run.
-fn ran<R: Threads + Wait + Clock + Sync>(
-    rt: &R,
-    alloc: Global,
-    monitor: Monitor,
-    pacer: &Together<'_, R>,
-) -> Result<RunEnd, Fail> {
-    let bodies = bodies_for(alloc, monitor.job_count())?;
-    if bodies.len() != monitor.job_count() as usize {
-        return Err("there is not a body for each job")?;
-    }
-    Ok(run_jobs(rt, alloc, monitor, bodies, pacer)?)
-}
-
 /// Runs so many jobs, of which none makes its second call before each has made its first.
 fn run_together<R: Threads + Wait + Clock + Sync>(
     rt: &R,
@@ -195,8 +187,39 @@ fn run_together<R: Threads + Wait + Clock + Sync>(
 {
     let pacer = Together::new(rt, alloc, jobs)?;
     let monitor = opened(alloc, jobs)?;
-    let end = ran(rt, alloc, monitor, &pacer)?;
-    expect_held(&pacer, &end, jobs)
+    let end = ran(rt, alloc, monitor, bodies(alloc, jobs)?, &pacer)??;
+    expect_held(&pacer, &end, jobs)?;
+    expect_again(alloc, end.run.as_slice(), jobs)?;
+    expect_left(end.monitor, jobs)
+}
+
+/// Fails unless a monitor was left that has this many jobs and the disk that was opened.
+fn expect_left(monitor: Monitor, jobs: u32) -> Result<(), Fail> {
+    expect(monitor.job_count() == jobs, "another number of jobs")?;
+    let volume = monitor.into_volume()?;
+    expect(
+        volume.blocks == BLOCKS && volume.accounts.len() == 1 && volume.files.is_empty(),
+        "another disk",
+    )
+}
+
+/// Fails unless the entries are a history of a monitor with this many jobs, and of one with a job
+/// less up to the first entry of the last job.
+fn expect_again(alloc: Global, history: &[Entry], jobs: u32) -> Result<(), Fail>
+    requires { jobs ≤ 63 }
+{
+    match after_history(alloc, opened(alloc, jobs)?, history) {
+        Ok(monitor) => expect_left(monitor, jobs)?,
+        Err(_) => return Err("the history is disputed")?,
+    }
+    let last = jobs.saturating_sub(1);
+    let first = history.iter().position(|entry| entry.job == last);
+    match (after_history(alloc, opened(alloc, last)?, history), first) {
+        (Err(Trouble::Refused(Dispute::Reply { entry })), Some(place)) => {
+            expect(entry == place, "another entry is disputed")
+        }
+        _ => Err("a job that is none is not disputed")?,
+    }
 }
 
 #[test]

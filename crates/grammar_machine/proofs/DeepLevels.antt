@@ -1,4 +1,5 @@
--- The first of some levels that is too deep: none before it is, and there is one only where not all are within the limit.
+-- The first of some levels that is too deep: there is one only if not all are within the limit, and
+-- none before it is too deep.
 use Rattle.std.proofs.Common.{subst, ◌≡◌, ℕ, suc, ◌<◌, ◌≤◌, Bool, true, false, All, List, [], ◌∷◌, take, get_or, Option, Some, None, refl, sym, ◌∙◌, arith}
 use Rattle.std.specs.Prelude.{nat_lt, position}
 use Rattle.std.proofs.lemmas.Grind.{common_steps}
@@ -17,7 +18,7 @@ later x xs i le h = let e : nat_lt most_levels x ≡ false = grind arith in rw e
 pub never : (x : ℕ) (xs : List ℕ) → x ≤ most_levels → position (λ level. nat_lt most_levels level) xs ≡ None → position (λ level. nat_lt most_levels level) (x ∷ xs) ≡ None
 never x xs le h = let e : nat_lt most_levels x ≡ false = grind arith in rw e (grind (arith, common_steps))
 
--- where none is too deep all are within the limit
+-- if none is too deep, all are within the limit
 pub all_within : (xs : List ℕ) → position (λ level. nat_lt most_levels level) xs ≡ None → All (λ level. level ≤ most_levels) xs
 all_within [] h = All-nil (λ level. level ≤ most_levels)
 all_within (x ∷ xs) h = go (nat_lt most_levels x) refl (λ e. all_within xs e) where
@@ -41,7 +42,7 @@ within_before xs k h =
     let le : get_or xs i 0 ≤ most_levels = grind arith in
     subst (λ (x : ℕ). x ≤ most_levels) (sym (get_or-take k xs i 0 before)) le)
 
--- and not all those up to and with it
+-- those up to the first that is too deep, with it, are not all within the limit
 pub not_within : (xs : List ℕ) (k i : ℕ) → position (λ level. nat_lt most_levels level) xs ≡ Some k → k < i → All (λ level. level ≤ most_levels) (take i xs) → ⊥
 not_within xs k i h lt all =
     let f = position-Some (λ level. nat_lt most_levels level) xs k 0 h in

@@ -1,4 +1,5 @@
--- Where the machine stops behind a place, the words from there are an expression, begin one, or are refused.
+-- If the machine stops after a place, the words from that place on are an expression, begin one, or
+-- are rejected.
 use Rattle.std.proofs.Common.{subst, ◌≡◌, ℕ, ◌+◌, ◌-◌, ◌<◌, ◌≤◌, List, [], ◌∷◌, ◌++◌, length, drop, None, Ok, Err, refl, sym, ap, ◌∙◌, arith}
 use Rattle.std.proofs.lemmas.List.{append-nil}
 use Rattle.basic_tree.specs.declared.kinds.Want.{Want}
@@ -59,9 +60,7 @@ limit_behind w ws from k o le inside h l not_deep =
     let e : drop (k - from) (drop from ws) ≡ drop k ws = drop_between ws from k le in
     limit_there (ExprWhole w) (wanted w) [] (reads_expression w) (drop from ws) (k - from) o (inside_between ws from k inside) h (l ∙ sym e) (λ d. not_deep (d ∙ ap (λ (x : List Word). Err (TooDeep x)) e))
 
--- ---- an expression
-
--- the words that were passed are those of the tree, whatever the levels
+-- the words that were passed are those of the tree, however many levels are left
 pub last_taken : (w : Want) (ws : List Word) (n from k : ℕ) (t : Tree) → from ≤ k → k ≤ length ws → run n (drop from ws) (wanted w) [] ≡ Ok (Term t ∷ [], drop k ws) → between ws from k ≡ words (steps_of t)
 last_taken w ws n from k t le inside h =
     let f = finished (between ws from k) (drop k ws) n (wanted w) [] (Term t ∷ []) (at_cut w ws from k (Ok (Term t ∷ [], drop k ws)) n le h) in
@@ -81,7 +80,7 @@ expression_read w ws from k t le inside h =
       flat = subst (λ (x : Tree). too_deep (steps_of x) ≡ None) same (subst (λ (x : List LevelStep). too_deep x ≡ None) i.1 f.1);
     }
 
--- ---- a word that is refused
+-- ---- a word that is rejected
 
 pub expression_wrong : (w : Want) (ws : List Word) (from k : ℕ) → from ≤ k → k ≤ length ws → run most_levels (drop from ws) (Level loosest w ∷ []) [] ≡ Err (Wrong (drop k ws)) → RefusesExpr w ws from k cause.Syntax
 expression_wrong w ws from k le inside h =
@@ -94,7 +93,7 @@ expression_wrong w ws from k le inside h =
       },
     )
 
--- ---- a word that is too deep
+-- ---- a word that is nested too deep
 
 pub expression_deep : (w : Want) (ws : List Word) (from k : ℕ) → from ≤ k → k < length ws → run most_levels (drop from ws) (Level loosest w ∷ []) [] ≡ Err (TooDeep (drop k ws)) → RefusesExpr w ws from k cause.TooDeep
 expression_deep w ws from k le lt h =

@@ -150,24 +150,12 @@ move_in (AMore l) vs t = more_in l (operator_of t) (is_text (top vs)) vs
 move_in (AMoreRelations b) vs t = related_in (relation_of t) b (is_text (top vs)) vs
 move_in AnExponent vs t = begun_in (signed want.Number vs Exponent t (atom want.Number vs t)) (signed_in want.Number vs Exponent t (atom want.Number vs t) AnExponent (atom_in want.Number vs t))
 move_in (AnExpect s) vs (Punctuation x) = expect_in (is_same_sign s x) vs
-move_in (AnExpect s) vs t = tt
 move_in AnOpening vs (Punctuation sign.Opening) = tt
-move_in AnOpening vs (Punctuation x) = tt
-move_in AnOpening vs t = tt
-move_in AClose vs t = tt
-move_in (ADo a) vs t = tt
 move_in (ASubscripts name) vs (Punctuation sign.Opening) = (ALevel _ _, (ADo _, (ASecondSubscript, (AnExpect _, (AClose, (ADo _, tt))))))
-move_in (ASubscripts name) vs (Punctuation x) = tt
-move_in (ASubscripts name) vs t = tt
 move_in ASecondSubscript vs (Punctuation sign.Comma) = (ALevel _ _, (ADo _, tt))
-move_in ASecondSubscript vs (Punctuation x) = tt
-move_in ASecondSubscript vs t = tt
 move_in (AnArguments name) vs (Punctuation sign.Opening) = (ALevel _ _, (ADo _, (AMoreArguments, (AnExpect _, (AClose, (ADo _, tt))))))
-move_in (AnArguments name) vs (Punctuation x) = tt
-move_in (AnArguments name) vs t = tt
 move_in AMoreArguments vs (Punctuation sign.Comma) = (ALevel _ _, (ADo _, (AMoreArguments, tt)))
-move_in AMoreArguments vs (Punctuation x) = tt
-move_in AMoreArguments vs t = tt
+move_in s vs t = tt
 
 abbrev pub TurnsIn : Turn → Type 0
 TurnsIn (Next m vs k) = AllInExpressions k

@@ -1,49 +1,32 @@
--- What a form's move took, the form reads.
-use Rattle.std.proofs.Common.{subst, ◌≡◌, ℕ, zero, suc, Bool, true, false, cond, List, [], ◌∷◌, ◌++◌, Option, Some, None, inl, inr, refl, sym, ap, ◌∙◌, append_assoc, arith}
-use Rattle.std.proofs.lemmas.Bool.{eqb-true}
+-- What the move of a form took, the form reads.
+use Rattle.std.proofs.Common.{subst, ◌≡◌, ℕ, Bool, true, false, cond, List, [], ◌∷◌, ◌++◌, Option, Some, None, inl, inr, refl, sym, ap, ◌∙◌, append_assoc, arith}
 use Rattle.basic_tree.specs.declared.names.Name.{Name}
 use Rattle.basic_tree.specs.declared.tokens.Keyword.{Keyword}
-use Rattle.basic_tree.specs.declared.tokens.Keyword.TheVariants as keyword
 use Rattle.basic_tree.specs.declared.tokens.Sign.{Sign}
 use Rattle.basic_tree.specs.declared.kinds.Want.{Want}
 use Rattle.basic_tree.specs.declared.kinds.Want.TheVariants as want
 use Rattle.basic_tree.specs.SpellingWords.{Word, Key, Punctuation, Named, FnNamed, Number, Quotation, LevelStep, Plain, words}
 use Rattle.basic_tree.specs.SpellingWords.{Item as ItemOf}
-use Rattle.basic_tree.specs.Trees.{Tree, Literal, Quoted, Variable, Element, FunctionOf, Call, Parenthesized, Negative, Positive, Not, Operation, Comparison}
+use Rattle.basic_tree.specs.Trees.{Tree, Variable, Element, Parenthesized, Negative, Positive, Not, Operation, Comparison}
 use Rattle.basic_tree.specs.SpellingExpressions.{mark, steps_of, is_text, Fits, level_of, IsTree}
-use Rattle.basic_tree.specs.SpellingParts.{is_target, first_word}
+use Rattle.basic_tree.specs.SpellingPieces.{is_target}
+use Rattle.basic_tree.specs.SpellingParts.{first_word}
 use Rattle.basic_tree.specs.declared.expressions.Operator.{Operator}
 use Rattle.basic_tree.specs.declared.expressions.Operator.TheVariants as operator
 use Rattle.basic_tree.specs.GrammarTables.{operator_level, operator_word, relation_sign}
-use Rattle.grammar_machine.specs.GrammarWords.{is_same_sign, keyword_number, is_same_keyword}
+use Rattle.grammar_machine.specs.GrammarWords.{is_same_sign, is_same_keyword}
 use Rattle.grammar_machine.specs.MachineStack.{Value, Values, Limit, within, Form, ExprOf, ExprIf, TargetOf, NameIn, FnNameIn, Symbol, Subscripts, Go, Await, loosest}
 use Rattle.grammar_machine.specs.MachineStarts.{Start, takes, start}
 use Rattle.grammar_machine.specs.MachineMoves.{MachineMove, Shifts, Skips, Refuses, begun, then_also, take_key, take_sign, expression, expression_if, target, name_in, fn_name_in, literal_in, quoted_if, item_in}
 use Rattle.grammar_machine.specs.MachineMoves.{Closes as Ends}
 use Rattle.grammar_machine.proofs.MachineReads.{taken, passes_first, Reads}
 use Rattle.grammar_machine.proofs.MachineSpelled.{Spelled}
-use Rattle.grammar_machine.proofs.MachineBack.{TakesBack, StartBack, start_back, MoveBack, same_sign}
+use Rattle.grammar_machine.proofs.MachineBack.{TakesBack, StartBack, start_back, MoveBack}
+use Rattle.grammar_machine.proofs.FormWords.{keys_equal, signs_equal}
 
--- ---- keywords by number
+-- ---- a word and what follows it
 
-abbrev keyword_from : ℕ → List Keyword → Keyword
-keyword_from n [] = keyword.Abs
-keyword_from zero (k ∷ ks) = k
-keyword_from (suc n) (k ∷ ks) = keyword_from n ks
-
-abbrev all_keywords : List Keyword
-all_keywords = keyword.Abs ∷ keyword.Abs ∷ keyword.And ∷ keyword.As ∷ keyword.Ascii ∷ keyword.Chain ∷ keyword.Chr ∷ keyword.Close ∷ keyword.ClusterSize ∷ keyword.Con ∷ keyword.CvtToNumber ∷ keyword.CvtToText ∷ keyword.Data ∷ keyword.Def ∷ keyword.Dim ∷ keyword.Else ∷ keyword.End ∷ keyword.Eqv ∷ keyword.Erl ∷ keyword.Err ∷ keyword.Error ∷ keyword.Field ∷ keyword.File ∷ keyword.FnEnd ∷ keyword.For ∷ keyword.Get ∷ keyword.Go ∷ keyword.Gosub ∷ keyword.Goto ∷ keyword.Idn ∷ keyword.If ∷ keyword.Imp ∷ keyword.Input ∷ keyword.Instr ∷ keyword.Kill ∷ keyword.Left ∷ keyword.Len ∷ keyword.Let ∷ keyword.Line ∷ keyword.Lset ∷ keyword.Mat ∷ keyword.Mid ∷ keyword.Mode ∷ keyword.Name ∷ keyword.Next ∷ keyword.Not ∷ keyword.Num ∷ keyword.Num1 ∷ keyword.On ∷ keyword.Open ∷ keyword.Or ∷ keyword.Output ∷ keyword.Pos ∷ keyword.Print ∷ keyword.Put ∷ keyword.Read ∷ keyword.Record ∷ keyword.RecordSize ∷ keyword.Recount ∷ keyword.Rem ∷ keyword.Restore ∷ keyword.Resume ∷ keyword.Return ∷ keyword.Right ∷ keyword.Rset ∷ keyword.Sgn ∷ keyword.Sleep ∷ keyword.Space ∷ keyword.Step ∷ keyword.Stop ∷ keyword.StringOf ∷ keyword.Sub ∷ keyword.Swap ∷ keyword.Sys ∷ keyword.Tab ∷ keyword.Then ∷ keyword.To ∷ keyword.Trn ∷ keyword.Unless ∷ keyword.Unlock ∷ keyword.Until ∷ keyword.Using ∷ keyword.Val ∷ keyword.While ∷ keyword.Xlate ∷ keyword.Xor ∷ keyword.Zer ∷ []
-
-numbered_key : (k : Keyword) → keyword_from (keyword_number k) all_keywords ≡ k
-numbered_key keyword.Abs = refl
-numbered_key k = refl
-
-pub same_key : (k l : Keyword) → is_same_keyword k l ≡ true → k ≡ l
-same_key k l h = sym (numbered_key k) ∙ ap (λ n. keyword_from n all_keywords) (eqb-true (keyword_number k) (keyword_number l) h) ∙ numbered_key l
-
--- ---- a word and what is behind it
-
--- where the other form is read, so is this one
+-- if the other form is read, so is this one
 pub through_form : (f h : Form) (vs : Values) (o : Option Word) → ((p : List LevelStep) (v : Value) → Reads h p v → Reads f p v) → (m : MachineMove) → MoveBack (Go h) vs o m → MoveBack (Go f) vs o m
 through_form f h vs None sub (Shifts b vs' ns) back = tt
 through_form f h vs (Some t) sub (Shifts b vs' ns) back = λ k q u s. let x = back k q u s in (x.0, x.1, x.2, x.3, sub x.0 x.1 x.4, x.5)
@@ -53,7 +36,7 @@ through_form f h vs None sub (Ends vs') back = λ k q u s. let x = back k q u s 
 through_form f h vs (Some t) sub (Ends vs') back = λ k q u s. let x = back k q u s in (x.0, x.1, x.2, x.3, sub x.0 x.1 x.4, x.5)
 through_form f h vs o sub Refuses back = tt
 
--- a step, and then what the form behind it reads
+-- a step, and then what the form after it reads
 pub behind_step : (f h : Form) (vs : Values) (opens : Bool) (t : Word) → ((p : List LevelStep) (v : Value) → Reads h p v → Reads f (taken opens t ∷ p) v) → TakesBack opens (Go f) vs vs t (Go h ∷ [])
 behind_step f h vs opens t sub = λ k q u s. (taken opens t ∷ s.0, s.1, s.2, ap (λ x. taken opens t ∷ x) s.3, sub s.0 s.1 s.4, s.5)
 
@@ -65,7 +48,7 @@ pub key_back : (s : Symbol) (opens : Bool) (k : Keyword) (vs : Values) (o : Opti
 key_back s opens k vs None more m h e = e
 key_back s opens k vs (Some (Key l)) more m h e = go (is_same_keyword k l) refl where
   go : (b : Bool) → is_same_keyword k l ≡ b → MoveBack s vs (Some (Key l)) (cond b (Shifts opens vs more) m)
-  go true same = subst (λ x. TakesBack opens s vs vs (Key x) more) (same_key k l same) h
+  go true same = subst (λ x. TakesBack opens s vs vs (Key x) more) (keys_equal k l same) h
   go false same = e
 key_back s opens k vs (Some t) more m h e = e
 
@@ -73,7 +56,7 @@ pub sign_back : (s : Symbol) (opens : Bool) (x : Sign) (vs : Values) (o : Option
 sign_back s opens x vs None more m h e = e
 sign_back s opens x vs (Some (Punctuation y)) more m h e = go (is_same_sign x y) refl where
   go : (b : Bool) → is_same_sign x y ≡ b → MoveBack s vs (Some (Punctuation y)) (cond b (Shifts opens vs more) m)
-  go true same = subst (λ z. TakesBack opens s vs vs (Punctuation z) more) (same_sign x y same) h
+  go true same = subst (λ z. TakesBack opens s vs vs (Punctuation z) more) (signs_equal x y same) h
   go false same = e
 sign_back s opens x vs (Some t) more m h e = e
 
@@ -83,18 +66,13 @@ behind_first : (b : Bool) (w : Word) (p q : List LevelStep) → (taken b w ∷ p
 behind_first b w p q = refl
 
 pub first_step : (t : Tree) → (b : Bool) × (w : Word) × (rest : List LevelStep) × (steps_of t ≡ taken b w ∷ rest)
-first_step (Literal n) = (false, _, _, refl)
-first_step (Quoted text) = (false, _, _, refl)
-first_step (Variable name) = (false, _, _, refl)
-first_step (Element name ts) = (false, _, _, refl)
-first_step (FunctionOf f ts) = (false, _, _, refl)
-first_step (Call name ts) = (false, _, _, refl)
 first_step (Parenthesized a) = (true, _, _, refl)
 first_step (Negative a) = (true, _, _, refl)
 first_step (Positive a) = (true, _, _, refl)
 first_step (Not a) = (true, _, _, refl)
 first_step (Operation a o b) = let h = first_step a in (h.0, h.1, h.2 ++ Plain (operator_word o) ∷ steps_of b, ap (λ x. x ++ Plain (operator_word o) ∷ steps_of b) h.3 ∙ behind_first h.0 h.1 h.2 (Plain (operator_word o) ∷ steps_of b))
 first_step (Comparison a r b) = let h = first_step a in (h.0, h.1, h.2 ++ mark (relation_sign r) ∷ steps_of b, ap (λ x. x ++ mark (relation_sign r) ∷ steps_of b) h.3 ∙ behind_first h.0 h.1 h.2 (mark (relation_sign r) ∷ steps_of b))
+first_step t = (false, _, _, refl)
 
 first_of_taken : (b : Bool) (w : Word) (rest : List LevelStep) → first_word (words (taken b w ∷ rest)) ≡ Some w
 first_of_taken true w rest = refl
@@ -106,7 +84,7 @@ same_taken false false v w p q e = cc
 same_taken true false v w p q e = absurd cc
 same_taken false true v w p q e = absurd cc
 
--- the first word of a tree is the one that its steps begin with
+-- the first word of a tree is the one with which its steps begin
 pub first_of_tree : (t : Tree) (b : Bool) (w : Word) (q r : List LevelStep) → taken b w ∷ q ≡ steps_of t ++ r → first_word (words (steps_of t)) ≡ Some w
 first_of_tree t b w q r e =
     let f = first_step t in
@@ -136,7 +114,7 @@ expr_if_back test w g h vs (Some t) m back = go (test t) refl where
   go true e = expression_back (ExprIf test w g h) w g vs t (λ x p v i f first r. inl (x, p, refl, i, f, ap (λ y. passes_first test y) first ∙ e, r))
   go false e = through_form (ExprIf test w g h) h vs (Some t) (λ p v r. inr r) m back
 
--- ---- names, literals and texts
+-- ---- names, literals and strings
 
 takes_fits : (w : Want) (x : Bool) (t : Tree) → is_text t ≡ x → takes w x ≡ true → Fits w t
 takes_fits want.Number false t e h = e
@@ -153,16 +131,9 @@ operator_is_no_atom o e = omega (arith, e)
 pub led_target : (name : Name) (g : List LevelStep) (t : Tree) → steps_of t ≡ Plain (Named name) ∷ g → level_of t ≡ 0 → is_target t ≡ true
 led_target name g (Variable n) e l = refl
 led_target name g (Element n ts) e l = refl
-led_target name g (Literal n) e l = absurd cc
-led_target name g (Quoted text) e l = absurd cc
-led_target name g (FunctionOf f ts) e l = absurd cc
-led_target name g (Call n ts) e l = absurd cc
-led_target name g (Parenthesized a) e l = absurd cc
-led_target name g (Negative a) e l = absurd cc
-led_target name g (Positive a) e l = absurd cc
-led_target name g (Not a) e l = absurd cc
 led_target name g (Operation a o b) e l = absurd (operator_is_no_atom o l)
 led_target name g (Comparison a r b) e l = absurd (omega (arith, l))
+led_target name g t e l = absurd cc
 
 pub target_back : (w : Want) (g : Tree → Form) (vs : Values) (o : Option Word) → MoveBack (Go (TargetOf w g)) vs o (target w g vs o)
 target_back w g vs (Some (Named name)) = go (takes w name.text) refl where

@@ -1,14 +1,14 @@
--- CHAIN: a number right behind a text, where the text takes none of the number's words.
+-- CHAIN: a number right after a string expression that cannot take the number's first word.
 use Rattle.std.proofs.Common.{subst, ◌≡◌, ◌+◌, ◌&&◌, not, ℕ, Bool, true, false, List, [], ◌∷◌, ◌++◌, Option, Some, None, refl, sym, ap, ◌∙◌, arith}
 use Rattle.basic_tree.specs.declared.tokens.Keyword.TheVariants as keyword
 use Rattle.basic_tree.specs.declared.tokens.Sign.TheVariants as sign
 use Rattle.basic_tree.specs.declared.kinds.Want.TheVariants as want
 use Rattle.basic_tree.specs.SpellingWords.{Word, Key, Punctuation, LevelStep, Plain, Opens, Closes, words}
-use Rattle.basic_tree.specs.Trees.{Tree, Literal, Quoted, Variable, Element, FunctionOf, Call, Parenthesized, Negative, Positive, Not, Operation, Comparison, NoTrees, AndTrees, ChainLineTree, Chain}
+use Rattle.basic_tree.specs.Trees.{Tree, Variable, Call, Negative, Positive, Not, Operation, Comparison, NoTrees, AndTrees, Chain}
 use Rattle.basic_tree.specs.SpellingExpressions.{steps_of}
 use Rattle.basic_tree.specs.SpellingParts.{first_word, last_word, is_name, may_follow}
-use Rattle.grammar_machine.specs.MachinePieces.{WordPiece, Expression, Holds, IsPiece, ArePieces, pieces_steps, number}
-use Rattle.grammar_machine.specs.MachineStatements.{pieces_of}
+use Rattle.basic_tree.specs.SpellingPieces.{WordPiece, Expression, Holds, IsPiece, ArePieces, pieces_steps, number}
+use Rattle.basic_tree.specs.SpellingStatements.{pieces_of}
 use Rattle.grammar_machine.specs.GrammarWords.{operator_of, relation_of}
 use Rattle.grammar_machine.specs.MachineStack.{Value, Go, Await, Form, ExprOf, ExprIf}
 use Rattle.grammar_machine.specs.MachineForms.{begins_value, chains}
@@ -22,7 +22,7 @@ use Rattle.grammar_machine.proofs.FormReads.{Reads, Begins, begins_tree}
 use Rattle.grammar_machine.proofs.FormParts.{read_made, read_holds, read_key, read_if_key, read_not_key, read_expr, ending_value}
 use Rattle.grammar_machine.proofs.FormSimple.{Begun, begun_as}
 
--- ---- the last word of a text
+-- ---- the last word of an expression
 
 last_behind : (a b : List Word) (w : Word) → last_word (a ++ w ∷ b) ≡ last_word (w ∷ b)
 last_behind [] b w = refl
@@ -43,20 +43,11 @@ some_append [] b h = h
 some_append (w ∷ a) b h = tt
 
 some_words : (t : Tree) → IsSome (words (steps_of t))
-some_words (Literal n) = tt
-some_words (Quoted text) = tt
-some_words (Variable name) = tt
-some_words (Element name ts) = tt
-some_words (FunctionOf f ts) = tt
-some_words (Call name ts) = tt
-some_words (Parenthesized a) = tt
-some_words (Negative a) = tt
-some_words (Positive a) = tt
-some_words (Not a) = tt
 some_words (Operation a o b) = subst IsSome (sym (words_append (steps_of a) (Plain _ ∷ steps_of b))) (some_append (words (steps_of a)) (_ ∷ words (steps_of b)) tt)
 some_words (Comparison a o b) = subst IsSome (sym (words_append (steps_of a) (Plain _ ∷ steps_of b))) (some_append (words (steps_of a)) (_ ∷ words (steps_of b)) tt)
+some_words t = tt
 
--- behind a first word
+-- after a first word
 last_second : (w : Word) (b : List Word) → IsSome b → last_word (w ∷ b) ≡ last_word b
 last_second w b h = last_behind_some (w ∷ []) b h
 
@@ -72,7 +63,7 @@ last_prefixed w a = ap (λ x. last_word (w ∷ x)) (words_closed (steps_of a)) �
 last_joined : (w : Word) (a b : Tree) → last_word (words (steps_of a ++ Plain w ∷ steps_of b)) ≡ last_word (words (steps_of b))
 last_joined w a b = ap last_word (words_append (steps_of a) (Plain w ∷ steps_of b)) ∙ last_behind (words (steps_of a)) (words (steps_of b)) w ∙ last_second w (words (steps_of b)) (some_words b)
 
--- a tree whose last name may take a list ends in a name
+-- a tree whose last name could take a list ends in a name
 bare_name : (t : Tree) → ends_bare t ≡ true → is_name (last_word (words (steps_of t))) ≡ true
 bare_name (Variable name) h = refl
 bare_name (Call name NoTrees) h = refl
@@ -88,8 +79,6 @@ bare_name t h = absurd cc
 
 value_no_operator : (l : Option Word) (t : Word) → begins_value t ≡ true → may_follow l (Some t) ≡ true → operator_of t ≡ None
 value_no_operator l (Punctuation sign.Opening) b m = refl
-value_no_operator l (Punctuation sign.Plus) b m = absurd cc
-value_no_operator l (Punctuation sign.Minus) b m = absurd cc
 value_no_operator l (Punctuation s) b m = absurd cc
 value_no_operator l (Key keyword.And) b m = absurd cc
 value_no_operator l (Key keyword.Or) b m = absurd cc
@@ -119,7 +108,7 @@ name_no_opening l t n m = refl
 
 -- ---- CHAIN
 
--- the words of a number begin with one that may follow the text
+-- the words of a number begin with one that may follow the string
 record Behind (t m : Tree) (r : List Word) : Type 0 where
   word : Word
   rest : List Word
@@ -174,13 +163,9 @@ no_chain : (t : Tree) (r : List Word) → First begins_value r → First (chains
 no_chain t [] h = tt
 no_chain t (w ∷ r) h = ap (λ b. b && may_follow (last_word (words (steps_of t))) (Some w)) h
 
-read_no_expr : {e : Bool} {g : Tree → Form} {f : Form} {v : Value} (t : Tree) → Reads e false f [] v → Reads e false (ExprIf (chains t) want.Number g f) [] v
+pub read_no_expr : {e : Bool} {g : Tree → Form} {f : Form} {v : Value} (t : Tree) → Reads e false f [] v → Reads e false (ExprIf (chains t) want.Number g f) [] v
 read_no_expr t a = record { bound = a.bound; by = λ n h r k vs x. expr_if_not n (chains t) want.Number _ _ r k vs (no_chain t r (ending_value _ r x)) ∙ a.by n h r k vs x }
 
-chain_number : (t : Tree) (word : Bool) (m : Tree) → ArePieces (pieces_of (Chain t (Some (record { word = word; number = m })))) → Begun (Chain t (Some (record { word = word; number = m })))
-chain_number t true m a = begun_as (Chain t (Some (record { word = true; number = m }))) (Key keyword.Chain) refl refl (refl, refl) (read_key (read_expr a.1.0 refl (read_if_key (read_holds (read_expr a.1.1.1.1.0 refl read_made)))))
-chain_number t false m a = begun_as (Chain t (Some (record { word = false; number = m }))) (Key keyword.Chain) refl refl (refl, refl) (read_key (read_text a.1.0 a.1.1.1.0 a.1.1.0 (read_not_key refl a.1.1 (read_if_expr t a.1.1.1.0 a.1.1.0 (read_expr a.1.1.1.0 refl read_made)))))
-
-pub begun_chain : (t : Tree) (l : Option ChainLineTree) → ArePieces (pieces_of (Chain t l)) → Begun (Chain t l)
-begun_chain t None a = begun_as (Chain t None) (Key keyword.Chain) refl refl (refl, refl) (read_key (read_expr a.1.0 refl (read_not_key refl tt (read_no_expr t read_made))))
-begun_chain t (Some l) a = chain_number t l.word l.number a
+pub chain_number : (t : Tree) (word : Bool) (m : Tree) → ArePieces (pieces_of (Chain t (Some (record { word = word; number = m })))) → Begun (Chain t (Some (record { word = word; number = m })))
+chain_number t true m a = begun_as (Key keyword.Chain) refl refl (refl, refl) (read_key (read_expr a.1.0 refl (read_if_key (read_holds (read_expr a.1.1.1.1.0 refl read_made)))))
+chain_number t false m a = begun_as (Key keyword.Chain) refl refl (refl, refl) (read_key (read_text a.1.0 a.1.1.1.0 a.1.1.0 (read_not_key refl a.1.1 (read_if_expr t a.1.1.1.0 a.1.1.0 (read_expr a.1.1.1.0 refl read_made)))))

@@ -1,19 +1,18 @@
--- What it is that the words of a form lead the machine to its value.
+-- What it means that the words of a form lead the machine to its value.
 use Rattle.std.proofs.Common.{◌≡◌, ℕ, ◌≤◌, Bool, true, false, List, [], ◌∷◌, ◌++◌}
 use Rattle.basic_tree.specs.declared.tokens.Keyword.{Keyword}
 use Rattle.basic_tree.specs.declared.tokens.Keyword.TheVariants as keyword
 use Rattle.basic_tree.specs.declared.tokens.Sign.TheVariants as sign
 use Rattle.basic_tree.specs.SpellingWords.{Word, Key, Punctuation, LevelStep, words}
 use Rattle.basic_tree.specs.Trees.{StatementTree}
-use Rattle.basic_tree.specs.SpellingStatements.{is_if, is_head}
-use Rattle.grammar_machine.specs.MachinePieces.{pieces_steps, ArePieces}
-use Rattle.grammar_machine.specs.MachineParts.{modifier}
-use Rattle.grammar_machine.specs.MachineStatements.{closings, pieces_of}
+use Rattle.basic_tree.specs.SpellingStatements.{is_if, is_head, closings, pieces_of}
+use Rattle.basic_tree.specs.SpellingPieces.{pieces_steps, ArePieces}
+use Rattle.basic_tree.specs.SpellingParts.{modifier}
 use Rattle.grammar_machine.specs.MachineStack.{Value, Values, Stated, Modifying, Symbol, Go, Form}
 use Rattle.grammar_machine.specs.MachineSentences.{Class, Choice, Head, Simple}
 use Rattle.grammar_machine.specs.MachineRun.{run}
 
--- what may stand behind a statement or a clause: a separator, a modifier, or an ELSE where one may follow
+-- What may follow a statement or a clause: a separator, a modifier, or an ELSE if one is allowed.
 abbrev pub key_ends : Bool → Keyword → Bool
 key_ends e keyword.Else = e
 key_ends e keyword.If = true

@@ -1,4 +1,4 @@
--- Lists with commas between: how their forms read them, and what they are made of.
+-- Lists that are separated by commas: how their forms read them, and what they are made of.
 use Rattle.std.proofs.Common.{subst, ◌≡◌, ◌+◌, ℕ, ◌≤◌, ◌<◌, Bool, true, false, List, [], ◌∷◌, ◌++◌, length, Option, Some, None, refl, sym, ap, append_assoc, arith, length-append}
 use Rattle.std.proofs.lemmas.List.{append-nil}
 use Rattle.basic_tree.specs.declared.names.Name.{Name}
@@ -8,9 +8,8 @@ use Rattle.basic_tree.specs.declared.parts.Shape.{Shape}
 use Rattle.basic_tree.specs.declared.parts.FileShape.{FileShape}
 use Rattle.basic_tree.specs.SpellingWords.{Punctuation}
 use Rattle.basic_tree.specs.Trees.{Tree, CloseChannelTree, FieldPartTree}
-use Rattle.basic_tree.specs.SpellingParts.{optional}
-use Rattle.grammar_machine.specs.MachinePieces.{WordPiece, ArePieces, sign_piece, line, target, after_commas, many}
-use Rattle.grammar_machine.specs.MachineParts.{shape, file_shape, element_size, name, array, close_channel, field_part}
+use Rattle.basic_tree.specs.SpellingPieces.{optional, WordPiece, ArePieces, sign_piece, line, target, after_commas, many}
+use Rattle.basic_tree.specs.SpellingParts.{shape, file_shape, element_size, name, array, close_channel, field_part}
 use Rattle.grammar_machine.specs.MachineStack.{Value, Item, TargetItem, ShapeItem, FileItem, NameItem, LineItem, ChannelItem, FieldItem, Sequence, Targets, Shapes, FileShapes, Parameters, Arrays, Lines, Channels, FieldParts, Form, MoreOf}
 use Rattle.grammar_machine.specs.MachineForms.{item_form, shape_form, size_form, has_room, list_form, targets_in, shapes_in, files_in, names_in, lines_in, channels_in, parts_in}
 use Rattle.grammar_machine.proofs.PieceLists.{pieces_append, pieces_split}
@@ -23,11 +22,11 @@ abbrev pub each_item : {A : Type 0} → (A → Item) → List A → List Item
 each_item item [] = []
 each_item item (a ∷ more) = item a ∷ each_item item more
 
--- the form of an element reads its pieces, where the test holds of what stands behind
+-- the form of an element reads its pieces, if the test holds of what follows
 abbrev pub ReadsOne : {A : Type 0} → Bool → Bool → Value → Sequence → (A → List WordPiece) → (A → Item) → (List WordPiece → Bool) → Type 0
 ReadsOne {A = A} e d v s pieces item fit = (a : A) (h : Item → Form) (ps : List WordPiece) → ArePieces (pieces a) → ArePieces ps → fit ps ≡ true → Reads e d (h (item a)) ps v → Reads e d (item_form s h) (pieces a ++ ps) v
 
--- a list has room for so many elements
+-- a list has room for this many elements
 abbrev pub HasRoom : Sequence → ℕ → Type 0
 HasRoom s limit = (items : List Item) → length items < limit → has_room s items ≡ true
 

@@ -1,31 +1,24 @@
--- PRINT USING and MAT: their words lead the machine from their form.
+-- The values of PRINT USING and of MAT: their words lead the machine from their form to their tree.
 use Rattle.std.proofs.Common.{subst, ◌≡◌, Bool, true, false, List, [], ◌∷◌, ◌++◌, Option, Some, None, refl, sym, append_assoc}
 use Rattle.std.proofs.lemmas.List.{append-nil}
 use Rattle.basic_tree.specs.declared.names.Name.{Name}
-use Rattle.basic_tree.specs.declared.tokens.Keyword.TheVariants as keyword
 use Rattle.basic_tree.specs.declared.tokens.Sign.TheVariants as sign
 use Rattle.basic_tree.specs.declared.parts.Separator.{Separator}
 use Rattle.basic_tree.specs.declared.parts.Separator.TheVariants as separator
 use Rattle.basic_tree.specs.declared.kinds.Want.TheVariants as want
-use Rattle.basic_tree.specs.SpellingWords.{Key}
-use Rattle.basic_tree.specs.Trees.{Tree, UsingItemTree, MatrixTree, Zero, One, Identity, Copy, Sum, Difference, Product, Scaled, Transposed, PrintUsing, MatRead, MatPrint, MatLet}
-use Rattle.basic_tree.specs.SpellingParts.{optional, each, has_value}
-use Rattle.grammar_machine.specs.MachinePieces.{WordPiece, Expression, ArePieces, sign_piece, text}
-use Rattle.grammar_machine.specs.MachineParts.{using_item, using_values, array, matrix}
-use Rattle.grammar_machine.specs.MachineStatements.{pieces_of}
-use Rattle.grammar_machine.specs.MachineStack.{Value, Stated, NameItem, Arrays, ExprOf, MoreUsing}
-use Rattle.grammar_machine.specs.MachineForms.{says, names_in, using_value_form, matrix_form}
+use Rattle.basic_tree.specs.Trees.{Tree, UsingItemTree, MatrixTree, Zero, One, Identity, Copy, Sum, Difference, Product, Scaled, Transposed, PrintUsing, MatLet}
+use Rattle.basic_tree.specs.SpellingPieces.{optional, each, WordPiece, Expression, ArePieces, sign_piece, text}
+use Rattle.basic_tree.specs.SpellingParts.{has_value, using_item, using_values, matrix}
+use Rattle.grammar_machine.specs.MachineStack.{Value, Stated, ExprOf, MoreUsing}
+use Rattle.grammar_machine.specs.MachineForms.{says, using_value_form, matrix_form}
 use Rattle.grammar_machine.specs.MachineSentences.{using_form}
 use Rattle.grammar_machine.proofs.FormReads.{Reads}
-use Rattle.grammar_machine.proofs.FormParts.{read_made, read_holds, read_key, read_sign, read_if_key, read_if_sign, read_not_key, read_not_sign, read_opening, read_if_opening, read_closing, read_expr, read_name, read_used, read_none_used}
+use Rattle.grammar_machine.proofs.FormParts.{read_made, read_sign, read_if_key, read_if_sign, read_not_key, read_not_sign, read_opening, read_if_opening, read_closing, read_expr, read_name, read_used, read_none_used}
 use Rattle.grammar_machine.proofs.PieceLists.{pieces_split}
-use Rattle.grammar_machine.proofs.FormLists.{read_last_list, names_back, one_array}
-use Rattle.grammar_machine.proofs.FormSimple.{Begun, begun_as}
-use Rattle.grammar_machine.proofs.FormStatements.{made_of}
 
 -- ---- PRINT USING
 
--- the first value, and each behind it
+-- the first value, and each one after it
 read_value_with : {e : Bool} {v : Value} (c : Option Tree) (format : Tree) (values : List UsingItemTree) (t : Tree) (s : Separator) (ps : List WordPiece) → ArePieces (using_item (record { value = t; separator = s })) → ArePieces ps → Reads e false (MoreUsing c format (values ++ record { value = t; separator = s } ∷ [])) ps v → Reads e false (ExprOf want.Either (λ x. using_value_form c format values x)) (using_item (record { value = t; separator = s }) ++ ps) v
 read_value_with c format values t separator.Comma ps a q h = read_expr a.0 refl (read_if_sign h)
 read_value_with c format values t separator.Semicolon ps a q h = read_expr a.0 refl (read_not_sign refl (tt, q) (read_if_sign h))
@@ -33,7 +26,7 @@ read_value_with c format values t separator.Semicolon ps a q h = read_expr a.0 r
 read_last_value : {e : Bool} (c : Option Tree) (format : Tree) (values : List UsingItemTree) (t : Tree) → ArePieces (Expression want.Either t ∷ []) → Reads e false (ExprOf want.Either (λ x. using_value_form c format values x)) (Expression want.Either t ∷ []) (Stated (PrintUsing c format values (Some t)))
 read_last_value c format values t a = read_expr a.0 refl (read_not_sign refl tt (read_not_sign refl tt read_made))
 
--- an item at the front of the values
+-- an item before the others
 read_front : {e : Bool} {v : Value} (c : Option Tree) (format : Tree) (values : List UsingItemTree) (i : UsingItemTree) (more : List UsingItemTree) (last : Option Tree) → ArePieces (using_values (i ∷ more) last) → (ArePieces (using_values more last) → Reads e false (MoreUsing c format (values ++ i ∷ [])) (using_values more last) v) → Reads e false (ExprOf want.Either (λ x. using_value_form c format values x)) (using_values (i ∷ more) last) v
 read_front {e = e} {v = v} c format values i more last a h =
     let rest : List WordPiece = optional (λ t. Expression want.Either t ∷ []) last in
@@ -48,26 +41,14 @@ read_values {e = e} c format [] values (Some t) a = subst (λ x. Reads e false (
 read_values {e = e} c format (i ∷ more) values last a =
     read_used a.0 (read_front c format values i more last a (λ b. subst (λ x. Reads e false (MoreUsing c format (values ++ i ∷ [])) (using_values more last) (Stated (PrintUsing c format x last))) (append_assoc values (i ∷ []) more) (read_values c format more (values ++ i ∷ []) last b)))
 
-read_using : {e : Bool} (c : Option Tree) (format : Tree) (list : List UsingItemTree) (last : Option Tree) → has_value list last ≡ true → ArePieces (text format ∷ sign_piece sign.Comma ∷ using_values list last) → Reads e false (using_form c) (text format ∷ sign_piece sign.Comma ∷ using_values list last) (Stated (PrintUsing c format list last))
+pub read_using : {e : Bool} (c : Option Tree) (format : Tree) (list : List UsingItemTree) (last : Option Tree) → has_value list last ≡ true → ArePieces (text format ∷ sign_piece sign.Comma ∷ using_values list last) → Reads e false (using_form c) (text format ∷ sign_piece sign.Comma ∷ using_values list last) (Stated (PrintUsing c format list last))
 read_using c format [] None h a = absurd cc
 read_using c format [] (Some t) h a = read_expr a.0 refl (read_sign (read_last_value c format [] t a.1.1))
 read_using c format (i ∷ more) last h a = read_expr a.0 refl (read_sign (read_front c format [] i more last a.1.1 (λ b. read_values c format more (i ∷ []) last b)))
 
-pub begun_using : (c : Option Tree) (format : Tree) (list : List UsingItemTree) (last : Option Tree) → ArePieces (pieces_of (PrintUsing c format list last)) → Begun (PrintUsing c format list last)
-begun_using None format list last a = begun_as (PrintUsing None format list last) (Key keyword.Print) refl refl (refl, refl) (read_key (read_holds (read_not_sign refl a.1.1 (read_if_key (read_using None format list last a.1.0 a.1.1.1)))))
-begun_using (Some c) format list last a = begun_as (PrintUsing (Some c) format list last) (Key keyword.Print) refl refl (refl, refl) (read_key (read_holds (read_if_sign (read_expr a.1.1.1.0 refl (read_if_sign (read_if_key (read_using (Some c) format list last a.1.0 a.1.1.1.1.1.1)))))))
-
 -- ---- MAT
 
-pub begun_mat_read : (arrays : List Name) → ArePieces (pieces_of (MatRead arrays)) → Begun (MatRead arrays)
-begun_mat_read arrays a = begun_as (MatRead arrays) (Key keyword.Mat) refl refl (refl, refl) (read_key (read_if_key (read_last_list Arrays array NameItem (λ ps. true) one_array (λ ps. refl) (λ x. refl) arrays (λ items. says (MatRead (names_in items))) a.1.1 refl (made_of MatRead _ _ (names_back arrays)))))
-
-pub begun_mat_print : (n : Name) (s : Option Separator) → ArePieces (pieces_of (MatPrint n s)) → Begun (MatPrint n s)
-begun_mat_print n None a = begun_as (MatPrint n None) (Key keyword.Mat) refl refl (refl, refl) (read_key (read_not_key refl a.1 (read_if_key (read_name a.1.1.0 (read_not_sign refl tt (read_not_sign refl tt read_made))))))
-begun_mat_print n (Some separator.Comma) a = begun_as (MatPrint n (Some separator.Comma)) (Key keyword.Mat) refl refl (refl, refl) (read_key (read_not_key refl a.1 (read_if_key (read_name a.1.1.0 (read_if_sign read_made)))))
-begun_mat_print n (Some separator.Semicolon) a = begun_as (MatPrint n (Some separator.Semicolon)) (Key keyword.Mat) refl refl (refl, refl) (read_key (read_not_key refl a.1 (read_if_key (read_name a.1.1.0 (read_not_sign refl (tt, tt) (read_if_sign read_made))))))
-
-read_matrix : {e : Bool} (n : Name) (m : MatrixTree) → ArePieces (matrix m) → Reads e false (matrix_form (λ v. says (MatLet n v))) (matrix m) (Stated (MatLet n m))
+pub read_matrix : {e : Bool} (n : Name) (m : MatrixTree) → ArePieces (matrix m) → Reads e false (matrix_form (λ v. says (MatLet n v))) (matrix m) (Stated (MatLet n m))
 read_matrix n Zero a = read_if_key read_made
 read_matrix n One a = read_not_key refl a (read_if_key read_made)
 read_matrix n Identity a = read_not_key refl a (read_not_key refl a (read_if_key read_made))
@@ -77,6 +58,3 @@ read_matrix n (Copy b) a = read_not_key refl a (read_not_key refl a (read_not_ke
 read_matrix n (Sum b c) a = read_not_key refl a (read_not_key refl a (read_not_key refl a (read_not_key refl a (read_not_sign refl a (read_name a.0 (read_if_sign (read_name a.1.1.0 read_made)))))))
 read_matrix n (Difference b c) a = read_not_key refl a (read_not_key refl a (read_not_key refl a (read_not_key refl a (read_not_sign refl a (read_name a.0 (read_not_sign refl a.1 (read_if_sign (read_name a.1.1.0 read_made))))))))
 read_matrix n (Product b c) a = read_not_key refl a (read_not_key refl a (read_not_key refl a (read_not_key refl a (read_not_sign refl a (read_name a.0 (read_not_sign refl a.1 (read_not_sign refl a.1 (read_if_sign (read_name a.1.1.0 read_made)))))))))
-
-pub begun_mat_let : (n : Name) (m : MatrixTree) → ArePieces (pieces_of (MatLet n m)) → Begun (MatLet n m)
-begun_mat_let n m a = begun_as (MatLet n m) (Key keyword.Mat) refl refl (refl, refl) (read_key (read_not_key refl a.1 (read_not_key refl a.1 (read_name a.1.0 (read_sign (read_matrix n m a.1.1.1))))))

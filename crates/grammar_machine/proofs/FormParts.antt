@@ -1,4 +1,4 @@
--- How each form reads the pieces before it, and what stands behind them.
+-- How each form reads the pieces before it, and what follows them.
 use Rattle.std.proofs.Common.{◌≡◌, ◌+◌, ℕ, zero, suc, ◌≤◌, Bool, true, false, List, [], ◌∷◌, ◌++◌, Option, None, refl, sym, subst, ap, ◌∙◌, arith}
 use Rattle.basic_tree.specs.declared.names.Name.{Name}
 use Rattle.basic_tree.specs.declared.tokens.Keyword.{Keyword}
@@ -12,8 +12,7 @@ use Rattle.basic_tree.specs.SpellingWords.{Item as ItemOf}
 use Rattle.basic_tree.specs.Trees.{Tree, Variable, Element, PrintItemTree, PrintChannelTree, UsingItemTree, PrintUsing, Print}
 use Rattle.basic_tree.specs.Trees.{Value as ValueOf}
 use Rattle.basic_tree.specs.SpellingExpressions.{steps_of}
-use Rattle.basic_tree.specs.SpellingParts.{is_target}
-use Rattle.grammar_machine.specs.MachinePieces.{WordPiece, Fixed, Expression, NameOf, LiteralOf, Holds, pieces_steps, IsPiece, ArePieces, key, sign_piece, closing}
+use Rattle.basic_tree.specs.SpellingPieces.{is_target, WordPiece, Fixed, Expression, NameOf, LiteralOf, Holds, pieces_steps, IsPiece, ArePieces, key, sign_piece, closing}
 use Rattle.grammar_machine.specs.MachineStack.{Value, Values, Term, Stated, Symbol, Go, Await, Item, Sequence, Limit, within, Form, Made, TakeKey, TakeSign, TakeClosing, IfKey, IfSign, ExprOf, TargetOf, NameIn, FnNameIn, LiteralIn, LiteralIf, QuotedIf, ItemIn, MoreItems, MoreOf, MorePrinted, MoreUsing}
 use Rattle.grammar_machine.specs.MachineForms.{begins_value, key_begins, item_form, has_room, printed_form, using_value_form}
 use Rattle.grammar_machine.specs.MachineMoves.{tab_form}
@@ -53,7 +52,7 @@ read_not_key {c = c} {ps = ps} b i a = record { bound = a.bound; by = λ n h r k
 pub read_not_sign : {e d : Bool} {o : Bool} {s : Sign} {f g : Form} {ps : List WordPiece} {v : Value} → absent (Punctuation s) ps ≡ true → ArePieces ps → Reads e d g ps v → Reads e d (IfSign o s f g) ps v
 read_not_sign {s = s} {ps = ps} b i a = record { bound = a.bound; by = λ n h r k vs x. if_sign_not n _ _ _ _ _ k vs (absent_first _ (Punctuation s) ps r b i x) ∙ a.by n h r k vs x }
 
--- a parenthesis opens a level, which ends behind it
+-- a parenthesis opens a level, which ends after it
 opened_by : {e : Bool} {f : Form} {ps : List WordPiece} {v : Value} (a : Reads e true f ps v) (s : Sign) (n : ℕ) → suc a.bound ≤ n → (r : List Word) (k : List Symbol) (vs : Values) → Ending e r → run n (Punctuation s ∷ (words (pieces_steps ps) ++ r)) (Go (TakeSign true s f) ∷ k) vs ≡ run n r k (v ∷ vs)
 opened_by a s zero h r k vs x = absurd (omega (arith, h))
 opened_by a s (suc n) h r k vs x = sign_opened n s _ _ k vs ∙ a.by n (omega (arith, h)) r k vs x
@@ -90,7 +89,7 @@ no_opening (Punctuation sign.Opening ∷ r) h = absurd cc
 no_opening (Punctuation s ∷ r) h = refl
 no_opening (t ∷ r) h = refl
 
--- a target as an expression of the tightest level
+-- a target as an expression of the highest precedence
 target_by : (n : ℕ) (w : Want) (g : Tree → Form) (t : Tree) (r : List Word) (k : List Symbol) (vs : Values) → is_target t ≡ true → IsPiece (Expression w t) → depth_of t ≤ n → Parted t r → run n (words (steps_of t) ++ r) (Go (TargetOf w g) ∷ k) vs ≡ run n r (Await g ∷ k) (Term t ∷ vs)
 target_by n w g (Variable name) r k vs h i d p = target_tightest n w g name r k vs (takes_kind w name.text (Variable name) refl i.1) ∙ (complete (Variable name) n i.0 d).leads.by w r (Await g ∷ k) vs i.1 tt p
 target_by n w g (Element name ts) r k vs h i d p = target_tightest n w g name _ k vs (takes_kind w name.text (Element name ts) refl i.1) ∙ (complete (Element name ts) n i.0 d).leads.by w r (Await g ∷ k) vs i.1 tt p
@@ -120,7 +119,7 @@ read_literal i a = record { bound = a.bound; by = λ n h r k vs x. literal_taken
 pub read_if_literal : {e d : Bool} {l : Limit} {g : ℕ → Form} {f : Form} {c : ℕ} {b : Bool} {ps : List WordPiece} {v : Value} → within l c ≡ true → Reads e d (g c) ps v → Reads e d (LiteralIf l g f) (LiteralOf b c ∷ ps) v
 read_if_literal i a = record { bound = a.bound; by = λ n h r k vs x. literal_if n _ _ _ _ _ k vs i ∙ a.by n h r k vs x }
 
--- no number ends a statement, no item of DATA, and no value
+-- no number can come after a statement, an item of DATA or a value
 ending_number : (e : Bool) (r : List Word) → Ending e r → First is_number r
 ending_number e [] h = tt
 ending_number e (Number c ∷ r) h = absurd cc
@@ -181,7 +180,7 @@ read_no_more {ps = ps} b i a = record { bound = a.bound; by = λ n h r k vs x. n
 pub read_tab : {e d : Bool} {c : Option PrintChannelTree} {items : List PrintItemTree} {ps : List WordPiece} {v : Value} → Reads e d (tab_form c items) ps v → Reads e d (MorePrinted c items) (key keyword.Tab ∷ ps) v
 read_tab a = record { bound = a.bound; by = λ n h r k vs x. tab_printed n _ _ _ k vs ∙ a.by n h r k vs x }
 
--- what begins with a value, PRINT reads as one
+-- what begins with a value is read by PRINT as one
 printed_value : (n : ℕ) (c : Option PrintChannelTree) (items : List PrintItemTree) (ws : List Word) (k : List Symbol) (vs : Values) → Begins ws → run n ws (Go (MorePrinted c items) ∷ k) vs ≡ run n ws (Go (ExprOf want.Either (λ x. printed_form c items (ValueOf x))) ∷ k) vs
 printed_value n c items ws k vs b =
     subst (λ y. run n y (Go (MorePrinted c items) ∷ k) vs ≡ run n y (Go (ExprOf want.Either (λ x. printed_form c items (ValueOf x))) ∷ k) vs) (sym b.spelled)

@@ -1,4 +1,4 @@
--- Pieces that a form reads, and what may stand behind them.
+-- Pieces that a form reads, and what may follow them.
 use Rattle.std.proofs.Common.{subst, ◌≡◌, ℕ, suc, ◌≤◌, not, Bool, true, false, List, [], ◌∷◌, ◌++◌, None, refl, sym, ap}
 use Rattle.basic_tree.specs.declared.tokens.Keyword.{Keyword}
 use Rattle.basic_tree.specs.declared.tokens.Keyword.TheVariants as keyword
@@ -6,10 +6,10 @@ use Rattle.basic_tree.specs.declared.tokens.Sign.{Sign}
 use Rattle.basic_tree.specs.declared.tokens.Sign.TheVariants as sign
 use Rattle.basic_tree.specs.declared.expressions.Function.{Function}
 use Rattle.basic_tree.specs.declared.expressions.Function.TheVariants as function
-use Rattle.basic_tree.specs.SpellingWords.{Word, Key, Punctuation, Named, FnNamed, Number, Quotation, Plain, Opens, Closes, words}
-use Rattle.basic_tree.specs.Trees.{Tree, Literal, Quoted, Variable, Element, FunctionOf, Call, Parenthesized, Negative, Positive, Not, Operation, Comparison}
+use Rattle.basic_tree.specs.SpellingWords.{Word, Key, Punctuation, Number, Plain, Opens, Closes, words}
+use Rattle.basic_tree.specs.Trees.{Tree, Literal, FunctionOf, Operation, Comparison}
 use Rattle.basic_tree.specs.SpellingExpressions.{steps_of, IsTree}
-use Rattle.grammar_machine.specs.MachinePieces.{WordPiece, Fixed, Expression, NameOf, LiteralOf, Holds, pieces_steps, ArePieces}
+use Rattle.basic_tree.specs.SpellingPieces.{WordPiece, Fixed, Expression, NameOf, LiteralOf, Holds, pieces_steps, ArePieces}
 use Rattle.basic_tree.specs.GrammarTables.{function_keyword}
 use Rattle.grammar_machine.specs.GrammarWords.{operator_of, relation_of}
 use Rattle.grammar_machine.specs.MachineStack.{Value, Values, Symbol, Go, Form}
@@ -21,12 +21,13 @@ use Rattle.grammar_machine.proofs.MachineComplete.{small}
 use Rattle.grammar_machine.proofs.FormLeads.{word_ends, Ending, FormLeads}
 use Rattle.grammar_machine.proofs.FormWords.{is_word, is_other_word}
 
--- the levels that are left, and one more where a level ends
+-- the levels that are left, and one more if a level ends
 abbrev pub raised : Bool → ℕ → ℕ
 raised false n = n
 raised true n = suc n
 
--- with enough levels left, the words of these pieces lead from the form to the value; a level ends in them, or none
+-- with enough levels left, the words of these pieces lead from the form to the value; at most one
+-- level ends in them
 pub record Reads (e ends : Bool) (f : Form) (ps : List WordPiece) (v : Value) : Type 0 where
   pub bound : ℕ
   pub by : (n : ℕ) → bound ≤ n → (r : List Word) (k : List Symbol) (vs : Values) → Ending e r → run n (words (pieces_steps ps) ++ r) (Go f ∷ k) vs ≡ run (raised ends n) r k (v ∷ vs)
@@ -49,19 +50,12 @@ function_begins f = refl
 
 pub begins_tree : (t : Tree) (r : List Word) → IsTree t → Begins (words (steps_of t) ++ r)
 begins_tree (Literal n) r i = record { word = Number n; rest = r; spelled = refl; begins = small n i }
-begins_tree (Quoted text) r i = record { word = Quotation text; rest = r; spelled = refl; begins = refl }
-begins_tree (Variable name) r i = record { word = Named name; rest = r; spelled = refl; begins = refl }
-begins_tree (Element name ts) r i = record { word = Named name; rest = _; spelled = refl; begins = refl }
 begins_tree (FunctionOf f ts) r i = record { word = Key (function_keyword f); rest = _; spelled = refl; begins = function_begins f }
-begins_tree (Call name ts) r i = record { word = FnNamed name; rest = _; spelled = refl; begins = refl }
-begins_tree (Parenthesized a) r i = record { word = Punctuation sign.Opening; rest = _; spelled = refl; begins = refl }
-begins_tree (Negative a) r i = record { word = Punctuation sign.Minus; rest = _; spelled = refl; begins = refl }
-begins_tree (Positive a) r i = record { word = Punctuation sign.Plus; rest = _; spelled = refl; begins = refl }
-begins_tree (Not a) r i = record { word = Key keyword.Not; rest = _; spelled = refl; begins = refl }
 begins_tree (Operation a o b) r i = subst Begins (sym (words_parts (steps_of a) (Plain _ ∷ steps_of b) r)) (begins_tree a _ i.0)
 begins_tree (Comparison a o b) r i = subst Begins (sym (words_parts (steps_of a) (Plain _ ∷ steps_of b) r)) (begins_tree a _ i.0)
+begins_tree t r i = record { word = _; rest = _; spelled = refl; begins = refl }
 
--- ---- behind an expression
+-- ---- after an expression
 
 -- no operator, no relation and no opening parenthesis
 abbrev pub no_operator_key : Keyword → Bool
@@ -142,7 +136,7 @@ ending_stops e (Punctuation sign.Colon) h = refl
 ending_stops e (Punctuation s) h = absurd cc
 ending_stops e t h = absurd cc
 
--- what may end a statement without ELSE may end one with ELSE
+-- what may follow a statement without an ELSE may also follow one that allows ELSE
 ending_more : (e : Bool) (t : Word) → word_ends e t ≡ true → word_ends true t ≡ true
 ending_more true t h = h
 ending_more false (Key keyword.Else) h = refl
@@ -157,7 +151,7 @@ ending_stopped e (t ∷ r) h = ending_stops e t h
 
 -- ---- what the next piece begins with
 
--- an expression may stand before these pieces
+-- an expression may come before these pieces
 abbrev pub stopping : List WordPiece → Bool
 stopping [] = true
 stopping (Fixed (Plain w) ∷ ps) = stops w
@@ -203,9 +197,7 @@ absent_first e t (Expression w y ∷ ps) r h a x =
     let b : Begins (words (steps_of y ++ pieces_steps ps) ++ r) = subst Begins (sym (words_parts (steps_of y) (pieces_steps ps) r)) (begins_tree y (words (pieces_steps ps) ++ r) a.0.0) in
     subst (First (is_word t)) (sym b.spelled) (is_other_word begins_value t b.word (not_true (begins_value t) h) b.begins)
 absent_first e (Key k) (NameOf w name ∷ ps) r h a x = refl
-absent_first e (Punctuation s) (NameOf w name ∷ ps) r h a x = refl
 absent_first e t (NameOf w name ∷ ps) r h a x = refl
 absent_first e (Key k) (LiteralOf holds n ∷ ps) r h a x = refl
-absent_first e (Punctuation s) (LiteralOf holds n ∷ ps) r h a x = refl
 absent_first e t (LiteralOf holds n ∷ ps) r h a x = refl
 absent_first e t (Holds holds ∷ ps) r h a x = absent_first e t ps r h a.1 x

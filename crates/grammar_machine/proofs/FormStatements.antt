@@ -1,70 +1,38 @@
--- The statements with lists: their words lead the machine from their form.
+-- The parts of DATA, PRINT and INPUT: their words lead the machine from their form to their tree.
 use Rattle.std.proofs.Common.{subst, ◌≡◌, not, ℕ, Bool, true, false, List, [], ◌∷◌, ◌++◌, Option, Some, None, refl, sym, append_assoc}
 use Rattle.std.proofs.lemmas.List.{append-nil}
-use Rattle.basic_tree.specs.declared.names.Name.{Name}
 use Rattle.basic_tree.specs.declared.tokens.Keyword.TheVariants as keyword
 use Rattle.basic_tree.specs.declared.tokens.Sign.TheVariants as sign
 use Rattle.basic_tree.specs.declared.kinds.Want.TheVariants as want
-use Rattle.basic_tree.specs.declared.parts.Shape.{Shape}
-use Rattle.basic_tree.specs.declared.parts.FileShape.{FileShape}
 use Rattle.basic_tree.specs.declared.parts.Separator.{Separator}
 use Rattle.basic_tree.specs.declared.parts.Separator.TheVariants as separator
 use Rattle.basic_tree.specs.SpellingWords.{Word, Key, Punctuation, Plain}
 use Rattle.basic_tree.specs.SpellingWords.{Item as ItemOf}
-use Rattle.basic_tree.specs.Trees.{Tree, PrintedTree, Tab, PrintItemTree, PrintChannelTree, PromptTree, CloseChannelTree, FieldPartTree, StatementTree, Data, Dim, DimFile, Print, Input, InputLine, Read, OnGoto, OnGosub, Close, Field}
+use Rattle.basic_tree.specs.Trees.{Tree, PrintedTree, Tab, PrintItemTree, PrintChannelTree, PromptTree, StatementTree, Data, Print, Input}
 use Rattle.basic_tree.specs.Trees.{Value as ValueOf}
-use Rattle.basic_tree.specs.SpellingParts.{optional, each}
-use Rattle.grammar_machine.specs.MachinePieces.{WordPiece, Fixed, ArePieces, line, target, many}
-use Rattle.grammar_machine.specs.MachineParts.{shape, file_shape, printed, print_item, close_channel, field_part}
-use Rattle.grammar_machine.specs.MachineStatements.{pieces_of}
-use Rattle.grammar_machine.specs.MachineStack.{Value, Stated, TargetItem, ShapeItem, FileItem, LineItem, ChannelItem, FieldItem, Targets, Shapes, FileShapes, Lines, Channels, FieldParts, MoreItems, MorePrinted}
-use Rattle.grammar_machine.specs.MachineForms.{begins_value, says, targets_in, shapes_in, files_in, lines_in, channels_in, parts_in}
+use Rattle.basic_tree.specs.SpellingPieces.{optional, each, WordPiece, Fixed, ArePieces, target, many}
+use Rattle.basic_tree.specs.SpellingParts.{printed, print_item}
+use Rattle.basic_tree.specs.SpellingStatements.{pieces_of}
+use Rattle.grammar_machine.specs.MachineStack.{Value, Stated, TargetItem, Targets, MoreItems, MorePrinted}
+use Rattle.grammar_machine.specs.MachineForms.{begins_value, says, targets_in}
 use Rattle.grammar_machine.specs.MachineSentences.{input_targets}
 use Rattle.grammar_machine.proofs.FormLeads.{word_ends}
 use Rattle.grammar_machine.proofs.FormWords.{is_word}
-use Rattle.grammar_machine.proofs.FormReads.{Reads, stopping, absent}
-use Rattle.grammar_machine.proofs.FormParts.{read_made, read_holds, read_key, read_sign, read_if_key, read_if_sign, read_not_key, read_not_sign, read_opening, read_closing, read_expr, read_name, read_literal, read_quoted, read_unquoted, read_item, read_item_added, read_no_items, read_tab, read_value, read_nothing}
+use Rattle.grammar_machine.proofs.FormReads.{Reads, absent}
+use Rattle.grammar_machine.proofs.FormParts.{read_made, read_holds, read_key, read_sign, read_if_sign, read_not_key, read_not_sign, read_opening, read_closing, read_expr, read_quoted, read_item_added, read_no_items, read_tab, read_value, read_nothing}
 use Rattle.grammar_machine.proofs.PieceLists.{pieces_split}
-use Rattle.grammar_machine.proofs.FormLists.{read_last_list, targets_back, shapes_back, files_back, lines_back, channels_back, parts_back, one_target, one_shape, one_line, one_channel, one_field, one_file}
+use Rattle.grammar_machine.proofs.FormLists.{read_last_list, targets_back, one_target}
 use Rattle.grammar_machine.proofs.FormSimple.{Begun, begun_as}
 
--- what is made of the elements of a list, is made of the list
+-- what holds for the elements of a list, holds for the list
 pub made_of : {A : Type 0} {e : Bool} (s : A → StatementTree) (a b : A) → a ≡ b → Reads e false (says (s a)) [] (Stated (s b))
 made_of {e = e} s a b h = subst (λ x. Reads e false (says (s a)) [] (Stated (s x))) h read_made
 
--- ---- lists at the end
-
-pub begun_read : (ts : List Tree) → ArePieces (pieces_of (Read ts)) → Begun (Read ts)
-begun_read ts a = begun_as (Read ts) (Key keyword.Read) refl refl (refl, refl) (read_key (read_last_list (Targets want.Either) (λ t. target want.Either t) TargetItem (λ ps. absent (Punctuation sign.Opening) ps) (one_target want.Either) (λ ps. refl) (λ x. refl) ts (λ items. says (Read (targets_in items))) a.1 refl (made_of Read _ _ (targets_back ts))))
-
-pub begun_on_goto : (t : Tree) (ns : List ℕ) → ArePieces (pieces_of (OnGoto t ns)) → Begun (OnGoto t ns)
-begun_on_goto t ns a = begun_as (OnGoto t ns) (Key keyword.On) refl refl (refl, refl) (read_key (read_not_key refl a.1 (read_expr a.1.0 refl (read_if_key (read_last_list Lines (λ n. line n ∷ []) LineItem (λ ps. true) one_line (λ ps. refl) (λ x. refl) ns (λ items. says (OnGoto t (lines_in items))) a.1.1.1 refl (made_of (λ x. OnGoto t x) _ _ (lines_back ns)))))))
-
-pub begun_on_gosub : (t : Tree) (ns : List ℕ) → ArePieces (pieces_of (OnGosub t ns)) → Begun (OnGosub t ns)
-begun_on_gosub t ns a = begun_as (OnGosub t ns) (Key keyword.On) refl refl (refl, refl) (read_key (read_not_key refl a.1 (read_expr a.1.0 refl (read_not_key refl a.1.1 (read_key (read_last_list Lines (λ n. line n ∷ []) LineItem (λ ps. true) one_line (λ ps. refl) (λ x. refl) ns (λ items. says (OnGosub t (lines_in items))) a.1.1.1 refl (made_of (λ x. OnGosub t x) _ _ (lines_back ns))))))))
-
-pub begun_close : (cs : List CloseChannelTree) → ArePieces (pieces_of (Close cs)) → Begun (Close cs)
-begun_close cs a = begun_as (Close cs) (Key keyword.Close) refl refl (refl, refl) (read_key (read_last_list Channels close_channel ChannelItem stopping one_channel (λ ps. refl) (λ x. refl) cs (λ items. says (Close (channels_in items))) a.1 refl (made_of Close _ _ (channels_back cs))))
-
-pub begun_field : (c : Tree) (ps : List FieldPartTree) → ArePieces (pieces_of (Field c ps)) → Begun (Field c ps)
-begun_field c ps a = begun_as (Field c ps) (Key keyword.Field) refl refl (refl, refl) (read_key (read_sign (read_expr a.1.1.0 refl (read_sign (read_last_list FieldParts field_part FieldItem (λ x. true) one_field (λ x. refl) (λ x. refl) ps (λ items. says (Field c (parts_in items))) a.1.1.1.1 refl (made_of (λ x. Field c x) _ _ (parts_back ps)))))))
-
-pub begun_dim : (ss : List Shape) → ArePieces (pieces_of (Dim ss)) → Begun (Dim ss)
-begun_dim [] a = absurd cc
-begun_dim (s ∷ ss) a = begun_as (Dim (s ∷ ss)) (Key keyword.Dim) refl refl (refl, refl) (read_key (read_not_sign refl a.1 (read_last_list Shapes shape ShapeItem (λ ps. true) one_shape (λ ps. refl) (λ x. refl) (s ∷ ss) (λ items. says (Dim (shapes_in items))) a.1 refl (made_of Dim _ _ (shapes_back (s ∷ ss))))))
-
-pub begun_dim_file : (c : ℕ) (ss : List FileShape) → ArePieces (pieces_of (DimFile c ss)) → Begun (DimFile c ss)
-begun_dim_file c ss a = begun_as (DimFile c ss) (Key keyword.Dim) refl refl (refl, refl) (read_key (read_if_sign (read_literal a.1.1.0 (read_sign (read_last_list FileShapes file_shape FileItem (λ ps. absent (Punctuation sign.Equal) ps) one_file (λ ps. refl) (λ x. refl) ss (λ items. says (DimFile c (files_in items))) a.1.1.1.1 refl (made_of (λ x. DimFile c x) _ _ (files_back ss)))))))
-
 -- ---- DATA
 
-read_items : {e : Bool} (more items : List (List ℕ)) → Reads e false (MoreItems items (λ x. says (Data x))) (each (λ i. Fixed (Plain (ItemOf i)) ∷ []) more) (Stated (Data (items ++ more)))
+pub read_items : {e : Bool} (more items : List (List ℕ)) → Reads e false (MoreItems items (λ x. says (Data x))) (each (λ i. Fixed (Plain (ItemOf i)) ∷ []) more) (Stated (Data (items ++ more)))
 read_items [] items = read_no_items (made_of Data _ _ (sym (append-nil items)))
 read_items {e = e} (i ∷ more) items = read_item_added (subst (λ x. Reads e false (MoreItems (items ++ i ∷ []) (λ y. says (Data y))) (each (λ j. Fixed (Plain (ItemOf j)) ∷ []) more) (Stated (Data x))) (append_assoc items (i ∷ []) more) (read_items more (items ++ i ∷ [])))
-
-pub begun_data : (list : List (List ℕ)) → ArePieces (pieces_of (Data list)) → Begun (Data list)
-begun_data [] a = absurd cc
-begun_data (i ∷ more) a = begun_as (Data (i ∷ more)) (Key keyword.Data) refl refl (refl, refl) (read_key (read_item (read_items more (i ∷ []))))
 
 -- ---- PRINT
 
@@ -79,7 +47,7 @@ read_last_printed c items None a = read_nothing
 read_last_printed c items (Some (ValueOf t)) a = read_value a.0 (read_expr a.0 refl (read_not_sign refl tt (read_not_sign refl tt read_made)))
 read_last_printed c items (Some (Tab t)) a = read_tab (read_opening (read_expr a.1.1.0 refl (read_closing (read_not_sign refl tt (read_not_sign refl tt read_made)))))
 
-read_printed : {e : Bool} (c : Option PrintChannelTree) (list items : List PrintItemTree) (last : Option PrintedTree) → ArePieces (each print_item list ++ optional printed last) → Reads e false (MorePrinted c items) (each print_item list ++ optional printed last) (Stated (Print c (items ++ list) last))
+pub read_printed : {e : Bool} (c : Option PrintChannelTree) (list items : List PrintItemTree) (last : Option PrintedTree) → ArePieces (each print_item list ++ optional printed last) → Reads e false (MorePrinted c items) (each print_item list ++ optional printed last) (Stated (Print c (items ++ list) last))
 read_printed {e = e} c [] items last a = subst (λ x. Reads e false (MorePrinted c items) (optional printed last) (Stated (Print c x last))) (sym (append-nil items)) (read_last_printed c items last a)
 read_printed {e = e} c (i ∷ more) items last a =
     let same : (print_item i ++ each print_item more) ++ optional printed last ≡ print_item i ++ (each print_item more ++ optional printed last) = append_assoc (print_item i) (each print_item more) (optional printed last) in
@@ -89,8 +57,8 @@ read_printed {e = e} c (i ∷ more) items last a =
     (subst (λ x. Reads e false (MorePrinted c (items ++ i ∷ [])) (each print_item more ++ optional printed last) (Stated (Print c x last))) (append_assoc items (i ∷ []) more)
     (read_printed c more (items ++ i ∷ []) last parts.1)))
 
--- a word with which no item begins and no statement ends does not stand first
-no_item_with : (w : Word) → not (word_ends true w) ≡ true → not (begins_value w) ≡ true → not (is_word w (Key keyword.Tab)) ≡ true → (list : List PrintItemTree) (last : Option PrintedTree) → absent w (each print_item list ++ optional printed last) ≡ true
+-- a word with which no item begins, and which follows no statement, does not come first
+pub no_item_with : (w : Word) → not (word_ends true w) ≡ true → not (begins_value w) ≡ true → not (is_word w (Key keyword.Tab)) ≡ true → (list : List PrintItemTree) (last : Option PrintedTree) → absent w (each print_item list ++ optional printed last) ≡ true
 no_item_with w e v b [] None = e
 no_item_with w e v b [] (Some (ValueOf t)) = v
 no_item_with w e v b [] (Some (Tab t)) = b
@@ -99,32 +67,17 @@ no_item_with w e v b (i ∷ more) last = go i.printed i.separator where
   go (ValueOf t) s = v
   go (Tab t) s = b
 
-print_channelled : (c : PrintChannelTree) (comma : Bool) → c.comma ≡ comma → (list : List PrintItemTree) (last : Option PrintedTree) → ArePieces (pieces_of (Print (Some (record { number = c.number; comma = comma })) list last)) → Begun (Print (Some (record { number = c.number; comma = comma })) list last)
-print_channelled c true e list last a = begun_as (Print (Some (record { number = c.number; comma = true })) list last) (Key keyword.Print) refl refl (refl, refl) (read_key (read_holds (read_if_sign (read_expr a.1.1.1.0 refl (read_if_sign (read_not_key (no_item_with (Key keyword.Using) refl refl refl list last) a.1.1.1.1.1 (read_printed (Some (record { number = c.number; comma = true })) list [] last a.1.1.1.1.1)))))))
-print_channelled c false e [] None a = begun_as (Print (Some (record { number = c.number; comma = false })) [] None) (Key keyword.Print) refl refl (refl, refl) (read_key (read_holds (read_if_sign (read_expr a.1.1.1.0 refl (read_not_sign refl tt read_made)))))
+pub print_channelled : (c : PrintChannelTree) (comma : Bool) → c.comma ≡ comma → (list : List PrintItemTree) (last : Option PrintedTree) → ArePieces (pieces_of (Print (Some (record { number = c.number; comma = comma })) list last)) → Begun (Print (Some (record { number = c.number; comma = comma })) list last)
+print_channelled c true e list last a = begun_as (Key keyword.Print) refl refl (refl, refl) (read_key (read_holds (read_if_sign (read_expr a.1.1.1.0 refl (read_if_sign (read_not_key (no_item_with (Key keyword.Using) refl refl refl list last) a.1.1.1.1.1 (read_printed (Some (record { number = c.number; comma = true })) list [] last a.1.1.1.1.1)))))))
+print_channelled c false e [] None a = begun_as (Key keyword.Print) refl refl (refl, refl) (read_key (read_holds (read_if_sign (read_expr a.1.1.1.0 refl (read_not_sign refl tt read_made)))))
 print_channelled c false e [] (Some p) a = absurd cc
 print_channelled c false e (i ∷ list) last a = absurd cc
 
-pub begun_print : (c : Option PrintChannelTree) (list : List PrintItemTree) (last : Option PrintedTree) → ArePieces (pieces_of (Print c list last)) → Begun (Print c list last)
-begun_print None list last a = begun_as (Print None list last) (Key keyword.Print) refl refl (refl, refl) (read_key (read_holds (read_not_sign (no_item_with (Punctuation sign.Hash) refl refl refl list last) a.1.1 (read_not_key (no_item_with (Key keyword.Using) refl refl refl list last) a.1.1 (read_printed None list [] last a.1.1)))))
-begun_print (Some c) list last a = print_channelled c c.comma refl list last a
-
 -- ---- INPUT
 
-read_input : {e : Bool} (c : Option Tree) (p : Option PromptTree) (ts : List Tree) → ArePieces (many (λ t. target want.Either t) ts) → Reads e false (input_targets c p) (many (λ t. target want.Either t) ts) (Stated (Input c p ts))
+pub read_input : {e : Bool} (c : Option Tree) (p : Option PromptTree) (ts : List Tree) → ArePieces (many (λ t. target want.Either t) ts) → Reads e false (input_targets c p) (many (λ t. target want.Either t) ts) (Stated (Input c p ts))
 read_input c p ts a = read_last_list (Targets want.Either) (λ t. target want.Either t) TargetItem (λ ps. absent (Punctuation sign.Opening) ps) (one_target want.Either) (λ ps. refl) (λ x. refl) ts (λ items. says (Input c p (targets_in items))) a refl (made_of (λ x. Input c p x) _ _ (targets_back ts))
 
-input_prompted : (x : List ℕ) (s : Separator) (ts : List Tree) → ArePieces (pieces_of (Input None (Some (record { text = x; separator = s })) ts)) → Begun (Input None (Some (record { text = x; separator = s })) ts)
-input_prompted x separator.Comma ts a = begun_as (Input None (Some (record { text = x; separator = separator.Comma })) ts) (Key keyword.Input) refl refl (refl, refl) (read_key (read_holds (read_not_key refl a.1.1 (read_not_sign refl a.1.1 (read_quoted (read_not_sign refl a.1.1.1 (read_sign (read_input None (Some (record { text = x; separator = separator.Comma })) ts a.1.1.1.1))))))))
-input_prompted x separator.Semicolon ts a = begun_as (Input None (Some (record { text = x; separator = separator.Semicolon })) ts) (Key keyword.Input) refl refl (refl, refl) (read_key (read_holds (read_not_key refl a.1.1 (read_not_sign refl a.1.1 (read_quoted (read_if_sign (read_input None (Some (record { text = x; separator = separator.Semicolon })) ts a.1.1.1.1)))))))
-
-pub begun_input : (c : Option Tree) (p : Option PromptTree) (ts : List Tree) → ArePieces (pieces_of (Input c p ts)) → Begun (Input c p ts)
-begun_input (Some c) (Some p) ts a = absurd cc
-begun_input (Some c) None ts a = begun_as (Input (Some c) None ts) (Key keyword.Input) refl refl (refl, refl) (read_key (read_holds (read_not_key refl a.1.1 (read_if_sign (read_expr a.1.1.1.0 refl (read_sign (read_input (Some c) None ts a.1.1.1.1.1)))))))
-begun_input None (Some p) ts a = input_prompted p.text p.separator ts a
-begun_input None None [] a = absurd cc
-begun_input None None (t ∷ ts) a = begun_as (Input None None (t ∷ ts)) (Key keyword.Input) refl refl (refl, refl) (read_key (read_holds (read_not_key refl a.1.1 (read_not_sign refl a.1.1 (read_unquoted a.1.1.0 (read_input None None (t ∷ ts) a.1.1))))))
-
-pub begun_input_line : (c : Option Tree) (x : Name) → ArePieces (pieces_of (InputLine c x)) → Begun (InputLine c x)
-begun_input_line None x a = begun_as (InputLine None x) (Key keyword.Input) refl refl (refl, refl) (read_key (read_if_key (read_not_sign refl a.1.1 (read_name a.1.1.0 read_made))))
-begun_input_line (Some c) x a = begun_as (InputLine (Some c) x) (Key keyword.Input) refl refl (refl, refl) (read_key (read_if_key (read_if_sign (read_expr a.1.1.1.0 refl (read_sign (read_name a.1.1.1.1.1.0 read_made))))))
+pub input_prompted : (x : List ℕ) (s : Separator) (ts : List Tree) → ArePieces (pieces_of (Input None (Some (record { text = x; separator = s })) ts)) → Begun (Input None (Some (record { text = x; separator = s })) ts)
+input_prompted x separator.Comma ts a = begun_as (Key keyword.Input) refl refl (refl, refl) (read_key (read_holds (read_not_key refl a.1.1 (read_not_sign refl a.1.1 (read_quoted (read_not_sign refl a.1.1.1 (read_sign (read_input None (Some (record { text = x; separator = separator.Comma })) ts a.1.1.1.1))))))))
+input_prompted x separator.Semicolon ts a = begun_as (Key keyword.Input) refl refl (refl, refl) (read_key (read_holds (read_not_key refl a.1.1 (read_not_sign refl a.1.1 (read_quoted (read_if_sign (read_input None (Some (record { text = x; separator = separator.Semicolon })) ts a.1.1.1.1)))))))

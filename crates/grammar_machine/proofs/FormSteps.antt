@@ -105,7 +105,7 @@ pub target_taken : (n : ℕ) (w : Want) (g : Tree → Form) (name : Name) (ws : 
 unfolding run
 target_taken n w g name ws k vs e = rw e refl
 
--- a target is taken as an expression of the tightest level
+-- a target is taken as an expression of the highest precedence
 pub target_tightest : (n : ℕ) (w : Want) (g : Tree → Form) (name : Name) (ws : List Word) (k : List Symbol) (vs : Values) → takes w name.text ≡ true → run n (Named name ∷ ws) (Go (TargetOf w g) ∷ k) vs ≡ run n (Named name ∷ ws) (Level 0 w ∷ Await g ∷ k) vs
 unfolding run
 target_tightest n w g name ws k vs e = rw e refl

@@ -1,4 +1,5 @@
--- The words of an IF lead the machine to it: its condition, its clauses, and where an ELSE belongs.
+-- The words of an IF lead the machine to it: its condition, its clauses, and the IF to which an
+-- ELSE belongs.
 use Rattle.std.proofs.Common.{◌≡◌, max, ℕ, zero, suc, ◌≤◌, Bool, true, false, not, ◌&&◌, List, [], ◌∷◌, ◌++◌, refl, sym, ap, ◌∙◌, arith}
 use Rattle.basic_tree.specs.declared.tokens.Keyword.TheVariants as keyword
 use Rattle.basic_tree.specs.declared.tokens.Sign.TheVariants as sign
@@ -7,9 +8,8 @@ use Rattle.basic_tree.specs.declared.kinds.Want.TheVariants as want
 use Rattle.basic_tree.specs.SpellingWords.{Word, Key, Punctuation, Number, Plain, Opens, words}
 use Rattle.basic_tree.specs.Trees.{Tree, ClauseTree, LineClause, StatementClause, ElseTree, NoElse, Else, StatementTree, IfThen, IfGoto}
 use Rattle.basic_tree.specs.SpellingExpressions.{steps_of, Fits, IsTree}
-use Rattle.basic_tree.specs.SpellingStatements.{is_head, else_wants_else, clause_wants_else, has_else}
-use Rattle.grammar_machine.specs.MachinePieces.{Holds, pieces_steps, ArePieces, closing}
-use Rattle.grammar_machine.specs.MachineStatements.{closings, pieces_of, clause_pieces, else_pieces}
+use Rattle.basic_tree.specs.SpellingStatements.{is_head, else_wants_else, clause_wants_else, has_else, closings, pieces_of, clause_pieces, else_pieces}
+use Rattle.basic_tree.specs.SpellingPieces.{Holds, pieces_steps, ArePieces, closing}
 use Rattle.grammar_machine.specs.MachineStack.{Values, Stated, Symbol, Go, Await, AwaitClause, Close, Form, ExprOf, IfKey, ClauseIn, LiteralIn, TakeKey, LineNumber, within}
 use Rattle.grammar_machine.specs.MachineForms.{else_form, says}
 use Rattle.grammar_machine.specs.MachineSentences.{Choice, if_form}
@@ -66,7 +66,7 @@ statement_clause s i b = record {
 
 -- ---- an ELSE, or none
 
--- true: the clause before it takes any ELSE itself
+-- true: the clause before it takes an ELSE itself
 pub record ElseLeads (o : ElseTree) : Type 0 where
   pub bound : ℕ
   pub by : (b : Bool) → (has_else o ≡ true → b ≡ false) → (n : ℕ) → bound ≤ n → (r : List Word) (g : ElseTree → Form) (k : List Symbol) (vs : Values) → Finished (not (else_wants_else o)) r → run n (words (pieces_steps (else_pieces o)) ++ r) (Go (else_form b g) ∷ k) vs ≡ run n r (Go (g o) ∷ k) vs
@@ -95,7 +95,7 @@ some_else c d = record { bound = suc d.bound; by = go } where
       ∙ ap (λ ws. run n ws (Go (ClauseIn (λ clause. g (Else clause))) ∷ k) vs) (pieces_words (clause_pieces c) (closing ∷ []) r)
       ∙ d.by n (omega (arith, le)) r (λ clause. g (Else clause)) k vs x
 
--- what stands behind the clause before an ELSE
+-- what follows the clause before an ELSE
 clause_end : (o : ElseTree) (w : Bool) (r : List Word) → not (has_else o && w) ≡ true → Finished (not (else_wants_else o)) r → Finished (not w) (words (pieces_steps (else_pieces o)) ++ r)
 clause_end NoElse w r h x = finished_widened (not w) r x
 clause_end (Else c) true r h x = absurd cc
@@ -115,7 +115,7 @@ then_words t c o r =
     (words_parts (steps_of t) (Opens (Key keyword.Then) ∷ pieces_steps (clause_pieces c ++ after)) r
     ∙ ap (λ x. words (steps_of t) ++ Key keyword.Then ∷ x) (pieces_words (clause_pieces c) after r))
 
--- what is expected behind the condition
+-- what is expected after the condition
 abbrev behind_condition : Tree → Form
 behind_condition condition =
     IfKey true keyword.Then (ClauseIn (λ clause. else_form (clause_wants_else clause) (λ otherwise. says (IfThen condition clause otherwise))))

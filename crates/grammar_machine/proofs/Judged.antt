@@ -1,4 +1,4 @@
--- Each line is judged by where the machine stops; no word is too deep where there is none.
+-- Each line is judged by where the machine stops; after all words, none is nested too deep.
 use Rattle.std.proofs.Common.{◌≡◌, ℕ, suc, ◌+◌, ◌<◌, ◌≤◌, Bool, true, false, List, [], ◌∷◌, length, drop, Option, Some, None, Ok, Err, refl, sym, ap, subst, ◌∙◌, arith, inl, inr, length-drop}
 use Rattle.std.specs.Prelude.{◌⊎◌}
 use Rattle.std.proofs.lemmas.List.{append-nil, drop_all, drop-drop}
@@ -70,7 +70,7 @@ turn_ends : (k : List Symbol) (n : ℕ) (vs : Values) → NotDeep (turn k n vs N
 turn_ends [] n vs = tt
 turn_ends (s ∷ k) n vs = moved_ends (move s vs None) n k (λ m vs'. turn k m vs' None) (move_ends s vs) (λ i vs'. turn_ends k i vs')
 
--- no word is too deep behind all words
+-- after all words, none is nested too deep
 pub never_deep_at_end : (ws : List Word) (n : ℕ) (k : List Symbol) (vs : Values) → run n ws k vs ≡ Err (TooDeep []) → ⊥
 unfolding run
 never_deep_at_end [] n k vs e = go (turn k n vs None) (turn_ends k n vs) e where
@@ -140,7 +140,7 @@ reading_judged : (line : List ℕ) (r : Reading) → tokens_of line ≡ r → Is
 reading_judged line (Ok tokens) e = tokens_judged line tokens (verdict_of (words_of tokens)) e (verdict_judged (words_of tokens))
 reading_judged line (Err refusal) e = (refusal, subst (λ (r : Reading). RefusedBy r refusal) (sym e) refl, refl)
 
--- the machine judges every line by the grammar
+-- the machine is a judge that follows the grammar
 pub judge_of_judges : Judges judge_of
 judge_of_judges line = reading_judged line (tokens_of line) refl
 
@@ -154,7 +154,7 @@ abbrev ReadOrRefused : Want → List Word → ℕ → Type 0
 ReadOrRefused w ws from = ((t : Tree) × (k : ℕ) × IsRead w ws from t k) ⊎ ((k : ℕ) × (why : Cause) × RefusesExpr w ws from k why)
 
 module _ (w : Want) (ws : List Word) (from : ℕ) (inside : from ≤ length ws) where
-  -- the place where the machine stops behind that one
+  -- the place, at or after that one, where the machine stops
   place_left : (k : ℕ) × (from ≤ k) × (k ≤ length ws) × (left (run most_levels (drop from ws) (Level loosest w ∷ []) []) ≡ drop k ws)
   place_left =
       let e = left_end (drop from ws) most_levels (Level loosest w ∷ []) [] in

@@ -1,4 +1,5 @@
--- The levels of the first words are those of the steps that the machine passed, whatever stands behind them.
+-- The nesting depths of the first words are those of the steps that the machine passed, whatever
+-- follows them.
 use Rattle.std.proofs.Common.{◌≡◌, ℕ, ◌+◌, ◌-◌, List, [], ◌∷◌, ◌++◌, length, take, Ok, refl, sym, ap, ◌∙◌, arith}
 use Rattle.std.proofs.lemmas.List.{append-nil}
 use Rattle.basic_tree.specs.AnswerLaws.{LevelsAreSettled}
@@ -19,14 +20,14 @@ use Rattle.grammar_machine.proofs.MachineStops.{goes_on_from, finished}
 use Rattle.grammar_machine.proofs.ExpressionPlaces.{is_tree}
 use Rattle.grammar_machine.proofs.LineReads.{made_line, reads_lines}
 
--- the words of some steps stand in the levels of these alone
+-- the words of some steps have the nesting depths of these steps alone
 levels_front : (g q : List LevelStep) (depth : ℕ) → take (length (words g)) (levels depth (g ++ q)) ≡ levels depth g
 levels_front [] q depth = refl
 levels_front (Plain w ∷ g) q depth = ap (λ x. depth ∷ x) (levels_front g q depth)
 levels_front (Opens w ∷ g) q depth = ap (λ x. (depth + 1) ∷ x) (levels_front g q (depth + 1))
 levels_front (Closes ∷ g) q depth = levels_front g q (depth - 1)
 
--- what is spelled where the machine goes on to the end from the words that it passed
+-- what is spelled, if the machine continues to the end from the words that it passed
 passed_whole : (p r : List Word) (n : ℕ) (k : List Symbol) (vs : Values) (n' : ℕ) (k' : List Symbol) (vs' u : Values) (h : Passes p n k vs n' k' vs') → run n (p ++ r) k vs ≡ Ok (u, []) → (g : List LevelStep) × Spelled k vs g u × (take (length p) (levels 0 g) ≡ levels 0 h.steps)
 passed_whole p r n k vs n' k' vs' u h e =
     let on : run n' r k' vs' ≡ Ok (u, []) = sym (goes_on_from p n k vs n' k' vs' h r) ∙ e in

@@ -54,5 +54,3 @@ pub mod SoundPieces
 pub mod SoundSentences
 pub mod SoundSimple
 pub mod WholePlaces
-pub mod PiecesApart
-pub mod PiecesHold

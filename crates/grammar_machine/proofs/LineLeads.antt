@@ -1,14 +1,14 @@
--- The words of a statement with its modifiers lead the machine from the form of its first word to the statement.
+-- The words of a statement with its modifiers lead the machine from the form of its first word to
+-- the statement.
 use Rattle.std.proofs.Common.{subst, ◌≡◌, ◌+◌, ◌-◌, max, ℕ, suc, ◌≤◌, Bool, true, false, not, ◌||◌, List, [], ◌∷◌, ◌++◌, Option, Some, None, refl, sym, ap, ◌∙◌, arith}
 use Rattle.basic_tree.specs.declared.tokens.Keyword.{Keyword}
 use Rattle.basic_tree.specs.declared.tokens.Keyword.TheVariants as keyword
 use Rattle.basic_tree.specs.declared.tokens.Sign.TheVariants as sign
 use Rattle.basic_tree.specs.SpellingWords.{Word, Key, Punctuation, words}
 use Rattle.basic_tree.specs.Trees.{ModifierTree, StatementTree, Modified}
-use Rattle.basic_tree.specs.SpellingStatements.{is_if, is_head, wants_else}
-use Rattle.grammar_machine.specs.MachinePieces.{WordPiece, pieces_steps, ArePieces}
-use Rattle.grammar_machine.specs.MachineParts.{modifier}
-use Rattle.grammar_machine.specs.MachineStatements.{closings, pieces_of}
+use Rattle.basic_tree.specs.SpellingStatements.{is_if, is_head, wants_else, closings, pieces_of}
+use Rattle.basic_tree.specs.SpellingPieces.{WordPiece, pieces_steps, ArePieces}
+use Rattle.basic_tree.specs.SpellingParts.{modifier}
 use Rattle.grammar_machine.specs.MachineStack.{Value, Stated, Modifying, Modify, Symbol, Go, Do, Close, Modifiers, Form}
 use Rattle.grammar_machine.specs.MachineSentences.{Class, Choice, Head, Simple, Sentence, sentence_of, key_modifier, modifier_of}
 use Rattle.grammar_machine.specs.MachineRun.{run}
@@ -20,7 +20,7 @@ use Rattle.grammar_machine.proofs.FormSimple.{ModifierBegun, modifier_leads}
 use Rattle.grammar_machine.proofs.FormBegins.{simple_leads}
 use Rattle.grammar_machine.proofs.LineSteps.{behind_clause_class, is_head_class, NoModifier, run_modifier, run_no_modifier}
 
--- ---- what may stand behind a whole statement: a separator, or an ELSE where one may follow
+-- ---- what may follow a whole statement: a separator, or an ELSE if one is allowed
 
 abbrev pub key_finishes : Bool → Keyword → Bool
 key_finishes e keyword.Else = e
@@ -66,28 +66,24 @@ finished_no_modifier e (Key k ∷ r) h = key_no_modifier e k h
 finished_no_modifier e (t ∷ r) h = absurd cc
 
 abbrev ends_option : Option Form → Bool → Type 0
-ends_option None b = Unit {0}
+ends_option None b = b ≡ b
 ends_option (Some f) b = b ≡ true
 
 key_modifier_ends : (k : Keyword) → ends_option (key_modifier k) (key_ends true k)
 key_modifier_ends keyword.If = refl
-key_modifier_ends keyword.Unless = refl
-key_modifier_ends keyword.While = refl
-key_modifier_ends keyword.Until = refl
-key_modifier_ends keyword.For = refl
-key_modifier_ends k = tt
+key_modifier_ends k = refl
 
 modifier_word_ends : (t : Word) → ends_option (modifier_of t) (word_ends true t)
 modifier_word_ends (Key k) = key_modifier_ends k
-modifier_word_ends t = tt
+modifier_word_ends t = refl
 
--- a modifier may stand behind a statement
+-- a modifier may follow a statement
 pub modifier_ends : (t : Word) (ts : List Word) (f : Form) → modifier_of t ≡ Some f → Ending true (t ∷ ts)
 modifier_ends t ts f e = rw e at (modifier_word_ends t)
 
 -- ---- the levels that modifiers open
 
--- so many levels before the statement, where so many are left behind its last modifier
+-- the levels left before the statement, if this many are left after its last modifier
 abbrev pub levels_before : StatementTree → ℕ → ℕ
 levels_before (Modified s m) n = levels_before s (suc n)
 levels_before other n = n
@@ -256,7 +252,7 @@ head_closings : (s : StatementTree) → is_head s ≡ true → closings s ≡ []
 head_closings (Modified s m) e = absurd cc
 head_closings s e = refl
 
--- every statement but IF
+-- every statement except IF
 pub starts_other : (s : StatementTree) → is_if s ≡ false → ArePieces (pieces_of s) → Starts s
 starts_other s i h = go (is_head s) refl where
   go : (b : Bool) → is_head s ≡ b → Starts s

@@ -1,5 +1,5 @@
--- Every line ends the levels that it opens, and no others: by its pieces.
-use Rattle.std.proofs.Common.{subst, ◌≡◌, ℕ, suc, Bool, true, false, List, [], ◌∷◌, ◌++◌, Option, Some, None, refl, sym, append_assoc, ◌∙◌}
+-- Every line ends exactly the levels that it opens: proved by its pieces.
+use Rattle.std.proofs.Common.{subst, ◌≡◌, ℕ, suc, Bool, true, false, List, [], ◌∷◌, ◌++◌, Option, Some, None, refl, sym, append_assoc}
 use Rattle.std.proofs.lemmas.List.{append-nil}
 use Rattle.basic_tree.specs.declared.names.Name.{Name}
 use Rattle.basic_tree.specs.declared.tokens.Sign.TheVariants as sign
@@ -15,16 +15,13 @@ use Rattle.basic_tree.specs.Trees.{Tree, PrintedTree, Value, Tab, ModifierTree, 
 use Rattle.basic_tree.specs.declared.tokens.Keyword.TheVariants as keyword
 use Rattle.basic_tree.specs.declared.kinds.Want.TheVariants as want
 use Rattle.basic_tree.specs.SpellingExpressions.{steps_of, want_of}
-use Rattle.basic_tree.specs.SpellingParts.{perhaps, optional, each, kind_of_first}
-use Rattle.basic_tree.specs.SpellingStatements.{line_steps}
-use Rattle.grammar_machine.specs.MachinePieces.{WordPiece, Fixed, Expression, NameOf, LiteralOf, Holds, pieces_steps, closing, sign_piece, key, number, text, line, line_or_zero, target, after_commas, many}
-use Rattle.grammar_machine.specs.MachineParts.{shape, element_size, file_shape, separator_piece, printed, print_item, using_item, using_values, array, matrix, channel, print_channel, channel_and_comma, prompt, modifier, name, parameters, value, chain_line, open_for, option_of, close_channel, field_part}
-use Rattle.grammar_machine.specs.MachineStatements.{closings, go, items, pieces_of, clause_pieces, else_pieces, statement_pieces, line_pieces}
+use Rattle.basic_tree.specs.SpellingPieces.{perhaps, optional, each, WordPiece, Fixed, Expression, NameOf, LiteralOf, Holds, pieces_steps, closing, sign_piece, key, number, text, line, line_or_zero, target, after_commas, many}
+use Rattle.basic_tree.specs.SpellingParts.{kind_of_first, shape, element_size, file_shape, separator_piece, printed, print_item, using_item, using_values, array, matrix, channel, print_channel, channel_and_comma, prompt, modifier, name, parameters, value, chain_line, open_for, option_of, close_channel, field_part}
+use Rattle.basic_tree.specs.SpellingStatements.{line_steps, closings, go, items, pieces_of, clause_pieces, else_pieces, statement_pieces, line_pieces}
 use Rattle.grammar_machine.proofs.MachineLevels.{Above, tree_above}
-use Rattle.grammar_machine.proofs.PiecesApart.{line_same}
 use Rattle.grammar_machine.proofs.MachineReads.{place_pieces, separated}
 
--- from so many open levels the pieces lead to so many
+-- the pieces lead from this many open levels to that many
 abbrev pub Rises : ℕ → List WordPiece → ℕ → Type 0
 Rises d [] e = d ≡ e
 Rises d (Fixed (Plain w) ∷ ps) e = Rises d ps e
@@ -59,7 +56,7 @@ rises_above (NameOf w n ∷ a) d e q x y = rises_above a d e q x y
 rises_above (LiteralOf h n ∷ a) d e q x y = rises_above a d e q x y
 rises_above (Holds h ∷ a) d e q x y = rises_above a d e q x y
 
--- ---- parts that may be left out, and lists
+-- ---- optional parts and lists
 
 both : (a b : List WordPiece) → Balanced a → Balanced b → Balanced (a ++ b)
 both a b x y = λ d. rises_append a b d d d (x d) (y d)
@@ -156,7 +153,8 @@ items_level (item ∷ more) = each_level (λ i. Fixed (Plain (Item i)) ∷ []) (
 
 -- ---- statements
 
--- so many levels are open behind a statement's last modifier, where so many are before it
+-- the number of levels that are open after a statement's last modifier, if this many are open
+-- before it
 abbrev pub raised : StatementTree → ℕ → ℕ
 raised (Modified s m) d = suc (raised s d)
 raised other d = d
@@ -249,4 +247,4 @@ pub line_level : (l : LineTree) → Balanced (line_pieces l)
 line_level l = both (place_pieces l.first) (each separated l.others) (place_level l.first) (each_level separated (λ s. place_level s) l.others)
 
 pub line_above : (l : LineTree) → Above 0 (line_steps l)
-line_above l = subst (λ q. Above 0 q) (append-nil (pieces_steps (line_pieces l)) ∙ line_same l) (rises_above (line_pieces l) 0 0 [] (line_level l 0) tt)
+line_above l = subst (λ q. Above 0 q) (append-nil (pieces_steps (line_pieces l))) (rises_above (line_pieces l) 0 0 [] (line_level l 0) tt)

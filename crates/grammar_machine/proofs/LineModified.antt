@@ -1,22 +1,22 @@
--- Every statement is one without modifiers and the modifiers behind it, in their order.
+-- Every statement is one without modifiers, followed by its modifiers in order.
 use Rattle.std.proofs.Common.{◌≡◌, false, List, [], ◌∷◌, ◌++◌, refl, ap, ◌∙◌, append_assoc}
 use Rattle.std.proofs.lemmas.List.{append-nil}
 use Rattle.basic_tree.specs.SpellingWords.{LevelStep, Closes}
 use Rattle.basic_tree.specs.Trees.{ModifierTree, StatementTree, Modified}
-use Rattle.basic_tree.specs.SpellingStatements.{is_if, is_head}
-use Rattle.grammar_machine.specs.MachinePieces.{pieces_steps, ArePieces}
-use Rattle.grammar_machine.specs.MachineParts.{modifier}
-use Rattle.grammar_machine.specs.MachineStatements.{closings, pieces_of, statement_pieces}
+use Rattle.basic_tree.specs.SpellingStatements.{is_if, is_head, closings, pieces_of, statement_pieces}
+use Rattle.basic_tree.specs.SpellingPieces.{pieces_steps, ArePieces}
+use Rattle.basic_tree.specs.SpellingParts.{modifier}
 use Rattle.grammar_machine.proofs.PieceLists.{steps_append}
 use Rattle.grammar_machine.proofs.MachineReads.{modifiers_steps, AreModifiers, modified_by}
 use Rattle.grammar_machine.proofs.LineLeads.{parts_before, parts_behind, neither}
 
--- modifiers stand behind no IF, and behind no statement that stands by itself
+-- no modifiers follow an IF, or a statement that takes none
 abbrev pub MayHave : StatementTree → List ModifierTree → Type 0
 MayHave s [] = Unit {0}
 MayHave s (m ∷ ms) = (is_if s ≡ false) × (is_head s ≡ false)
 
--- with these modifiers behind it, the statement is this one; closed: the steps with all ends of levels
+-- with these modifiers after it, the statement is this one; closed: the steps with all ends of
+-- levels
 pub record Unmodified (s : StatementTree) (closed : List LevelStep) : Type 0 where
   pub base : StatementTree
   pub modifiers : List ModifierTree

@@ -1,4 +1,5 @@
--- Where the machine stops at a line: for each stack that spells lines alone and takes each of them.
+-- Where the machine stops at a line, for each stack that spells exactly lines and takes each of
+-- them.
 use Rattle.std.proofs.Common.{subst, ◌≡◌, ℕ, ◌+◌, ◌<◌, ◌≤◌, List, [], length, take, drop, None, Ok, Err, refl, sym, ap, ◌∙◌, arith}
 use Rattle.std.proofs.lemmas.List.{append-nil, take-append-drop, drop_all}
 use Rattle.basic_tree.specs.declared.tokens.Cause.TheVariants as cause
@@ -14,7 +15,7 @@ use Rattle.grammar_machine.proofs.MachinePlaces.{values}
 use Rattle.grammar_machine.proofs.MachineStops.{Nests, finished, finished_flat, TakesWhole, none_at_end}
 use Rattle.grammar_machine.proofs.WholePlaces.{AnyWhole, ReadsWhole, at_place, flat_there, limit_there, deep_there}
 
--- what is expected spells lines alone, and the machine takes each line where enough levels are left
+-- what is expected spells only lines, and the machine takes each line if enough levels are left
 pub record ReadsLines (s : List Symbol) (vs : Values) (made : LineTree → Values) : Type 0 where
   pub spells : (x : List LevelStep) (u : Values) → Spelled s vs x u → (l : LineTree) × (x ≡ line_steps l) × IsLine (words x) l × (made l ≡ u)
   pub takes : (ws : List Word) (l : LineTree) → IsLine ws l → (d : ℕ) × ((n : ℕ) → d ≤ n → run n ws s vs ≡ Ok (made l, []))
@@ -46,7 +47,7 @@ module _ (s : List Symbol) (vs : Values) (made : LineTree → Values) (reads : R
 
   -- ---- a line
 
-  -- the words that were passed are those of the line, whatever the levels
+  -- the words that were passed are those of the line, however many levels are left
   pub last_taken_line : (ws : List Word) (n k : ℕ) (l : LineTree) → run n ws s vs ≡ Ok (made l, drop k ws) → take k ws ≡ words (line_steps l)
   last_taken_line ws n k l h =
       let f = finished (take k ws) (drop k ws) n s vs (made l) (at_place LineWhole s vs reads_whole ws k n (Ok (made l, drop k ws)) h) in
@@ -64,9 +65,9 @@ module _ (s : List Symbol) (vs : Values) (made : LineTree → Values) (reads : R
         flat = subst (λ (x : LineTree). too_deep (line_steps x) ≡ None) same (subst (λ (x : List LevelStep). too_deep x ≡ None) i.1 f.1);
       }
 
-  -- ---- a word that is refused
+  -- ---- a word that is rejected
 
-  -- no line goes on with it, so the words are none
+  -- no line continues with it, so the words are none
   none_beyond : (ws : List Word) (k : ℕ) → IsLimit LineWhole ws k → k < length ws → (g : List LevelStep) → LineWhole ws g → ⊥
   none_beyond ws k a lt g x = a.no_more lt (drop (k + 1) ws, g, subst (λ (y : List Word). LineWhole y g) (sym (take-append-drop (k + 1) ws)) x)
 
@@ -93,7 +94,7 @@ module _ (s : List Symbol) (vs : Values) (made : LineTree → Values) (reads : R
         none = none_beyond ws k limit lt;
       }
 
-  -- ---- a word that is too deep
+  -- ---- a word that is nested too deep
 
   pub line_deep : (ws : List Word) (k : ℕ) → k < length ws → run most_levels ws s vs ≡ Err (TooDeep (drop k ws)) → RefusesLine ws k cause.TooDeep
   line_deep ws k lt h = deep_there LineWhole s vs reads_whole ws k lt h

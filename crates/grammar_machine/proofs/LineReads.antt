@@ -1,19 +1,17 @@
--- The stack of a line spells lines alone and takes each of them, and how a line is judged by where the machine stops.
+-- The stack of a line spells exactly lines and takes each of them; and how a line is judged by
+-- where the machine stops.
 use Rattle.std.proofs.Common.{◌≡◌, ℕ, suc, ◌≤◌, List, [], ◌∷◌, ◌++◌, length, drop, Option, Some, None, Ok, Err, refl, sym, ap, ◌∙◌, arith}
 use Rattle.std.proofs.lemmas.List.{append-nil}
 use Rattle.basic_tree.specs.SpellingWords.{Word, LevelStep, words}
 use Rattle.basic_tree.specs.Trees.{LineTree, StatementTree}
-use Rattle.basic_tree.specs.SpellingParts.{each}
+use Rattle.basic_tree.specs.SpellingPieces.{each, pieces_steps}
 use Rattle.basic_tree.specs.SpellingStatements.{line_steps, IsLine}
-use Rattle.grammar_machine.specs.MachinePieces.{pieces_steps}
 use Rattle.grammar_machine.specs.MachineStack.{Values, Parsed, Symbol}
 use Rattle.grammar_machine.specs.MachineRun.{Turn, Next, Ended, Stuck, Deep, turn, Wrong, turned, run}
 use Rattle.grammar_machine.specs.MachineJudge.{line_symbols, line_values}
 use Rattle.grammar_machine.proofs.MachineReads.{place_pieces, separated}
 use Rattle.grammar_machine.proofs.MachineSpelled.{Spelled}
 use Rattle.grammar_machine.proofs.MachinePasses.{left}
-use Rattle.grammar_machine.proofs.PiecesApart.{line_same}
-use Rattle.grammar_machine.proofs.PiecesHold.{pieces_admissible, admissible_pieces}
 use Rattle.grammar_machine.proofs.PieceLists.{steps_append, pieces_append}
 use Rattle.grammar_machine.proofs.LineLevels.{line_above}
 use Rattle.grammar_machine.proofs.LinePlaces.{ReadsLines}
@@ -21,7 +19,7 @@ use Rattle.grammar_machine.proofs.OneLine.{line_leads}
 
 -- ---- lines
 
--- the values behind a line
+-- the values after a line
 abbrev pub made_line : LineTree → Values
 made_line l = Parsed (l.first ∷ l.others) ∷ []
 
@@ -29,12 +27,12 @@ spells_line : (x : List LevelStep) (u : Values) → Spelled line_symbols line_va
 spells_line x u h =
     let m = h.4 in
     let l : LineTree = record { first = h.0; others = m.0 } in
-    let same : x ≡ line_steps l = h.2 ∙ ap (λ y. pieces_steps (place_pieces h.0) ++ y) (m.2 ∙ ap (λ y. pieces_steps (each separated m.0) ++ y) m.4.0 ∙ append-nil (pieces_steps (each separated m.0))) ∙ sym (steps_append (place_pieces h.0) (each separated m.0)) ∙ line_same l in
-    (l, same, record { admissible = pieces_admissible l (pieces_append (place_pieces h.0) (each separated m.0) h.3 m.3); spelling = ap (λ y. words y) same }, m.4.1)
+    let same : x ≡ line_steps l = h.2 ∙ ap (λ y. pieces_steps (place_pieces h.0) ++ y) (m.2 ∙ ap (λ y. pieces_steps (each separated m.0) ++ y) m.4.0 ∙ append-nil (pieces_steps (each separated m.0))) ∙ sym (steps_append (place_pieces h.0) (each separated m.0)) in
+    (l, same, record { admissible = pieces_append (place_pieces h.0) (each separated m.0) h.3 m.3; spelling = ap (λ y. words y) same }, m.4.1)
 
 takes_line : (ws : List Word) (l : LineTree) → IsLine ws l → (d : ℕ) × ((n : ℕ) → d ≤ n → run n ws line_symbols line_values ≡ Ok (made_line l, []))
 takes_line ws l h =
-    let t = line_leads l (admissible_pieces l h.admissible) in
+    let t = line_leads l h.admissible in
     (t.0, λ n e. ap (λ (x : List Word). run n x line_symbols line_values) h.spelling ∙ t.1 n e)
 
 apart_lines : (l m : LineTree) → made_line l ≡ made_line m → l ≡ m
@@ -53,7 +51,7 @@ reads_lines = record {
 
 -- ---- where the machine stops
 
--- what is left is the end of the words
+-- the words that are left are the last ones
 pub left_end : (ws : List Word) (n : ℕ) (k : List Symbol) (vs : Values) → (i : ℕ) × (i ≤ length ws) × (left (run n ws k vs) ≡ drop i ws)
 unfolding run
 left_end [] n k vs = (0, omega arith, go (turn k n vs None)) where

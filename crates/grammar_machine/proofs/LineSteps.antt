@@ -1,4 +1,5 @@
--- Single steps of the machine in the structure around forms: statements of a line, clauses, modifiers and separators.
+-- Single steps of the machine around forms: statements of a line, clauses, modifiers and
+-- separators.
 use Rattle.std.proofs.Common.{◌≡◌, ℕ, suc, Bool, true, false, cond, List, [], ◌∷◌, ◌++◌, Option, Some, None, Err, refl, ap, ◌∙◌, append_assoc}
 use Rattle.basic_tree.specs.declared.tokens.Keyword.{Keyword}
 use Rattle.basic_tree.specs.declared.tokens.Keyword.TheVariants as keyword
@@ -12,7 +13,7 @@ use Rattle.grammar_machine.specs.MachineMoves.{MachineMove, Shifts, Skips, Close
 use Rattle.grammar_machine.specs.MachineRun.{Turn, moved, turn, turned, run, Wrong}
 use Rattle.grammar_machine.proofs.MachineSteps.{run_close}
 
--- ---- what a sentence's form does at its word: it takes the word or refuses it
+-- ---- what a statement's form does at its word: it takes the word or rejects it
 
 abbrev pub is_firm : Form → Bool
 is_firm (TakeKey opens k f) = true
@@ -41,14 +42,14 @@ firm_decides c (FnNameIn g) vs (FnNamed name) e = refl
 firm_decides c (FnNameIn g) vs t e = refl
 firm_decides c f vs t e = absurd cc
 
--- no clause stands there, whatever clauses do
+-- no clause is possible there, so it does not matter what clauses do
 pub firm_same : (c d : Clauses) (f : Form) (vs : Values) (o : Option Word) → is_firm f ≡ true → form_move_with c f vs o ≡ form_move_with d f vs o
 firm_same c d (TakeKey opens k f) vs o e = refl
 firm_same c d (TargetOf w g) vs o e = refl
 firm_same c d (FnNameIn g) vs o e = refl
 firm_same c d f vs o e = absurd cc
 
--- what is expected behind what was taken is expected below it
+-- what is expected after what was taken is expected below it on the stack
 then_moved : (m : MachineMove) (more k : List Symbol) (n : ℕ) (f g : ℕ → Values → Turn) → decides m ≡ true → moved (then_also more m) n k f ≡ moved m n (more ++ k) g
 then_moved (Shifts opens vs ks) more k n f g e = rw append_assoc refl
 then_moved (Skips vs) more k n f g e = absurd cc
@@ -96,7 +97,7 @@ run_statement n t ws b k vs e =
     rw e
     (run_turned t ws _ _ (then_moved (form_move b.form vs (Some t)) (behind_class b.class) k n (λ m vs'. turn k m vs' (Some t)) (λ m vs'. turn (behind_class b.class ++ k) m vs' (Some t)) (firm_decides clause_move b.form vs t (known_firm t b e))))
 
--- the first word, if any, begins none
+-- the first word, if any, begins no statement
 abbrev pub NoSentence : List Word → Type 0
 NoSentence [] = Unit {0}
 NoSentence (t ∷ ts) = sentence_of t ≡ None
@@ -127,7 +128,7 @@ run_no_more_statements n (t ∷ ws) k ss vs h = refl
 
 -- ---- clauses
 
--- what stands behind a statement that is a clause
+-- what follows a statement that is a clause
 abbrev pub behind_clause_class : Class → List Symbol
 behind_clause_class Simple = Modifiers ∷ []
 behind_clause_class other = []
@@ -136,7 +137,7 @@ abbrev pub is_head_class : Class → Bool
 is_head_class Head = true
 is_head_class other = false
 
--- the number of a line
+-- whether a word can be a line number
 abbrev pub is_line_number : Word → Bool
 is_line_number (Number n) = within LineNumber n
 is_line_number other = false
@@ -177,7 +178,7 @@ pub run_clause_missing : (n : ℕ) (g : ClauseTree → Form) (k : List Symbol) (
 unfolding run
 run_clause_missing n g k vs = refl
 
--- the number of a line ends its clause's level
+-- a line number ends its clause's level
 pub run_line_clause : (n c : ℕ) (ws : List Word) (g : ClauseTree → Form) (k : List Symbol) (vs : Values) → within LineNumber c ≡ true → run n (Number c ∷ ws) (Go (ClauseIn g) ∷ k) vs ≡ run (suc n) ws (Go (g (LineClause c)) ∷ k) vs
 unfolding run
 run_line_clause n c ws g k vs e = rw e (run_close n ws (Go (g (LineClause c)) ∷ k) vs)

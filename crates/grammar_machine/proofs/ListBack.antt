@@ -1,4 +1,4 @@
--- What the moves of a list and of PRINT took, their forms read; and every form.
+-- What the moves of a list and of PRINT took, their forms read; the same for every form.
 use Rattle.std.proofs.Common.{subst, ◌≡◌, Bool, true, false, cond, List, [], ◌∷◌, ◌++◌, Option, Some, None, inl, inr, refl, sym, ap, ◌∙◌, append_assoc}
 use Rattle.std.proofs.lemmas.List.{append-nil}
 use Rattle.basic_tree.specs.declared.tokens.Keyword.TheVariants as keyword
@@ -11,9 +11,8 @@ use Rattle.basic_tree.specs.SpellingWords.{Word, Key, Punctuation, Named, Number
 use Rattle.basic_tree.specs.SpellingWords.{Item as ItemOf}
 use Rattle.basic_tree.specs.Trees.{PrintedTree, Value as ValueOf, Tab, PrintItemTree, PrintChannelTree, UsingItemTree, Tree, ClauseTree, Print, PrintUsing}
 use Rattle.basic_tree.specs.SpellingExpressions.{mark, steps_of}
-use Rattle.basic_tree.specs.SpellingParts.{optional, each}
-use Rattle.grammar_machine.specs.MachinePieces.{WordPiece, Fixed, Expression, pieces_steps, IsPiece, ArePieces}
-use Rattle.grammar_machine.specs.MachineParts.{shape, element_size, printed, print_item, separator_piece, using_item, using_values}
+use Rattle.basic_tree.specs.SpellingPieces.{optional, each, WordPiece, Fixed, Expression, pieces_steps, IsPiece, ArePieces}
+use Rattle.basic_tree.specs.SpellingParts.{shape, element_size, printed, print_item, separator_piece, using_item, using_values}
 use Rattle.grammar_machine.specs.MachineStack.{Value, Stated, Values, Item, TargetItem, ShapeItem, FileItem, NameItem, LineItem, ChannelItem, FieldItem, Sequence, Targets, Shapes, FileShapes, Parameters, Arrays, Lines, Channels, FieldParts, Form, Made, TakeKey, TakeSign, TakeClosing, IfKey, IfSign, ExprOf, ExprIf, TargetOf, NameIn, FnNameIn, LiteralIn, LiteralIf, QuotedIf, ItemIn, MoreItems, MoreOf, MorePrinted, MoreUsing, ClauseIn, Close, Go}
 use Rattle.grammar_machine.specs.MachineForms.{begins_value, has_room, item_form, shape_form, size_form, printed_form, using_value_form}
 use Rattle.grammar_machine.specs.MachineMoves.{MachineMove, Shifts, Skips, Refuses, expression, expression_if, more_of_list, tab_form, more_printed, more_using, form_move_with}
@@ -24,7 +23,7 @@ use Rattle.grammar_machine.proofs.FormBack.{through_form, behind_step, key_back,
 
 -- ---- elements
 
--- an element, and what stands behind it
+-- an element, and what follows it
 abbrev pub ReadsItem : Sequence → (Item → Form) → List LevelStep → Value → Type 0
 ReadsItem s g p v = (item : Item) × (q : List LevelStep) × (p ≡ pieces_steps (item_pieces item) ++ q) × Belongs s item × ArePieces (item_pieces item) × Reads (g item) q v
 
@@ -93,7 +92,7 @@ item_read FieldParts g p v h =
 
 -- ---- lists
 
--- where more of a list is read behind its first elements, so it is behind one element less
+-- if more of a list is read after its first elements, so it is after one element less
 pub one_item_more : (s : Sequence) (items : List Item) (g : List Item → Form) (p : List LevelStep) (v : Value) → has_room s items ≡ true → Reads (item_form s (λ item. MoreOf s (items ++ item ∷ []) g)) p v → Reads (MoreOf s items g) (mark sign.Comma ∷ p) v
 one_item_more s items g p v room h =
     let i = item_read s (λ item. MoreOf s (items ++ item ∷ []) g) p v h in
@@ -119,7 +118,7 @@ list_back s items g vs None m back = through_form (MoreOf s items g) (g items) v
 
 -- ---- PRINT
 
--- what stands behind an item, as more of PRINT
+-- what follows an item, as more of PRINT
 abbrev ReadsPrinted : Option PrintChannelTree → List PrintItemTree → List WordPiece → List LevelStep → Value → Type 0
 ReadsPrinted c items front p v = Reads (MorePrinted c items) (pieces_steps front ++ p) v
 
@@ -168,7 +167,7 @@ print_back c items vs o =
 
 -- ---- PRINT USING
 
--- what stands behind a value, as more of PRINT USING
+-- what follows a value, as more of PRINT USING
 abbrev ReadsUsed : Option Tree → Tree → List UsingItemTree → Tree → List LevelStep → Value → Type 0
 ReadsUsed c format values t p v = Reads (MoreUsing c format values) (steps_of t ++ p) v
 

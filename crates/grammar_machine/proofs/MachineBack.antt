@@ -14,7 +14,7 @@ use Rattle.basic_tree.specs.SpellingWords.{Word, Key, Punctuation, Named, FnName
 use Rattle.basic_tree.specs.Trees.{Tree, Literal, Quoted, FunctionOf, Parenthesized, Negative, Positive, Not, Trees, NoTrees, AndTrees}
 use Rattle.basic_tree.specs.SpellingExpressions.{mark, steps_of, list_steps, more_steps, is_text, Fits, level_of, Fill, IsTree, AreTrees}
 use Rattle.basic_tree.specs.GrammarTables.{sign_level, relation_level, not_level, operator_word, relation_sign, function_keyword, arguments_of, gives_text}
-use Rattle.grammar_machine.specs.GrammarWords.{operator_of, relation_of, function_of, sign_number, is_same_sign}
+use Rattle.grammar_machine.specs.GrammarWords.{operator_of, relation_of, function_of}
 use Rattle.grammar_machine.specs.MachineStack.{Term, Several, Values, with_last, made, others, Action, MakeFunction, MakeNegative, MakePositive, MakeNot, Symbol, Level, More, MoreRelations, Close, Do, Subscripts, Arguments}
 use Rattle.grammar_machine.specs.MachineMoves.{MachineMove, Shifts, Skips, Refuses}
 use Rattle.grammar_machine.specs.MachineMoves.{Closes as Ends}
@@ -64,7 +64,7 @@ arguments_back (w ∷ ws) f k vs q u h =
     let g = more_back ws f (AndTrees i.0 NoTrees) k vs i.1 u i.4 in
     (AndTrees i.0 g.0, g.1, h.1 ∙ ap (λ x. Opens (Punctuation sign.Opening) ∷ x) (i.2 ∙ ap (λ x. steps_of i.0 ++ x) g.2 ∙ sym (append_assoc (steps_of i.0) (more_steps g.0) g.1)), (i.3.tree, g.3), (i.3.kind, g.4), g.5)
 
--- each table of words, there and back
+-- each table of words, in both directions
 abbrev keyword_for : Keyword → Option Function → Keyword
 keyword_for k None = k
 keyword_for k (Some f) = function_keyword f
@@ -143,7 +143,7 @@ atom_back w vs (Item item) = tt
 
 -- ---- signs and NOT
 
--- what begins at a tighter level begins at this one
+-- what begins at a higher precedence begins at this one
 raise : (l m : ℕ) → l ≤ m → (w : Want) (vs : Values) (t : Word) (s : Option Start) → StartBack l w vs t s → StartBack m w vs t s
 raise l m le w vs t None h = tt
 raise l m le w vs t (Some s) h = λ k q u r. let g = h k q u r in (g.0, g.1, g.2, record { tree = g.3.tree; within = omega (arith, g.3.within); kind = g.3.kind }, g.4)
@@ -201,7 +201,7 @@ start_behind : (l m : ℕ) (v w : Want) (vs : Values) (t : Word) (s : Option Sta
 start_behind l m v w vs t None more grow h = tt
 start_behind l m v w vs t (Some s) more grow h = λ k q u r. grow k (taken s.opens t ∷ q) u (h (more ++ k) q u (subst (λ x. Spelled x s.values q u) (append_assoc s.expected more k) r))
 
--- what the rank of a level says of it
+-- what the rank of a level says about it
 abbrev pub RankFact : Rank → ℕ → Type 0
 RankFact Signs n = n ≡ sign_level
 RankFact Relations n = n ≡ relation_level
@@ -235,23 +235,3 @@ MoveBack s vs (Some t) (Shifts opens vs' ns) = TakesBack opens s vs vs' t ns
 MoveBack s vs o (Skips vs') = (k : List Symbol) (q : List LevelStep) (u : Values) → Spelled k vs' q u → Spelled (s ∷ k) vs q u
 MoveBack s vs o (Ends vs') = (k : List Symbol) (q : List LevelStep) (u : Values) → Spelled k vs' q u → Spelled (s ∷ k) vs (Closes ∷ q) u
 MoveBack s vs o Refuses = Unit {0}
-
--- ---- signs by number
-
--- the sign with a number
-abbrev sign_from : ℕ → List Sign → Sign
-sign_from n [] = sign.Plus
-sign_from zero (s ∷ ss) = s
-sign_from (suc n) (s ∷ ss) = sign_from n ss
-
-abbrev all_signs : List Sign
-all_signs =
-    sign.Plus ∷ sign.Plus ∷ sign.Minus ∷ sign.Star ∷ sign.Slash ∷ sign.Caret ∷ sign.DoubleStar ∷ sign.Opening ∷ sign.Closing ∷ sign.Comma ∷ sign.Semicolon
-    ∷ sign.Colon ∷ sign.Backslash ∷ sign.Hash ∷ sign.Equal ∷ sign.Same ∷ sign.Less ∷ sign.Greater ∷ sign.LessOrEqual ∷ sign.GreaterOrEqual ∷ sign.Different ∷ []
-
-numbered : (s : Sign) → sign_from (sign_number s) all_signs ≡ s
-numbered sign.Plus = refl
-numbered s = refl
-
-pub same_sign : (s t : Sign) → is_same_sign s t ≡ true → s ≡ t
-same_sign s t h = sym (numbered s) ∙ ap (λ n. sign_from n all_signs) (eqb-true (sign_number s) (sign_number t) h) ∙ numbered t

@@ -83,7 +83,7 @@ abbrev pub AllLead : ℕ → Trees → Type 0
 AllLead n NoTrees = Unit {0}
 AllLead n (AndTrees a more) = TreeLeads n (level_of a) a × AllLead n more
 
--- an expression of a list, up to what stands behind it
+-- an expression of a list, up to what follows it
 pub one_of_list : (n : ℕ) (a : Tree) (more : Trees) → IsTree a → TreeLeads n (level_of a) a → (w : Want) (r : List Word) (k : List Symbol) (vs : Values) → Fits w a → run n (words (steps_of a ++ more_steps more) ++ r) (Level loosest w ∷ k) vs ≡ run n (words (more_steps more) ++ r) k (Term a ∷ vs)
 one_of_list n a more i x w r k vs f =
     ap (λ ws. run n ws (Level loosest w ∷ k) vs) (words_parts (steps_of a) (more_steps more) r)
@@ -116,7 +116,7 @@ arguments_lead (AndTrees a more) (suc n) i d x (w ∷ ws) h f r k vs =
     ∙ run_do n Collect (words (more_steps more) ++ r) (more_expected ws ++ Do (MakeFunction f) ∷ k) (Term a ∷ Several NoTrees ∷ vs)
     ∙ more_leads more n i.1 (x n (omega (arith, d))).1 ws h.1 f (AndTrees a NoTrees) r k vs
 
--- subscripts, behind their parenthesis
+-- subscripts, after their parenthesis
 pub subscripts_lead : (a : Tree) (more : Trees) (n : ℕ) → IsTree a → AreTrees more → TreeLeads n (level_of a) a → AllLead n more → AreSubscripts (AndTrees a more) → (k : List Symbol) (vs : Values) (r : List Word) → run n (words (steps_of a ++ more_steps more) ++ r) (Level loosest want.Number ∷ Do Collect ∷ SecondSubscript ∷ Expect sign.Closing ∷ Close ∷ k) (Several NoTrees ∷ vs) ≡ run (suc n) r k (Several (AndTrees a more) ∷ vs)
 unfolding run
 subscripts_lead a NoTrees n i is x xs h k vs r =

@@ -16,12 +16,12 @@ use Rattle.basic_tree.specs.Trees.{Literal, Variable, FunctionOf, Call, Negative
 use Rattle.grammar_machine.specs.MachineStack.{Term, Level, loosest}
 use Rattle.grammar_machine.specs.MachineRun.{Wrong, TooDeep, MachineOutcome, run}
 
--- the words of a line's bytes; none where the line is refused
+-- the words of a line's bytes; none if the line is rejected
 abbrev words_in : Reading → List Word
 words_in (Ok tokens) = words_of tokens
 words_in (Err refusal) = []
 
--- what the machine reads of a line where an expression is wanted
+-- what the machine reads of a line if an expression is wanted
 abbrev reading : Want → List ℕ → MachineOutcome
 reading w bytes = run most_levels (words_in (tokens_of bytes)) (Level loosest w ∷ []) []
 
@@ -75,7 +75,7 @@ a_number_of_a_text : reading want.Either (codes "LEN(5%)") ≡ Err (Wrong (words
 unfolding keywords signs letter_front digit_front quote_front sign_front front_of items_from tokens_from run
 a_number_of_a_text = refl
 
--- a text may begin a relation, so nothing is wrong before the end
+-- a string may begin a relation, so nothing is wrong before the end
 a_text_alone : reading want.Number (codes "A$") ≡ Err (Wrong [])
 unfolding keywords signs letter_front digit_front quote_front sign_front front_of items_from tokens_from run
 a_text_alone = refl
@@ -114,17 +114,17 @@ abbrev in_parentheses : ℕ → List Word → List Word
 in_parentheses zero rest = rest
 in_parentheses (suc n) rest = Punctuation sign.Opening ∷ in_parentheses n rest
 
--- the 65th parenthesis is refused
+-- the 65th parenthesis is rejected
 sixty_five_parentheses : run most_levels (in_parentheses 65 (Number 1 ∷ [])) (Level loosest want.Number ∷ []) [] ≡ Err (TooDeep (Punctuation sign.Opening ∷ Number 1 ∷ []))
 unfolding run
 sixty_five_parentheses = refl
 
--- in 64 parentheses LEN is taken, and its parenthesis is refused
+-- within 64 parentheses LEN is taken, and its parenthesis is rejected
 a_function_in_parentheses : run most_levels (in_parentheses 64 (Key keyword.Len ∷ Punctuation sign.Opening ∷ [])) (Level loosest want.Number ∷ []) [] ≡ Err (TooDeep (Punctuation sign.Opening ∷ []))
 unfolding run
 a_function_in_parentheses = refl
 
--- where another word stands behind LEN, that one is wrong
+-- if another word follows LEN, that word is wrong
 a_function_without_arguments : run most_levels (in_parentheses 64 (Key keyword.Len ∷ Number 1 ∷ [])) (Level loosest want.Number ∷ []) [] ≡ Err (Wrong (Number 1 ∷ []))
 unfolding run
 a_function_without_arguments = refl

@@ -1,4 +1,4 @@
--- The words of an expression lead the machine to its tree: from a level to a looser one.
+-- The words of an expression lead the machine to its tree: from a precedence level to a lower one.
 use Rattle.std.proofs.Common.{subst, ◌≡◌, ◌+◌, ◌-◌, ℕ, zero, suc, ◌≤◌, Bool, true, false, List, [], ◌∷◌, ◌++◌, refl, sym, ap, ◌∙◌, append_assoc, arith}
 use Rattle.basic_tree.specs.declared.expressions.Operator.{Operator}
 use Rattle.basic_tree.specs.declared.expressions.Operator.TheVariants as operator
@@ -16,12 +16,12 @@ use Rattle.grammar_machine.specs.MachineRun.{run}
 use Rattle.grammar_machine.proofs.MachineBack.{RankFact, rank_fact}
 use Rattle.grammar_machine.proofs.MachineSteps.{is_plus_or_minus, is_not, First, run_chain, run_relations, run_signs, run_nots, continues, NoMore, no_operator, no_relations, is_opening}
 
--- no operator or relation of a tighter level stands first
+-- the first word is no operator or relation that binds more tightly
 abbrev pub Follows : ℕ → List Word → Type 0
 Follows zero r = Unit {0}
 Follows (suc l) r = Follows l r × NoMore l r
 
--- the last word of a tree is a name, whose list would go on
+-- the last word of a tree is a name, which a list could follow
 abbrev pub ends_bare : Tree → Bool
 ends_bare (Variable name) = true
 ends_bare (Call name NoTrees) = true
@@ -33,11 +33,11 @@ ends_bare (Operation a o b) = ends_bare b
 ends_bare (Comparison a r b) = ends_bare b
 ends_bare other = false
 
--- behind a name no parenthesis stands
+-- no parenthesis follows a name
 abbrev pub Parted : Tree → List Word → Type 0
 Parted t r = ends_bare t ≡ true → First is_opening r
 
--- what is still expected behind an operand of a level, and what is wanted of it
+-- what is still expected after an operand of a level, and which kind is wanted
 abbrev pub more_ranked : Rank → ℕ → Want → List Symbol
 more_ranked Signs l w = []
 more_ranked Relations l w = relations w
@@ -86,7 +86,7 @@ skip_ranked Relations n l w r k t vs f h = no_relations n r w k t vs f (relation
 skip_ranked Nots n l w r k t vs f h = refl
 skip_ranked Chain n l w r k t vs f h = no_operator n l r k t vs h
 
--- where no more of a level stands, what is expected of it is skipped
+-- if no more operands of a level follow, what is expected of it is skipped
 pub skip_more : (n l : ℕ) (w : Want) (r : List Word) (k : List Symbol) (t : Tree) (vs : Values) → Fits w t → NoMore l r → run n r (more_at l w ++ k) (Term t ∷ vs) ≡ run n r k (Term t ∷ vs)
 skip_more n zero w r k t vs f h = refl
 skip_more n (suc l) w r k t vs f h = skip_ranked (rank_of (suc l)) n (suc l) w r k t vs f h
@@ -114,26 +114,20 @@ operator_loose : (o : Operator) → operator_level o ≤ 1 → o ≡ operator.Po
 operator_loose operator.Power h = refl
 operator_loose o h = absurd (omega (arith, h))
 
--- a tree that is no sign and binds tighter begins with none
+-- a tree that is not a sign and binds more tightly does not begin with a sign
 pub no_sign_first : (t : Tree) (r : List Word) → IsTree t → level_of t ≤ 1 → First is_plus_or_minus (words (steps_of t) ++ r)
-no_sign_first (Literal n) r i h = refl
-no_sign_first (Quoted text) r i h = refl
-no_sign_first (Variable name) r i h = refl
-no_sign_first (Element name ts) r i h = refl
-no_sign_first (FunctionOf f ts) r i h = refl
-no_sign_first (Call name ts) r i h = refl
-no_sign_first (Parenthesized a) r i h = refl
 no_sign_first (Negative a) r i h = absurd (omega (arith, h))
 no_sign_first (Positive a) r i h = absurd (omega (arith, h))
 no_sign_first (Not a) r i h = absurd (omega (arith, h))
 no_sign_first (Operation a o b) r i h = subst (λ x. First is_plus_or_minus x) (sym (words_parts (steps_of a) (Plain _ ∷ steps_of b) r)) (no_sign_first a _ i.0 (omega (arith, h, i.2)))
 no_sign_first (Comparison a o b) r i h = absurd (omega (arith, h))
+no_sign_first t r i h = refl
 
 function_is_no_not : (f : Function) → is_not (Key (function_keyword f)) ≡ false
 function_is_no_not function.Len = refl
 function_is_no_not f = refl
 
--- a tree that is no NOT and binds tighter begins with none
+-- a tree that is not a NOT and binds more tightly does not begin with NOT
 pub no_not_first : (t : Tree) (r : List Word) → IsTree t → level_of t ≤ 5 → First is_not (words (steps_of t) ++ r)
 no_not_first (Literal n) r i h = refl
 no_not_first (Quoted text) r i h = refl
@@ -148,9 +142,9 @@ no_not_first (Not a) r i h = absurd (omega (arith, h))
 no_not_first (Operation a o b) r i h = subst (λ x. First is_not x) (sym (words_parts (steps_of a) (Plain _ ∷ steps_of b) r)) (no_not_first a _ i.0 (omega (arith, h, i.2)))
 no_not_first (Comparison a o b) r i h = subst (λ x. First is_not x) (sym (words_parts (steps_of a) (Plain _ ∷ steps_of b) r)) (no_not_first a _ i.0 (omega (arith, h, i.2)))
 
--- ---- from a level to a looser one
+-- ---- from a precedence level to a lower one
 
--- as TreeLeads at the level behind l, whose rank is x
+-- as TreeLeads, at the level after l, whose rank is x
 abbrev RankedLeads : Rank → ℕ → ℕ → Tree → Type 0
 RankedLeads x n l t = (w : Want) (r : List Word) (k : List Symbol) (vs : Values) → Fits (first_ranked x w) t → Follows (suc l) r → Parted t r → run n (words (steps_of t) ++ r) (Level (suc l) w ∷ k) vs ≡ run n r (more_ranked x (suc l) w ++ k) (Term t ∷ vs)
 
@@ -171,7 +165,7 @@ raise_ranked Chain n l t e i h d = λ w r k vs f s p. run_chain n l w (words (st
 pub raise_leads : (n l : ℕ) (t : Tree) → IsTree t → level_of t ≤ l → TreeLeads n l t → TreeLeads n (suc l) t
 raise_leads n l t i h d = record { by = raise_ranked (rank_of (suc l)) n l t refl i h d }
 
--- to any looser level
+-- to any lower precedence
 to_level : (d l m : ℕ) (n : ℕ) (t : Tree) → m ≡ d + l → IsTree t → level_of t ≤ l → TreeLeads n l t → TreeLeads n m t
 to_level zero l m n t e i h x = subst (λ (y : ℕ). TreeLeads n y t) (sym (e ∙ omega arith)) x
 to_level (suc d) l m n t e i h x =

@@ -1,4 +1,4 @@
--- The levels of the words that the machine passed: none is too deep.
+-- The nesting depths of the words that the machine passed: none is too deep.
 use Rattle.std.proofs.Common.{subst, ◌≡◌, ℕ, suc, ◌+◌, ◌-◌, ◌≤◌, All, List, [], ◌∷◌, ◌++◌, length, take, refl, sym, append_assoc, arith}
 use Rattle.std.proofs.lemmas.List.Elements.{All-nil, All-cons}
 use Rattle.basic_tree.specs.SpellingWords.{LevelStep, Plain, Opens, Closes, words, levels, most_levels}
@@ -6,7 +6,7 @@ use Rattle.basic_tree.specs.Trees.{Tree, Literal, Quoted, Variable, Element, Fun
 use Rattle.basic_tree.specs.SpellingExpressions.{steps_of, list_steps, more_steps}
 use Rattle.grammar_machine.proofs.MachinePasses.{Counts}
 
--- no level ends that has not been opened, where so many are open before
+-- no level ends that was not opened, if this many are open before
 abbrev pub Above : ℕ → List LevelStep → Type 0
 Above depth [] = Unit {0}
 Above depth (Plain w ∷ steps) = Above depth steps
@@ -40,7 +40,7 @@ mutual
   more_above NoTrees depth q h = (depth, refl, h)
   more_above (AndTrees a more) depth q h = moved_right (steps_of a) (more_steps more) q (suc depth) (tree_above a (suc depth) (more_steps more ++ q) (more_above more depth q h))
 
--- where no step opens a level too many, no word stands too deep
+-- if no step opens a level too many, no word is nested too deep
 pub flat : (g q : List LevelStep) (n m depth : ℕ) → n + depth ≡ most_levels → Counts n g m → Above depth (g ++ q) → All (λ level. level ≤ most_levels) (take (length (words g)) (levels depth (g ++ q)))
 flat [] q n m depth e c a = All-nil (λ level. level ≤ most_levels)
 flat (Plain w ∷ g) q n m depth e c a = All-cons (λ level. level ≤ most_levels) depth (take (length (words g)) (levels depth (g ++ q))) (omega (arith, e)) (flat g q n m depth e c a)

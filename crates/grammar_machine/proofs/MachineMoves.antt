@@ -1,4 +1,4 @@
--- Each move of the machine's symbols, and a turn of its whole stack, took what is spelled so.
+-- What each move of the machine's symbols, and a turn of its whole stack, took is spelled so.
 use Rattle.std.proofs.Common.{subst, ◌&&◌, ◌||◌, ◌==◌, not, ◌≡◌, ℕ, ◌≤◌, Bool, true, false, cond, List, [], ◌∷◌, ◌++◌, Option, Some, None, refl, sym, ap, ◌∙◌, append_assoc, arith}
 use Rattle.std.proofs.lemmas.Bool.{eqb-true}
 use Rattle.basic_tree.specs.declared.names.Name.{Name}
@@ -14,14 +14,14 @@ use Rattle.basic_tree.specs.Trees.{Tree, Variable, Element, Call, Negative, Posi
 use Rattle.basic_tree.specs.SpellingExpressions.{mark, steps_of, more_steps, is_text, Fits, want_of, level_of, is_exponent, IsRight, AreSubscripts, IsTree}
 use Rattle.basic_tree.specs.GrammarTables.{sign_level, relation_level, operator_level, operator_word, joins_texts, relation_sign}
 use Rattle.grammar_machine.specs.GrammarWords.{operator_of, relation_of, is_same_sign}
-use Rattle.grammar_machine.specs.MachineStack.{Term, Several, Values, top, several, below, kept, kept_several, made, others, Action, MakeOperation, MakeComparison, Symbol, Level, More, MoreRelations, Exponent, Expect, Opening, Close, Do, Subscripts, SecondSubscript, Arguments, MoreArguments, Go, Await, AwaitClause, Modifiers, OneStatement, MoreStatements}
+use Rattle.grammar_machine.specs.MachineStack.{Term, Several, Values, top, several, below, kept, kept_several, made, others, Action, MakeOperation, MakeComparison, Symbol, Level, More, MoreRelations, Exponent, Expect, Opening, Close, Do, Subscripts, SecondSubscript, Arguments, MoreArguments, Go, Await, AwaitClause, Modifiers, OneStatement, MoreStatements, with_last}
 use Rattle.grammar_machine.proofs.SentenceBack.{go_back, await_back, await_clause_back, modifiers_back, one_statement_back, more_statements_back}
 use Rattle.grammar_machine.specs.MachineStarts.{Start, atom, signed, start}
 use Rattle.grammar_machine.specs.MachineMoves.{Shifts, Skips, Refuses, begun, right_of, joined, more_of, no_relation, related, expect, open_list, subscripts, second_subscript, arguments, more_arguments, move}
-use Rattle.grammar_machine.specs.MachineStack.{with_last}
 use Rattle.grammar_machine.specs.MachineMoves.{Closes as Ends}
 use Rattle.grammar_machine.proofs.MachineSpelled.{IsSecond, joined_trees, Spelled, as_is}
-pub use Rattle.grammar_machine.proofs.MachineBack.{MoveBack, same_sign}
+pub use Rattle.grammar_machine.proofs.MachineBack.{MoveBack}
+use Rattle.grammar_machine.proofs.FormWords.{signs_equal}
 use Rattle.grammar_machine.proofs.MachineBack.{TakesBack, StartBack, joined-with_last, start_back, atom_back, operator_back, relation_back}
 
 begun_back : (l : ℕ) (w : Want) (vs : Values) (t : Word) (s : Option Start) → StartBack l w vs t s → MoveBack (Level l w) vs (Some t) (begun s)
@@ -41,15 +41,7 @@ Right o x k vs q u = (b : Tree) × (r : List LevelStep) × (q ≡ steps_of b ++ 
 right_back : (o : Operator) (x : Bool) → (not x || joins_texts o) ≡ true → (k : List Symbol) (vs : Values) (q : List LevelStep) (u : Values) → Spelled (right_of o x ∷ k) vs q u → Right o x k vs q u
 right_back operator.Power false a k vs q u h = (h.0, h.1, h.2, h.3, h.4, h.5, h.6)
 right_back operator.Power true a k vs q u h = absurd cc
-right_back operator.Times x a k vs q u h = (h.0, h.1, h.2, h.3.tree, omega (arith, h.3.within), h.3.kind, h.4)
-right_back operator.Divided x a k vs q u h = (h.0, h.1, h.2, h.3.tree, omega (arith, h.3.within), h.3.kind, h.4)
-right_back operator.Plus x a k vs q u h = (h.0, h.1, h.2, h.3.tree, omega (arith, h.3.within), h.3.kind, h.4)
-right_back operator.Minus x a k vs q u h = (h.0, h.1, h.2, h.3.tree, omega (arith, h.3.within), h.3.kind, h.4)
-right_back operator.And x a k vs q u h = (h.0, h.1, h.2, h.3.tree, omega (arith, h.3.within), h.3.kind, h.4)
-right_back operator.Or x a k vs q u h = (h.0, h.1, h.2, h.3.tree, omega (arith, h.3.within), h.3.kind, h.4)
-right_back operator.Xor x a k vs q u h = (h.0, h.1, h.2, h.3.tree, omega (arith, h.3.within), h.3.kind, h.4)
-right_back operator.Imp x a k vs q u h = (h.0, h.1, h.2, h.3.tree, omega (arith, h.3.within), h.3.kind, h.4)
-right_back operator.Eqv x a k vs q u h = (h.0, h.1, h.2, h.3.tree, omega (arith, h.3.within), h.3.kind, h.4)
+right_back o x a k vs q u h = (h.0, h.1, h.2, h.3.tree, omega (arith, h.3.within), h.3.kind, h.4)
 
 chain_skip : (l : ℕ) (o : Option Word) (vs : Values) → MoveBack (More l) vs o (Skips (kept vs))
 chain_skip l None vs = λ k q u h. (top vs, [], q, refl, as_is l (top vs), refl, h)
@@ -116,7 +108,7 @@ related_back : (t : Word) (b : Bool) (vs : Values) (o : Option Relation) → rel
 related_back t b vs None f = relations_skip (Some t) b (is_text (top vs)) vs refl
 related_back t b vs (Some r) f = subst (λ x. TakesBack false (MoreRelations b) vs vs x (Level 4 (want_of (is_text (top vs))) ∷ Do (MakeComparison r) ∷ MoreRelations b ∷ [])) (relation_back t r f) (related_true b r vs)
 
--- ---- behind `^`
+-- ---- after `^`
 
 exponent_level : (t : Tree) → is_exponent t ≡ true → level_of t ≤ sign_level
 exponent_level (Not a) h = absurd cc
@@ -153,7 +145,7 @@ exponent_back vs other = exponent_atom vs other (atom want.Number vs other) (ato
 -- ---- signs, and the ends of levels
 
 sign_back : (s t : Sign) (vs : Values) (b : Bool) → is_same_sign s t ≡ b → MoveBack (Expect s) vs (Some (Punctuation t)) (cond b (Shifts false vs []) Refuses)
-sign_back s t vs true e = λ k q u h. (q, ap (λ x. mark x ∷ q) (sym (same_sign s t e)), h)
+sign_back s t vs true e = λ k q u h. (q, ap (λ x. mark x ∷ q) (sym (signs_equal s t e)), h)
 sign_back s t vs false e = tt
 
 expect_back : (s : Sign) (vs : Values) (o : Option Word) → MoveBack (Expect s) vs o (expect s vs o)

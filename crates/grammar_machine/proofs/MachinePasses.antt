@@ -1,4 +1,5 @@
--- What the machine does where it passes words: the steps it passed, and how many levels are left.
+-- What the machine does when it passes words: the steps that it passed, and how many levels are
+-- left.
 use Rattle.std.proofs.Common.{◌≡◌, ℕ, zero, suc, ◌+◌, ◌≤◌, Bool, true, false, List, [], ◌∷◌, ◌++◌, length, Option, Some, None, Ok, Err, refl, sym, ap, ◌∙◌, subst, arith, length-append}
 use Rattle.basic_tree.specs.SpellingWords.{Word, LevelStep, Plain, Opens, Closes, words}
 use Rattle.grammar_machine.specs.MachineStack.{Values, Symbol}
@@ -33,7 +34,7 @@ left_short (t ∷ ws) n k vs = go (turn k n vs (Some t)) (λ m vs' k'. left_shor
   go Stuck h = omega arith
   go Deep h = omega arith
 
--- ---- more levels change no turn but one that was too deep
+-- ---- with more levels, every turn is the same, except one that was too deep
 
 abbrev pub Further : ℕ → Turn → Turn → Type 0
 Further d (Next m a b) y = y ≡ Next (m + d) a b
@@ -58,7 +59,7 @@ turn_more (s ∷ k) n d vs o = moved_more (move s vs o) n d k (λ m vs'. turn k 
 
 -- ---- levels
 
--- where so many levels are left, no step opens one too many, and so many are left behind
+-- from this many levels, no step opens one too many, and that many are left after them
 abbrev pub Counts : ℕ → List LevelStep → ℕ → Type 0
 Counts n [] m = n ≡ m
 Counts n (Plain w ∷ steps) m = Counts n steps m
@@ -90,7 +91,7 @@ pub record Passes (p : List Word) (n : ℕ) (k : List Symbol) (vs : Values) (n' 
   pub runs : (d : ℕ) (x : List Word) → run (n + d) (p ++ x) k vs ≡ run (n' + d) x k' vs'
   pub spells : (q : List LevelStep) (u : Values) → Spelled k' vs' q u → Spelled k vs (steps ++ q) u
 
--- where the machine does not stop in front of them
+-- if the machine does not stop before them
 pub passes_front : (p r : List Word) (n : ℕ) (k : List Symbol) (vs : Values) → length (left (run n (p ++ r) k vs)) ≤ length r → (n' : ℕ) × (k' : List Symbol) × (vs' : Values) × Passes p n k vs n' k' vs'
 unfolding run
 passes_front [] r n k vs h = (n, k, vs, record { steps = []; spelled = refl; counts = refl; runs = λ d x. refl; spells = λ q u s. s })
@@ -114,6 +115,6 @@ passes_front (t ∷ p) r n k vs h = go (turn k n vs (Some t)) refl h (λ m b a. 
   go Stuck e l again = absurd (omega (arith, l, length-append p r))
   go Deep e l again = absurd (omega (arith, l, length-append p r))
 
--- where it stops right behind them
+-- if it stops right after them
 pub passes : (p r : List Word) (n : ℕ) (k : List Symbol) (vs : Values) → left (run n (p ++ r) k vs) ≡ r → (n' : ℕ) × (k' : List Symbol) × (vs' : Values) × Passes p n k vs n' k' vs'
 passes p r n k vs h = passes_front p r n k vs (omega (arith, ap length h))

@@ -1,4 +1,4 @@
--- Where the machine stops: nothing that it takes goes on with the word that it refused.
+-- Where the machine stops: nothing that it takes continues with the word that it rejected.
 use Rattle.std.proofs.Common.{subst, ◌≡◌, ℕ, zero, suc, ◌+◌, List, [], ◌∷◌, ◌++◌, length, Some, None, Ok, Err, refl, sym, ap, ◌∙◌, arith}
 use Rattle.basic_tree.specs.SpellingWords.{Word, words}
 use Rattle.grammar_machine.specs.MachineStack.{Values, Symbol}
@@ -7,7 +7,7 @@ use Rattle.grammar_machine.proofs.MachineSpelled.{Spelled}
 use Rattle.grammar_machine.proofs.MachineTurns.{ends, TurnBack, end_back, turn_back}
 use Rattle.grammar_machine.proofs.MachinePasses.{left, left_short, Further, turn_more, passes}
 
--- a word is refused, or all that was expected has ended, whatever the levels
+-- a word is rejected, or all that was expected has ended, however many levels are left
 stops : (d : ℕ) (c : Word) (r : List Word) (n : ℕ) (k : List Symbol) (vs : Values) → left (run n (c ∷ r) k vs) ≡ c ∷ r → (run n (c ∷ r) k vs ≡ Err (TooDeep (c ∷ r)) → ⊥) → (q : List Word) → left (run (n + d) (c ∷ q) k vs) ≡ c ∷ q
 unfolding run
 stops d c r n k vs h not_deep q = go (turn k n vs (Some c)) (turn_more k n d vs (Some c)) h not_deep where
@@ -17,7 +17,7 @@ stops d c r n k vs h not_deep q = go (turn k n vs (Some c)) (turn_more k n d vs 
   go Stuck y l nd = rw y refl
   go Deep y l nd = absurd (nd refl)
 
--- nothing that goes on with that word is taken whole, with any levels
+-- nothing that continues with that word is taken whole, with any number of levels
 pub goes_no_further : (d : ℕ) (p : List Word) (c : Word) (r : List Word) (n : ℕ) (k : List Symbol) (vs : Values) → left (run n (p ++ c ∷ r) k vs) ≡ c ∷ r → (run n (p ++ c ∷ r) k vs ≡ Err (TooDeep (c ∷ r)) → ⊥) → (q : List Word) → left (run (n + d) (p ++ c ∷ q) k vs) ≡ c ∷ q
 goes_no_further d p c r n k vs h nd q =
     let at = passes p (c ∷ r) n k vs h in
@@ -26,7 +26,7 @@ goes_no_further d p c r n k vs h nd q =
     let here = ap (λ i. run i (p ++ c ∷ r) k vs) (sym none) ∙ at.3.runs 0 (c ∷ r) ∙ ap (λ i. run i (c ∷ r) at.1 at.2) left_over in
     ap left (at.3.runs d (c ∷ q)) ∙ stops d c r at.0 at.1 at.2 (ap left (sym here) ∙ h) (λ e. nd (here ∙ e)) q
 
--- what was taken has been spelled, where the machine ends
+-- what was taken has been spelled, at the machine's end
 abbrev pub values : MachineOutcome → Values
 values (Ok x) = x.0
 values (Err e) = []

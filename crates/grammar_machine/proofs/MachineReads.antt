@@ -1,4 +1,4 @@
--- What the steps of a form are, and what they read as.
+-- What the steps of a form are, and as what they are read.
 use Rattle.std.proofs.Common.{◌≡◌, ℕ, Bool, true, false, ◌⊎◌, List, [], ◌∷◌, ◌++◌, Option, Some, None}
 use Rattle.basic_tree.specs.declared.tokens.Sign.TheVariants as sign
 use Rattle.basic_tree.specs.declared.kinds.Want.TheVariants as want
@@ -6,14 +6,13 @@ use Rattle.basic_tree.specs.SpellingWords.{Word, Key, Punctuation, Named, FnName
 use Rattle.basic_tree.specs.SpellingWords.{Item as ItemOf}
 use Rattle.basic_tree.specs.Trees.{Tree, Variable, PrintedTree, ModifierTree, PrintItemTree, UsingItemTree, ClauseTree, StatementTree, Modified, Print, PrintUsing}
 use Rattle.basic_tree.specs.SpellingExpressions.{mark, steps_of, Fits, IsTree}
-use Rattle.basic_tree.specs.SpellingParts.{is_target, optional, each, first_word}
-use Rattle.grammar_machine.specs.MachinePieces.{WordPiece, Expression, Holds, pieces_steps, ArePieces, line, sign_piece}
-use Rattle.grammar_machine.specs.MachineParts.{shape, file_shape, printed, print_item, using_values, name, modifier, close_channel, field_part}
-use Rattle.grammar_machine.specs.MachineStatements.{clause_pieces, statement_pieces}
+use Rattle.basic_tree.specs.SpellingPieces.{is_target, optional, each, WordPiece, Expression, Holds, pieces_steps, ArePieces, line, sign_piece}
+use Rattle.basic_tree.specs.SpellingParts.{first_word, shape, file_shape, printed, print_item, using_values, name, modifier, close_channel, field_part}
+use Rattle.basic_tree.specs.SpellingStatements.{clause_pieces, statement_pieces}
 use Rattle.grammar_machine.specs.MachineStack.{Value, Stated, Item, TargetItem, ShapeItem, FileItem, NameItem, LineItem, ChannelItem, FieldItem, Sequence, Targets, Shapes, FileShapes, Parameters, Arrays, Lines, Channels, FieldParts, within, Form, Made, TakeKey, TakeSign, TakeClosing, IfKey, IfSign, ExprOf, ExprIf, TargetOf, NameIn, FnNameIn, LiteralIn, LiteralIf, QuotedIf, ItemIn, MoreItems, MoreOf, MorePrinted, MoreUsing, ClauseIn}
 use Rattle.grammar_machine.specs.MachineForms.{has_room}
 
--- a word that opens a level or does not
+-- a word, which may open a level
 abbrev pub taken : Bool → Word → LevelStep
 taken true t = Opens t
 taken false t = Plain t
@@ -41,7 +40,7 @@ Belongs Channels (ChannelItem c) = Unit {0}
 Belongs FieldParts (FieldItem part) = Unit {0}
 Belongs s item = ⊥
 
--- the elements behind those before, each behind a comma
+-- the elements after those before, each after a comma
 abbrev pub AreItems : Sequence → List Item → List Item → Type 0
 AreItems s before [] = Unit {0}
 AreItems s before (item ∷ items) = (has_room s before ≡ true) × Belongs s item × ArePieces (item_pieces item) × AreItems s (before ++ item ∷ []) items
@@ -64,7 +63,7 @@ passes_first test (Some t) = test t
 abbrev pub print_pieces : List PrintItemTree → Option PrintedTree → List WordPiece
 print_pieces items last = each print_item items ++ optional printed last
 
--- the steps are those of the form, and read as the value
+-- the steps are those of the form, and are read as the value
 abbrev pub Reads : Form → List LevelStep → Value → Type 0
 Reads (Made v) p u = (p ≡ []) × (v ≡ u)
 Reads (TakeKey opens k f) p u = (q : List LevelStep) × (p ≡ taken opens (Key k) ∷ q) × Reads f q u

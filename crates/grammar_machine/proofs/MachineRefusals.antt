@@ -1,4 +1,4 @@
--- Words that are refused because of what stands behind them are no expression.
+-- Words that are rejected because of what follows them are not an expression.
 use Rattle.std.proofs.Common.{subst, ◌&&◌, ◌||◌, ◌==◌, not, ◌≡◌, ℕ, zero, suc, ◌+◌, Bool, true, false, List, [], ◌∷◌, ◌++◌, length, Option, Some, None, Ok, Err, refl, ap, arith, length-append}
 use Rattle.basic_tree.specs.declared.tokens.Sign.TheVariants as sign
 use Rattle.basic_tree.specs.declared.expressions.Operator.{Operator}
@@ -14,7 +14,7 @@ use Rattle.grammar_machine.proofs.MachinePasses.{left, left_short, Further, turn
 use Rattle.grammar_machine.proofs.MachineStops.{TakesWhole}
 use Rattle.grammar_machine.proofs.ExpressionSymbols.{InExpressions, ALevel, AMore, AMoreRelations, AnExponent, AnExpect, AnOpening, AClose, ADo, ASubscripts, ASecondSubscript, AnArguments, AMoreArguments, AllInExpressions, TurnsIn, turn_in}
 
--- ---- a symbol that is done where the words end is done before a word too, or takes the word
+-- ---- a symbol that is done at the end of the words is also done before a word, or takes the word
 
 abbrev GoesOn : MachineMove → MachineMove → Type 0
 GoesOn (Shifts opens a b) y = Unit {0}
@@ -59,7 +59,7 @@ goes_on (AnArguments name) vs c = refl
 goes_on AMoreArguments vs (Punctuation sign.Comma) = tt
 goes_on AMoreArguments vs c = refl
 
--- ---- so does a stack
+-- ---- the same for a stack
 
 entered_not_stuck : (b : Bool) (n : ℕ) (vs : Values) (k : List Symbol) → entered b n vs k ≡ Stuck → ⊥
 entered_not_stuck false n vs k h = cc
@@ -115,6 +115,6 @@ refused_behind (t ∷ p) r n d k vs u i h g = go (turn k n vs (Some t)) (turn_mo
   go Stuck y i h g on = omega (arith, ap (λ o. length (left o)) h, length-append p r)
   go Deep y i h g on = cc
 
--- words behind which the machine refuses what follows are no whole
+-- words after which the machine rejects the next word are no whole
 pub none_there : (whole : List Word → Type 0) (k : List Symbol) (vs : Values) → AllInExpressions k → TakesWhole whole k vs → (p r : List Word) → run most_levels (p ++ r) k vs ≡ Err (Wrong r) → whole p → ⊥
 none_there whole k vs i takes p r h x = let t = takes p x in refused_behind p r most_levels t.0 k vs t.1 i h t.2

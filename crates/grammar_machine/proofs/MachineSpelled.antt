@@ -11,11 +11,10 @@ use Rattle.basic_tree.specs.Trees.{Tree, Literal, Quoted, Variable, Call, Compar
 use Rattle.basic_tree.specs.SpellingExpressions.{mark, steps_of, more_steps, is_text, Fits, level_of, is_exponent, IsTree, AreTrees}
 use Rattle.basic_tree.specs.GrammarTables.{relation_level}
 use Rattle.grammar_machine.specs.MachineStack.{Value, Term, Several, Stated, Parsed, Values, top, several, stated, parsed, below, with_statement, made, others, Limit, LineNumber, Bound, Size, within, Form, Made, TakeKey, TakeSign, TakeClosing, IfKey, IfSign, ExprOf, ExprIf, TargetOf, NameIn, FnNameIn, LiteralIn, LiteralIf, QuotedIf, ItemIn, MoreItems, MoreOf, MorePrinted, MoreUsing, ClauseIn, Symbol, Level, More, MoreRelations, Exponent, Expect, Opening, Close, Do, Subscripts, SecondSubscript, Arguments, MoreArguments, Go, Await, AwaitClause, Modifiers, OneStatement, MoreStatements}
-use Rattle.basic_tree.specs.SpellingParts.{each}
-use Rattle.grammar_machine.specs.MachinePieces.{pieces_steps, ArePieces}
+use Rattle.basic_tree.specs.SpellingPieces.{each, pieces_steps, ArePieces}
 use Rattle.grammar_machine.proofs.MachineReads.{Reads, modifiers_steps, AreModifiers, modified_by, place_pieces, separated}
 
--- a tree of a level and a wanted kind
+-- a tree of a precedence level and a wanted kind
 pub record Fine (l : ℕ) (w : Want) (t : Tree) : Type 0 where
   pub tree : IsTree t
   pub within : level_of t ≤ l
@@ -55,7 +54,7 @@ abbrev pub joined_trees : Trees → Trees → Trees
 joined_trees NoTrees more = more
 joined_trees (AndTrees a ts) more = AndTrees a (joined_trees ts more)
 
--- the steps take all that is expected, from these values to those
+-- the steps take all that is expected, and lead from these values to those
 abbrev pub Spelled : List Symbol → Values → List LevelStep → Values → Type 0
 Spelled [] vs p u = (p ≡ []) × (vs ≡ u)
 Spelled (Level l w ∷ k) vs p u = (t : Tree) × (r : List LevelStep) × (p ≡ steps_of t ++ r) × Fine l w t × Spelled k (Term t ∷ vs) r u

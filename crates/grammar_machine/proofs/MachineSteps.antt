@@ -1,4 +1,4 @@
--- Single steps of the machine: how a level begins as a tighter one does, and what is skipped.
+-- Single steps of the machine: how a level begins as a higher one does, and what is skipped.
 use Rattle.std.proofs.Common.{◌==◌, ◌≡◌, ℕ, suc, Bool, true, false, List, [], ◌∷◌, ◌++◌, Option, Some, None, refl, ap, ◌∙◌, append_assoc}
 use Rattle.basic_tree.specs.declared.names.Name.{Name}
 use Rattle.basic_tree.specs.declared.tokens.Keyword.TheVariants as keyword
@@ -26,7 +26,7 @@ moved_behind (Some s) n more k f g = rw append_assoc refl
 run_turned : (t : Word) (ts : List Word) (x y : Turn) → x ≡ y → turned x (t ∷ ts) (λ m vs' k'. run m ts k' vs') ≡ turned y (t ∷ ts) (λ m vs' k'. run m ts k' vs')
 run_turned t ts x y e = ap (λ (z : Turn). turned z (t ∷ ts) (λ m vs' k'. run m ts k' vs')) e
 
--- no sign stands first, or no NOT
+-- the first word is no sign, or no NOT
 abbrev pub is_plus_or_minus : Word → Bool
 is_plus_or_minus (Punctuation sign.Plus) = true
 is_plus_or_minus (Punctuation sign.Minus) = true
@@ -85,7 +85,7 @@ unfolding run
 run_close n [] k vs = refl
 run_close n (t ∷ ts) k vs = refl
 
--- ---- where no more of a level stands
+-- ---- if no more of a level follows
 
 abbrev pub is_operator_at : ℕ → Option Operator → Bool
 is_operator_at l None = false
@@ -125,7 +125,7 @@ no_relations n ts want.Number k a vs fits h = skips_relation n ts true k a vs (r
 no_relations n ts want.Text k a vs fits h = refl
 no_relations n ts want.Either k a vs fits h = skips_relation n ts false k a vs refl h
 
--- behind a name no list opens
+-- no list opens after a name
 abbrev pub is_opening : Word → Bool
 is_opening (Punctuation sign.Opening) = true
 is_opening other = false

@@ -1,4 +1,5 @@
--- Where the machine stops, from any stack: what was spelled, how deep its words stand, and what goes no further.
+-- Where the machine stops, from any stack: what was spelled, how deep its words are nested, and
+-- what cannot continue.
 use Rattle.std.proofs.Common.{subst, ◌≡◌, ℕ, zero, suc, ◌+◌, ◌-◌, List, [], ◌∷◌, ◌++◌, length, Some, None, Ok, Err, refl, sym, ap, ◌∙◌, arith}
 use Rattle.std.specs.Prelude.{nat_lt, position}
 use Rattle.std.proofs.lemmas.List.{append-nil}
@@ -14,14 +15,14 @@ use Rattle.grammar_machine.proofs.DeepLevels.{first, later, never}
 use Rattle.grammar_machine.proofs.MachineLevels.{Above, flat}
 use Rattle.grammar_machine.proofs.MachinePlaces.{goes_no_further, ended, words_of_ends}
 
--- the machine at the place that it has come to, with the levels that are left
+-- the machine at the place that it has reached, with the levels that are left
 pub goes_on_from : (p : List Word) (n : ℕ) (k : List Symbol) (vs : Values) (n' : ℕ) (k' : List Symbol) (vs' : Values) → Passes p n k vs n' k' vs' → (x : List Word) → run n (p ++ x) k vs ≡ run n' x k' vs'
 goes_on_from p n k vs n' k' vs' h x =
     let none : n + 0 ≡ n = omega arith in
     let left_over : n' + 0 ≡ n' = omega arith in
     ap (λ i. run i (p ++ x) k vs) (sym none) ∙ h.runs 0 x ∙ ap (λ i. run i x k' vs') left_over
 
--- where no level is left, the next word that opens one is too deep
+-- if no level is left, the next word that opens one is too deep
 pub deep_at : (g q : List LevelStep) (c : Word) (n depth : ℕ) → n + depth ≡ most_levels → Counts n g 0 → Above depth (g ++ Opens c ∷ q) → position (λ level. nat_lt most_levels level) (levels depth (g ++ Opens c ∷ q)) ≡ Some (length (words g))
 deep_at [] q c n depth e h a = first (depth + 1) (levels (depth + 1) q) (omega (arith, e, h))
 deep_at (Plain w ∷ g) q c n depth e h a = later depth (levels depth (g ++ Opens c ∷ q)) (length (words g)) (omega (arith, e)) (deep_at g q c n depth e h a)
@@ -37,7 +38,7 @@ no_levels : (c depth : ℕ) → levels depth (ends c []) ≡ []
 no_levels zero depth = refl
 no_levels (suc c) depth = no_levels c (depth - 1)
 
--- the same steps, and the ends of levels: no word is too deep
+-- with the same steps and the ends of levels, no word is too deep
 pub none_deep : (g : List LevelStep) (c n m depth : ℕ) → n + depth ≡ most_levels → Counts n g m → Above depth (g ++ ends c []) → position (λ level. nat_lt most_levels level) (levels depth (g ++ ends c [])) ≡ None
 none_deep [] c n m depth e h a = rw (no_levels c depth) refl
 none_deep (Plain w ∷ g) c n m depth e h a = never depth (levels depth (g ++ ends c [])) (omega (arith, e)) (none_deep g c n m depth e h a)
@@ -51,11 +52,11 @@ none_deep (Closes ∷ g) c n m depth e h a =
 
 -- ---- the words that were passed
 
--- all that is expected nests well
+-- all that is expected ends the levels that it opens
 abbrev pub Nests : List Symbol → Values → Type 0
 Nests k vs = (x : List LevelStep) (u : Values) → Spelled k vs x u → Above 0 x
 
--- steps with these words begin what is expected, and none of the words is too deep
+-- steps with these words begin what is expected, and none of the words is nested too deep
 pub record Passed (p : List Word) (k : List Symbol) (vs : Values) : Type 0 where
   pub steps : List LevelStep
   pub rest : List LevelStep
@@ -85,7 +86,8 @@ passed p r k vs nests h =
 
 -- ---- a word that opens a level too many
 
--- steps with these words, and with this one behind them, begin what is expected, and it is the first that is too deep
+-- steps with these words, and this word after them, begin what is expected, and it is the first
+-- that is too deep
 pub record Deepest (p : List Word) (c : Word) (k : List Symbol) (vs : Values) : Type 0 where
   pub steps : List LevelStep
   pub rest : List LevelStep
@@ -144,7 +146,7 @@ finished p r n k vs u h =
       spells = at.3.spells (ends e.0 []) u e.1;
     }
 
--- and none of the words is too deep
+-- and none of the words is nested too deep
 pub finished_flat : (p r : List Word) (k : List Symbol) (vs u : Values) → Nests k vs → run most_levels (p ++ r) k vs ≡ Ok (u, r) → (f : Finished p k vs u) × (too_deep f.steps ≡ None)
 finished_flat p r k vs u nests h =
     let at = passes p r most_levels k vs (ap left h) in
@@ -158,13 +160,13 @@ finished_flat p r k vs u nests h =
       none_deep at.3.steps e.0 most_levels at.0 0 (omega arith) at.3.counts (nests (at.3.steps ++ ends e.0 []) u s),
     )
 
--- ---- what goes no further
+-- ---- what cannot continue
 
--- the machine takes each whole to its end, with some more levels
+-- the machine takes each whole to its end, if it has enough levels
 abbrev pub TakesWhole : (List Word → Type 0) → List Symbol → Values → Type 0
 TakesWhole whole k vs = (ws : List Word) → whole ws → (d : ℕ) × (u : Values) × (run (most_levels + d) ws k vs ≡ Ok (u, []))
 
--- no whole goes on with the word where the machine stops
+-- no whole continues with the word at which the machine stops
 pub none_goes_on : (whole : List Word → Type 0) (k : List Symbol) (vs : Values) → TakesWhole whole k vs → (p : List Word) (c : Word) (r : List Word) → left (run most_levels (p ++ c ∷ r) k vs) ≡ c ∷ r → (run most_levels (p ++ c ∷ r) k vs ≡ Err (TooDeep (c ∷ r)) → ⊥) → (q : List Word) → whole (p ++ c ∷ q) → ⊥
 none_goes_on whole k vs takes p c r h not_deep q x =
     let t = takes (p ++ c ∷ q) x in
@@ -181,7 +183,7 @@ wrong_at_end d n k vs u h g = go (turn k n vs None) (turn_more k n d vs None) h 
   go Stuck y l g = let bad : turned Stuck [] (λ m vs' k'. Err (Wrong [])) ≡ Ok (u, []) = rw y at g in cc
   go Deep y l g = cc
 
--- words at whose end the machine wants more are no whole
+-- words at whose end the machine expects more are no whole
 pub none_at_end : (whole : List Word → Type 0) (k : List Symbol) (vs : Values) → TakesWhole whole k vs → (p : List Word) → run most_levels p k vs ≡ Err (Wrong []) → whole p → ⊥
 none_at_end whole k vs takes p h x =
     let t = takes p x in

@@ -1,4 +1,4 @@
--- Every expression's words lead the machine to its tree: one case for each form.
+-- The words of every expression lead the machine to its tree: one case for each production.
 use Rattle.std.proofs.Common.{subst, ◌≡◌, ◌||◌, not, ℕ, suc, ◌≤◌, Bool, true, false, List, [], ◌∷◌, ◌++◌, refl, sym, ap, ◌∙◌, arith}
 use Rattle.basic_tree.specs.declared.tokens.Sign.TheVariants as sign
 use Rattle.basic_tree.specs.declared.expressions.Operator.{Operator}
@@ -19,12 +19,12 @@ use Rattle.grammar_machine.proofs.MachineSteps.{First, is_opening, is_plus_or_mi
 use Rattle.grammar_machine.proofs.MachineLeads.{Follows, Parted, TreeLeads, more_at, first_at, operand, at_level, words_parts, no_sign_first}
 use Rattle.grammar_machine.proofs.MachineComplete.{fits_want}
 
--- the words of a tree lead to it at its level, and behind `^`
+-- the words of a tree lead to it at its level, and after `^`
 pub record Complete (n : ℕ) (t : Tree) : Type 0 where
   pub leads : TreeLeads n (level_of t) t
   pub exponent : is_exponent t ≡ true → Fits want.Number t → (r : List Word) (k : List Symbol) (vs : Values) → Parted t r → run n (words (steps_of t) ++ r) (Exponent ∷ k) vs ≡ run n r k (Term t ∷ vs)
 
--- behind `^` an atom is read as elsewhere
+-- after `^` an atom is read as elsewhere
 run_exponent : (n : ℕ) (ts : List Word) (k : List Symbol) (vs : Values) → First is_plus_or_minus ts → run n ts (Exponent ∷ k) vs ≡ run n ts (Level 0 want.Number ∷ k) vs
 unfolding run
 run_exponent n [] k vs h = refl

@@ -9,12 +9,12 @@ use Rattle.grammar_machine.proofs.MachineSpelled.{Spelled}
 use Rattle.grammar_machine.proofs.MachineBack.{taken, TakesBack}
 use Rattle.grammar_machine.proofs.MachineMoves.{MoveBack, move_back}
 
--- so many levels end before the steps
+-- this many levels end before the steps
 abbrev pub ends : ℕ → List LevelStep → List LevelStep
 ends zero q = q
 ends (suc c) q = Closes ∷ ends c q
 
--- the levels that were left before a word that opens one, or does not
+-- the levels that were left before a word, which may open one
 abbrev pub before : Bool → ℕ → ℕ
 before true m = suc m
 before false m = m

@@ -1,4 +1,4 @@
--- Words have one answer: they are one whole, or they are refused at one place for one cause.
+-- Words have one answer: they are one whole, or they are rejected at one place for one cause.
 use Rattle.std.proofs.Common.{subst, ◌≡◌, ℕ, ◌+◌, ◌-◌, ◌<◌, ◌≤◌, All, List, [], ◌++◌, length, take, drop, Some, None, Ok, Err, refl, sym, ap, ◌∙◌, append_assoc, arith}
 use Rattle.std.proofs.lemmas.List.{append-nil, take-append-drop, take-take, take_all, length-take-le}
 use Rattle.std.proofs.lemmas.List.Elements.{All-take}
@@ -19,15 +19,15 @@ use Rattle.grammar_machine.proofs.LevelsSettled.{line_levels, expression_levels}
 use Rattle.grammar_machine.proofs.OneLine.{one_line_lem}
 use Rattle.grammar_machine.proofs.OneTree.{one_tree_lem}
 
--- the words up to and with the one at a place begin a whole in which it is the first that is too deep
+-- the words up to the one at a place begin a whole, in which it is the first that is too deep
 abbrev DeepAt : Whole → List Word → ℕ → Type 0
 DeepAt whole ws i = (rest : List Word) × (g : List LevelStep) × whole (take (i + 1) ws ++ rest) g × (too_deep g ≡ Some i)
 
--- the levels of the first words do not hang on those behind them
+-- the nesting depths of the first words do not depend on those after them
 abbrev Settled : Whole → Type 0
 Settled whole = (p q r : List Word) (g h : List LevelStep) → whole (p ++ q) g → whole (p ++ r) h → take (length p) (levels 0 g) ≡ take (length p) (levels 0 h)
 
--- words up to a place, cut at one before it
+-- words up to a place, split at one before it
 cut_sooner : (ws rest : List Word) (i j : ℕ) → i ≤ j → take j ws ++ rest ≡ take i ws ++ (drop i (take j ws) ++ rest)
 cut_sooner ws rest i j le =
     let same : take i (take j ws) ≡ take i ws = take-take i j ws le in
@@ -40,15 +40,15 @@ whole_sooner whole ws rest i j g le h = subst (λ (x : List Word). whole x g) (c
 begun_sooner : (whole : Whole) (ws : List Word) (i j : ℕ) → i ≤ j → Begins whole (take j ws) → Begins whole (take i ws)
 begun_sooner whole ws i j le b = (drop i (take j ws) ++ b.0, b.1, whole_sooner whole ws b.0 i j b.1 le b.2)
 
--- what is read is flat to its end
+-- what is read is nowhere too deep
 flat_of_read : (whole : Whole) (ws : List Word) (i : ℕ) (g : List LevelStep) → whole (take i ws) g → too_deep g ≡ None → BeginsFlat whole ws i
 flat_of_read whole ws i g h flat = ([], g, subst (λ (x : List Word). whole x g) (sym (append-nil (take i ws))) h, All-take (λ level. level ≤ most_levels) i (levels 0 g) (all_within (levels 0 g) flat))
 
--- up to a word that is too deep it is flat
+-- up to a word that is too deep, nothing is
 flat_of_deep : (whole : Whole) (ws : List Word) (i : ℕ) → DeepAt whole ws i → BeginsFlat whole ws i
 flat_of_deep whole ws i d = (drop i (take (i + 1) ws) ++ d.0, d.1, whole_sooner whole ws d.0 i (i + 1) d.1 (omega arith) d.2, within_before (levels 0 d.1) i d.3)
 
--- nothing that begins so is flat behind a word that is too deep
+-- nothing that begins like this continues after a word that is too deep without being too deep
 flat_ends : (whole : Whole) → Settled whole → (ws : List Word) (i j : ℕ) → i < length ws → DeepAt whole ws i → BeginsFlat whole ws j → i < j → ⊥
 flat_ends whole settled ws i j inside d f lt =
     let same = settled (take (i + 1) ws) d.0 (drop (i + 1) (take j ws) ++ f.0) d.1 f.1 d.2 (whole_sooner whole ws f.0 (i + 1) j f.1 (omega (arith, lt)) f.2) in
@@ -67,14 +67,14 @@ one_deep whole settled ws i j a b x y =
 
 -- ---- one place, one cause
 
--- no whole begins with more words than up to the limit
+-- no whole begins with more words than those up to the limit
 none_beyond : (whole : Whole) (ws : List Word) (j k : ℕ) → IsLimit whole ws j → k ≤ length ws → Begins whole (take k ws) → j < k → ⊥
 none_beyond whole ws j k a inside b lt = a.no_more (omega (arith, lt, inside)) (begun_sooner whole ws (j + 1) k (omega (arith, lt)) b)
 
 one_limit : (whole : Whole) (ws : List Word) (j k : ℕ) → IsLimit whole ws j → IsLimit whole ws k → j ≡ k
 one_limit whole ws j k a b = equal j k (none_beyond whole ws j k a b.within b.begins) (none_beyond whole ws k j b a.within a.begins)
 
--- where words are flat to the limit none is too deep
+-- if no word up to the limit is too deep, none is
 flat_and_deep : (whole : Whole) → Settled whole → (ws : List Word) (j k : ℕ) → IsLimit whole ws j → BeginsFlat whole ws j → IsDeep whole ws k → ⊥
 flat_and_deep whole settled ws j k a f b =
     let d = b.opens in
@@ -148,7 +148,7 @@ one_verdict_lem line (RefusedFor c) (RefusedFor d) a b = ap RefusedFor (sym a.2 
 expressions_settled : (w : Want) → Settled (ExprWhole w)
 expressions_settled w p q r g h a b = rw (a.2, b.2) (expression_levels w w p q r a.0 b.0 a.1 b.1)
 
--- places that are as far behind another
+-- two places that are equally far after another
 same_place : (from j k : ℕ) → from ≤ j → from ≤ k → j - from ≡ k - from → j ≡ k
 same_place from j k a b e = omega (arith, e, a, b)
 

@@ -3,19 +3,15 @@ use Rattle.std.proofs.Common.{◌≡◌, ◌+◌, max, ℕ, ◌≤◌, false, no
 use Rattle.std.proofs.lemmas.List.{append-nil}
 use Rattle.basic_tree.specs.declared.tokens.Keyword.TheVariants as keyword
 use Rattle.basic_tree.specs.declared.tokens.Sign.TheVariants as sign
-use Rattle.basic_tree.specs.SpellingWords.{Word, Key, Punctuation, LevelStep, words}
+use Rattle.basic_tree.specs.SpellingWords.{Word, Key, Punctuation, words}
 use Rattle.basic_tree.specs.Trees.{StatementTree, LineTree}
-use Rattle.basic_tree.specs.SpellingParts.{each}
-use Rattle.basic_tree.specs.SpellingStatements.{wants_else, line_steps}
-use Rattle.grammar_machine.specs.MachinePieces.{WordPiece, pieces_steps, ArePieces}
-use Rattle.grammar_machine.specs.MachineStatements.{closings, pieces_of, statement_pieces, line_pieces}
+use Rattle.basic_tree.specs.SpellingPieces.{each, WordPiece, pieces_steps, ArePieces}
+use Rattle.basic_tree.specs.SpellingStatements.{wants_else, line_steps, closings, pieces_of, statement_pieces, line_pieces}
 use Rattle.grammar_machine.specs.MachineStack.{Values, Stated, Parsed, parsed, AddStatement, Symbol, Go, Do, OneStatement, MoreStatements}
 use Rattle.grammar_machine.specs.MachineSentences.{Class, Choice, Head, Simple}
 use Rattle.grammar_machine.specs.MachineMoves.{behind_class}
 use Rattle.grammar_machine.specs.MachineRun.{MachineOutcome, run}
 use Rattle.basic_tree.specs.GrammarPlaces.{OneLine}
-use Rattle.grammar_machine.proofs.PiecesApart.{line_same}
-use Rattle.grammar_machine.proofs.PiecesHold.{admissible_pieces}
 use Rattle.grammar_machine.proofs.PieceLists.{steps_append}
 use Rattle.grammar_machine.proofs.MachineReads.{place_pieces, separated}
 use Rattle.grammar_machine.proofs.MachineSteps.{run_do}
@@ -64,7 +60,7 @@ pub place_leads : (s : Option StatementTree) → ArePieces (place_pieces s) → 
 place_leads None h = no_place
 place_leads (Some s) h = some_place s (starts s (parts_before (pieces_of s) (closings s) h))
 
--- ---- the statements behind separators
+-- ---- the statements after separators
 
 pub record OthersLead (others : List (Option StatementTree)) : Type 0 where
   pub bound : ℕ
@@ -105,8 +101,7 @@ line_leads l h =
     let d = others_lead l.others (parts_behind (place_pieces l.first) (each separated l.others) h) in (
       max b.bound d.bound,
       λ n le.
-          ap (λ (x : List LevelStep). run n (words x) (OneStatement ∷ MoreStatements ∷ []) (Parsed [] ∷ [])) (sym (line_same l))
-          ∙ ap (λ ws. run n ws (OneStatement ∷ MoreStatements ∷ []) (Parsed [] ∷ [])) (two_words (place_pieces l.first) (each separated l.others))
+          ap (λ ws. run n ws (OneStatement ∷ MoreStatements ∷ []) (Parsed [] ∷ [])) (two_words (place_pieces l.first) (each separated l.others))
           ∙ b.by n (omega (arith, le)) (words (pieces_steps (each separated l.others))) [] (MoreStatements ∷ []) [] (others_finish l.others)
           ∙ d.by n (omega (arith, le)) (l.first ∷ []),
     )
@@ -121,8 +116,8 @@ line_made (Err e) = line_of []
 
 pub one_line_lem : OneLine
 one_line_lem ws l m a b =
-    let x = line_leads l (admissible_pieces l a.admissible) in
-    let y = line_leads m (admissible_pieces m b.admissible) in
+    let x = line_leads l a.admissible in
+    let y = line_leads m b.admissible in
     let n = x.0 + y.0 in
     let same = sym (x.1 n (omega arith)) ∙ ap (λ s. run n s (OneStatement ∷ MoreStatements ∷ []) (Parsed [] ∷ [])) (sym a.spelling ∙ b.spelling) ∙ y.1 n (omega arith) in
     ap (λ o. line_made o) same

@@ -1,6 +1,6 @@
--- Pieces of two parts: their steps, and that all are as their places want them.
+-- Pieces of two parts: their steps, and that all are admissible.
 use Rattle.std.proofs.Common.{◌≡◌, List, [], ◌∷◌, ◌++◌, refl, sym, ap, ◌∙◌, append_assoc}
-use Rattle.grammar_machine.specs.MachinePieces.{WordPiece, piece_steps, pieces_steps, ArePieces}
+use Rattle.basic_tree.specs.SpellingPieces.{WordPiece, piece_steps, pieces_steps, ArePieces}
 
 pub steps_append : (a b : List WordPiece) → pieces_steps (a ++ b) ≡ pieces_steps a ++ pieces_steps b
 steps_append [] b = refl

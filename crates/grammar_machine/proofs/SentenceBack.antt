@@ -5,11 +5,9 @@ use Rattle.basic_tree.specs.declared.tokens.Sign.TheVariants as sign
 use Rattle.basic_tree.specs.SpellingWords.{Word, Punctuation, Number, LevelStep, Plain, Closes}
 use Rattle.basic_tree.specs.Trees.{Tree, ModifierTree, ClauseTree, LineClause, StatementClause, StatementTree, IfThen, IfGoto, Modified}
 use Rattle.basic_tree.specs.SpellingExpressions.{mark}
-use Rattle.basic_tree.specs.SpellingParts.{each}
-use Rattle.basic_tree.specs.SpellingStatements.{is_if, is_head}
-use Rattle.grammar_machine.specs.MachinePieces.{pieces_steps, ArePieces}
-use Rattle.grammar_machine.specs.MachineParts.{modifier}
-use Rattle.grammar_machine.specs.MachineStatements.{closings, pieces_of, statement_pieces}
+use Rattle.basic_tree.specs.SpellingPieces.{each, pieces_steps, ArePieces}
+use Rattle.basic_tree.specs.SpellingStatements.{is_if, is_head, closings, pieces_of, statement_pieces}
+use Rattle.basic_tree.specs.SpellingParts.{modifier}
 use Rattle.grammar_machine.specs.MachineStack.{Value, Stated, Modifying, Parsed, Values, top, stated, parsed, below, kept_stated, kept_parsed, with_statement, LineNumber, within, Form, ClauseIn, AddStatement, Modify, Symbol, Close, Do, Go, Await, AwaitClause, Modifiers, OneStatement, MoreStatements}
 use Rattle.grammar_machine.specs.MachineSentences.{Class, Choice, Head, Simple, Sentence, sentence_of, modifier_of}
 use Rattle.grammar_machine.specs.MachineMoves.{MachineMove, Shifts, Skips, Refuses, then_also, no_clause, behind_clause, clause_sentence, clause_move, form_move_with, form_move, behind_class, statement_move, one_statement, modified, modifiers, more_statements}
@@ -23,9 +21,9 @@ use Rattle.grammar_machine.proofs.ListBack.{form_back}
 use Rattle.grammar_machine.proofs.PieceLists.{steps_append, pieces_append}
 use Rattle.grammar_machine.proofs.SoundSentences.{sentence_sound, modifier_sound}
 
--- ---- what stands behind a form
+-- ---- what follows a form
 
--- what a form and the symbols behind it spell, another symbol spells
+-- what a form and the symbols after it spell, another symbol spells
 pub then_back : (s : Symbol) (f : Form) (more : List Symbol) (vs : Values) (t : Word) → ((k : List Symbol) (q : List LevelStep) (u : Values) → Spelled (Go f ∷ (more ++ k)) vs q u → Spelled (s ∷ k) vs q u) → (m : MachineMove) → MoveBack (Go f) vs (Some t) m → MoveBack s vs (Some t) (then_also more m)
 then_back s f more vs t sub (Shifts b vs' ns) back = λ k q u h. sub k (taken b t ∷ q) u (back (more ++ k) q u (subst (λ x. Spelled x vs' q u) (append_assoc ns more k) h))
 then_back s f more vs t sub (Skips vs') back = tt
@@ -55,7 +53,7 @@ modified_steps s (m ∷ ms) =
     ∙ append_assoc (pieces_steps (pieces_of s)) (pieces_steps (modifier m)) (modifiers_steps ms ++ Closes ∷ pieces_steps (closings s))
     ∙ ap (λ x. pieces_steps (pieces_of s) ++ x) (ap (λ x. pieces_steps (modifier m) ++ x) (sym (append_assoc (modifiers_steps ms) (Closes ∷ []) (pieces_steps (closings s)))) ∙ sym (append_assoc (pieces_steps (modifier m)) (modifiers_steps ms ++ Closes ∷ []) (pieces_steps (closings s))))
 
--- a statement that was read, with the modifiers behind it
+-- a statement that was read, with the modifiers after it
 pub record Whole (s : StatementTree) (p : List LevelStep) (ms : List ModifierTree) : Type 0 where
   pub pieces : ArePieces (statement_pieces (modified_by s ms))
   pub steps : pieces_steps (statement_pieces (modified_by s ms)) ≡ p ++ modifiers_steps ms
@@ -129,7 +127,7 @@ clause_back g vs None = tt
 clause_back g vs (Some (Number n)) = line_clause g vs n (within LineNumber n) refl
 clause_back g vs (Some t) = clause_sentence_back g vs t (sentence_of t) refl
 
--- ---- forms, and what waits for an expression or a clause
+-- ---- forms, and symbols that wait for an expression or a clause
 
 pub go_back : (f : Form) (vs : Values) (o : Option Word) → MoveBack (Go f) vs o (form_move f vs o)
 go_back f vs o = form_back clause_move clause_back f vs o

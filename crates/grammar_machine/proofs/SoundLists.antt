@@ -1,11 +1,11 @@
--- Elements of lists with commas: those that a form reads are spelled by the pieces of the grammar's lists.
+-- Elements of lists: those that a form reads are spelled by the pieces of the grammar's lists.
 use Rattle.std.proofs.Common.{◌≡◌, ◌<◌, ◌≤◌, true, List, [], ◌∷◌, ◌++◌, length, refl, arith, ltb-true, lt-ltb, length-append, append_assoc}
 use Rattle.std.specs.Prelude.{nat_lt}
 use Rattle.basic_tree.specs.declared.names.Name.{Name}
 use Rattle.basic_tree.specs.declared.kinds.Want.{Want}
 use Rattle.basic_tree.specs.SpellingExpressions.{steps_of}
-use Rattle.grammar_machine.specs.MachinePieces.{line, target, after_commas}
-use Rattle.grammar_machine.specs.MachineParts.{shape, file_shape, name, array, close_channel, field_part}
+use Rattle.basic_tree.specs.SpellingPieces.{line, target, after_commas}
+use Rattle.basic_tree.specs.SpellingParts.{shape, file_shape, name, array, close_channel, field_part}
 use Rattle.grammar_machine.specs.MachineStack.{Item, TargetItem, ShapeItem, FileItem, NameItem, LineItem, ChannelItem, FieldItem, Targets, Shapes, FileShapes, Parameters, Arrays, Lines, Channels, FieldParts}
 use Rattle.grammar_machine.specs.MachineForms.{targets_in, shapes_in, files_in, names_in, lines_in, channels_in, parts_in}
 use Rattle.grammar_machine.proofs.MachineReads.{AreItems, items_steps}

@@ -1,22 +1,19 @@
--- MAT: what its form reads is the statement.
-use Rattle.std.proofs.Common.{◌≡◌, inl, inr, List, [], ◌∷◌, Some, None, refl}
+-- What MAT stores: what its form reads is what it spells.
+use Rattle.std.proofs.Common.{◌≡◌, inl, inr, List, refl}
 use Rattle.basic_tree.specs.declared.names.Name.{Name}
-use Rattle.basic_tree.specs.declared.parts.Separator.TheVariants as separator
 use Rattle.basic_tree.specs.SpellingWords.{LevelStep}
-use Rattle.basic_tree.specs.Trees.{MatrixTree, Zero, One, Identity, Copy, Sum, Difference, Product, Scaled, Transposed, MatRead, MatPrint, MatLet}
-use Rattle.grammar_machine.specs.MachineParts.{matrix}
-use Rattle.grammar_machine.specs.MachineStack.{Value, Stated, NameItem}
-use Rattle.grammar_machine.specs.MachineForms.{names_in, says, matrix_form}
-use Rattle.grammar_machine.specs.MachineSentences.{Simple, mat_form}
-use Rattle.grammar_machine.proofs.MachineReads.{Reads, items_steps}
-use Rattle.grammar_machine.proofs.SoundPieces.{Spells, ended, fixed, expression, name_of, only, said, Sound}
-use Rattle.grammar_machine.proofs.SoundLists.{arrays_spelled}
+use Rattle.basic_tree.specs.Trees.{MatrixTree, Zero, One, Identity, Copy, Sum, Difference, Product, Scaled, Transposed, MatLet}
+use Rattle.basic_tree.specs.SpellingParts.{matrix}
+use Rattle.grammar_machine.specs.MachineStack.{Value, Stated}
+use Rattle.grammar_machine.specs.MachineForms.{says, matrix_form}
+use Rattle.grammar_machine.proofs.MachineReads.{Reads}
+use Rattle.grammar_machine.proofs.SoundPieces.{Spells, ended, fixed, expression, name_of}
 
 -- what MAT stores
 abbrev MatrixRead : Name → List LevelStep → Value → Type 0
 MatrixRead n p v = (m : MatrixTree) × Spells (matrix m) p × (Stated (MatLet n m) ≡ v)
 
-matrix_read : (n : Name) (p : List LevelStep) (v : Value) → Reads (matrix_form (λ m. says (MatLet n m))) p v → MatrixRead n p v
+pub matrix_read : (n : Name) (p : List LevelStep) (v : Value) → Reads (matrix_form (λ m. says (MatLet n m))) p v → MatrixRead n p v
 matrix_read n p v (inl x) = (Zero, fixed x.1 (ended x.2.0), x.2.1)
 matrix_read n p v (inr (inl x)) = (One, fixed x.1 (ended x.2.0), x.2.1)
 matrix_read n p v (inr (inr (inl x))) = (Identity, fixed x.1 (ended x.2.0), x.2.1)
@@ -41,31 +38,5 @@ matrix_read n p v (inr (inr (inr (inr (inr x))))) =
                   | inl w ↦ let c = w.2 in (Product x.0 c.0, name_of x.2 x.3 (fixed w.1 (name_of c.2 c.3 (ended c.4.0))), c.4.1)
                   | inr w ↦ (Copy x.0, name_of x.2 x.3 (ended w.0), w.1)
                 ]
-          ]
-    ]
-
-pub mat_sound : Sound Simple mat_form
-mat_sound p v h =
-    elim h.2 [
-      | inl x ↦
-          let n = x.2 in
-          let more = n.4 in
-          said Simple (MatRead (n.0 ∷ names_in more.0)) p v more.4.1
-          (fixed h.1 (fixed x.1 (name_of n.2 n.3 (only (items_steps more.0) more.2 more.4.0 (arrays_spelled (NameItem n.0 ∷ []) more.0 more.3))))) refl (refl, refl)
-      | inr y ↦
-          elim y [
-            | inl x ↦
-                let n = x.2 in
-                elim n.4 [
-                  | inl z ↦ said Simple (MatPrint n.0 (Some separator.Comma)) p v z.2.1 (fixed h.1 (fixed x.1 (name_of n.2 n.3 (fixed z.1 (ended z.2.0))))) refl (refl, refl)
-                  | inr z ↦
-                      elim z [
-                        | inl w ↦ said Simple (MatPrint n.0 (Some separator.Semicolon)) p v w.2.1 (fixed h.1 (fixed x.1 (name_of n.2 n.3 (fixed w.1 (ended w.2.0))))) refl (refl, refl)
-                        | inr w ↦ said Simple (MatPrint n.0 None) p v w.1 (fixed h.1 (fixed x.1 (name_of n.2 n.3 (ended w.0)))) refl (refl, refl)
-                      ]
-                ]
-            | inr n ↦
-                let m = matrix_read n.0 n.4.0 v n.4.2 in
-                said Simple (MatLet n.0 m.0) p v m.2 (fixed h.1 (name_of n.2 n.3 (fixed n.4.1 m.1))) refl (refl, refl)
           ]
     ]

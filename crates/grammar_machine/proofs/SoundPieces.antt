@@ -1,4 +1,4 @@
--- Steps that pieces spell, put together piece by piece from the front.
+-- Steps that pieces spell, joined piece by piece from the front.
 use Rattle.std.proofs.Common.{◌≡◌, ℕ, Bool, true, List, [], ◌∷◌, ◌++◌, sym, ap, ◌∙◌, subst, append_assoc}
 use Rattle.std.proofs.lemmas.List.{append-nil}
 use Rattle.basic_tree.specs.declared.names.Name.{Name}
@@ -6,16 +6,16 @@ use Rattle.basic_tree.specs.declared.kinds.Want.{Want}
 use Rattle.basic_tree.specs.SpellingWords.{Named, Number, LevelStep, Plain}
 use Rattle.basic_tree.specs.Trees.{Tree, Variable, StatementTree, ModifierTree}
 use Rattle.basic_tree.specs.SpellingExpressions.{steps_of, Fits, IsTree}
-use Rattle.grammar_machine.specs.MachinePieces.{WordPiece, Fixed, Expression, NameOf, LiteralOf, Holds, pieces_steps, ArePieces}
-use Rattle.grammar_machine.specs.MachineParts.{modifier}
-use Rattle.grammar_machine.specs.MachineStatements.{closings, pieces_of}
+use Rattle.basic_tree.specs.SpellingPieces.{WordPiece, Fixed, Expression, NameOf, LiteralOf, Holds, pieces_steps, ArePieces}
+use Rattle.basic_tree.specs.SpellingParts.{modifier}
+use Rattle.basic_tree.specs.SpellingStatements.{closings, pieces_of}
 use Rattle.grammar_machine.specs.MachineStack.{Value, Stated, Modifying, Form}
 use Rattle.grammar_machine.specs.MachineSentences.{Class}
 use Rattle.grammar_machine.proofs.PieceLists.{steps_append, pieces_append}
 use Rattle.grammar_machine.proofs.MachineReads.{Reads}
 use Rattle.grammar_machine.proofs.FormLeads.{OfClass, Says, Modifies}
 
--- the pieces are as their places want them, and spell the steps
+-- the pieces are admissible, and spell the steps
 pub record Spells (pieces : List WordPiece) (p : List LevelStep) : Type 0 where
   pub wanted : ArePieces pieces
   pub spelled : p ≡ pieces_steps pieces
@@ -49,19 +49,19 @@ joined a {b = b} e h s = record { wanted = pieces_append a b h s.wanted; spelled
 pub as_steps : {a : List WordPiece} {p q : List LevelStep} → p ≡ q → Spells a q → Spells a p
 as_steps e s = record { wanted = s.wanted; spelled = e ∙ s.spelled }
 
--- steps with nothing behind them
+-- steps with nothing after them
 pub only : {a : List WordPiece} {p q : List LevelStep} (s : List LevelStep) → p ≡ s ++ q → q ≡ [] → Spells a s → Spells a p
 only s e n h = as_steps (e ∙ ap (λ q. s ++ q) n ∙ append-nil s) h
 
--- steps with others behind them
+-- steps with others after them
 pub listed : {a b : List WordPiece} {p q : List LevelStep} (s : List LevelStep) → p ≡ s ++ q → Spells a s → Spells b q → Spells (a ++ b) p
 listed {a = a} {q = q} s e h k = joined a (e ∙ ap (λ s. s ++ q) h.spelled) h.wanted k
 
--- the same pieces in other groups
+-- the same pieces, grouped differently
 pub regrouped : (a b c : List WordPiece) {p : List LevelStep} → Spells (a ++ (b ++ c)) p → Spells ((a ++ b) ++ c) p
 regrouped a b c {p = p} h = subst (λ l. Spells l p) (sym (append_assoc a b c)) h
 
--- the pieces are as their places want them, and the steps begin with theirs
+-- the pieces are admissible, and the steps begin with theirs
 pub record Starts (pieces : List WordPiece) (p q : List LevelStep) : Type 0 where
   pub wanted : ArePieces pieces
   pub spelled : p ≡ pieces_steps pieces ++ q

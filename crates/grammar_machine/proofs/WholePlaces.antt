@@ -1,4 +1,5 @@
--- Where the machine stops: for each stack that spells wholes of a sort alone and takes each of them.
+-- Where the machine stops, for each stack that spells exactly the wholes of one kind and takes each
+-- of them.
 use Rattle.std.proofs.Common.{subst, ◌≡◌, ℕ, suc, ◌+◌, ◌<◌, ◌≤◌, List, ◌∷◌, ◌++◌, length, take, drop, get_or, Some, Err, refl, sym, ap, ◌∙◌, append_assoc, arith}
 use Rattle.std.proofs.lemmas.List.{take-append-drop, take_more, length-take-le}
 use Rattle.basic_tree.specs.SpellingWords.{Word, Number, LevelStep, Opens, words, most_levels}
@@ -11,11 +12,11 @@ use Rattle.grammar_machine.proofs.MachinePasses.{left}
 use Rattle.grammar_machine.proofs.MachineStops.{Nests, passed, deepest, TakesWhole, none_goes_on}
 use Rattle.grammar_machine.proofs.BetweenLemmas.{behind_place}
 
--- what is a whole, whatever its steps
+-- a whole, with any steps
 abbrev pub AnyWhole : Whole → List Word → Type 0
 AnyWhole whole ws = (g : List LevelStep) × whole ws g
 
--- what is expected spells wholes alone, and the machine takes each whole where enough levels are left
+-- what is expected spells only wholes, and the machine takes each whole if enough levels are left
 pub record ReadsWhole (whole : Whole) (s : List Symbol) (vs : Values) : Type 0 where
   pub spells : (x : List LevelStep) (u : Values) → Spelled s vs x u → whole (words x) x
   pub takes : TakesWhole (AnyWhole whole) s vs
@@ -25,7 +26,7 @@ module _ (whole : Whole) (s : List Symbol) (vs : Values) (reads : ReadsWhole who
   pub at_place : (ws : List Word) (k n : ℕ) (o : MachineOutcome) → run n ws s vs ≡ o → run n (take k ws ++ drop k ws) s vs ≡ o
   at_place ws k n o h = ap (λ (x : List Word). run n x s vs) (take-append-drop k ws) ∙ h
 
-  -- none of the words that were passed is too deep
+  -- none of the words that were passed is nested too deep
   pub flat_there : (ws : List Word) (k : ℕ) (o : MachineOutcome) → k ≤ length ws → run most_levels ws s vs ≡ o → left o ≡ drop k ws → BeginsFlat whole ws k
   flat_there ws k o inside h e =
       let f = passed (take k ws) (drop k ws) s vs reads.nests (ap left (at_place ws k most_levels o h) ∙ e) in
@@ -47,7 +48,7 @@ module _ (whole : Whole) (s : List Symbol) (vs : Values) (reads : ReadsWhole who
       let there : run most_levels (take k ws ++ c ∷ r) s vs ≡ o = ap (λ (x : List Word). run most_levels (take k ws ++ x) s vs) (sym next) ∙ at_place ws k most_levels o h in
       none_goes_on (AnyWhole whole) s vs reads.takes (take k ws) c r (ap left there ∙ e ∙ next) (λ d. not_deep (sym there ∙ d ∙ ap (λ (x : List Word). Err (TooDeep x)) (sym next))) b.0 (b.1, subst (λ (x : List Word). whole x b.1) (more_words ws k b.0 lt) b.2)
 
-  -- where it stops, but for a word that is too deep, is the limit
+  -- the place where it stops is the limit, unless a word is too deep
   pub limit_there : (ws : List Word) (k : ℕ) (o : MachineOutcome) → k ≤ length ws → run most_levels ws s vs ≡ o → left o ≡ drop k ws → (o ≡ Err (TooDeep (drop k ws)) → ⊥) → IsLimit whole ws k
   limit_there ws k o inside h e not_deep =
       let f = flat_there ws k o inside h e in

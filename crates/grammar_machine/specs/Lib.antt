@@ -6,6 +6,3 @@ pub mod MachineSentences
 pub mod MachineStack
 pub mod MachineStarts
 pub mod GrammarWords
-pub mod MachinePieces
-pub mod MachineParts
-pub mod MachineStatements

@@ -1,4 +1,5 @@
--- The forms of statements: what each expects word by word, and the tree that it makes. No promise speaks of it: it carries proofs alone.
+-- The forms of statements: what each expects, word by word, and the tree that it makes. They serve
+-- proofs only.
 use Rattle.std.specs.Prelude.{ℕ, ◌+◌, ◌&&◌, nat_lt, Bool, true, false, List, [], ◌∷◌, ◌++◌, length, Option, Some, None}
 use Rattle.basic_values.specs.declared.limits.TheConstants.{MOST_NUMBER}
 use Rattle.basic_tree.specs.declared.names.Name.{Name}
@@ -28,7 +29,7 @@ abbrev pub key_begins : Keyword → Bool
 key_begins keyword.Not = true
 key_begins k = is_known (function_of k)
 
--- a word with which an expression may begin
+-- a word with which an expression can begin
 abbrev pub begins_value : Word → Bool
 begins_value (Number n) = nat_lt n (MOST_NUMBER + 1)
 begins_value (Quotation text) = true
@@ -40,7 +41,7 @@ begins_value (Punctuation sign.Minus) = true
 begins_value (Key k) = key_begins k
 begins_value other = false
 
--- a word with which the number of CHAIN may begin, right behind its text
+-- a word with which the number of CHAIN can begin, right after the program's name
 abbrev pub chains : Tree → Word → Bool
 chains t w = begins_value w && may_follow (last_word (words (steps_of t))) (Some w)
 
@@ -69,16 +70,16 @@ item_form Channels g =
 item_form FieldParts g =
     ExprOf want.Number (λ width. TakeKey false keyword.As (NameIn want.Text (λ name. g (FieldItem (record { width = width; name = name })))))
 
--- whether one more may follow: DEF has at most five parameters
+-- whether one more can follow: DEF has at most five parameters
 abbrev pub has_room : Sequence → List Item → Bool
 has_room Parameters items = nat_lt (length items) 5
 has_room other items = true
 
--- one or more with commas between
+-- one or more, separated by commas
 abbrev pub list_form : Sequence → (List Item → Form) → Form
 list_form s g = item_form s (λ item. MoreOf s (item ∷ []) g)
 
--- what the elements are; one of another list is left out
+-- the elements of this list; elements of other lists are dropped
 abbrev pub targets_in : List Item → List Tree
 targets_in [] = []
 targets_in (TargetItem t ∷ items) = t ∷ targets_in items
@@ -124,7 +125,7 @@ range_form g =
     NameIn want.Number (λ v. TakeSign false sign.Equal (ExprOf want.Number (λ start. TakeKey false keyword.To (ExprOf want.Number (λ limit.
     IfKey false keyword.Step (ExprOf want.Number (λ step. g v start limit (Some step))) (g v start limit None))))))
 
--- an ELSE, where the clause before it takes none itself
+-- an ELSE, if the clause before it does not take it itself
 abbrev pub else_form : Bool → (ElseTree → Form) → Form
 else_form true g = g NoElse
 else_form false g = IfKey true keyword.Else (ClauseIn (λ clause. g (Else clause))) (g NoElse)
@@ -138,14 +139,14 @@ abbrev pub value_form : Name → List Name → Form
 value_form f ps =
     IfSign false sign.Equal (ExprOf (want_of f.text) (λ value. says (Def f ps (Some value)))) (says (Def f ps None))
 
--- behind an item of PRINT
+-- after an item of PRINT
 abbrev pub printed_form : Option PrintChannelTree → List PrintItemTree → PrintedTree → Form
 printed_form c items printed =
     IfSign false sign.Comma (MorePrinted c (items ++ record { printed = printed; separator = separator.Comma } ∷ []))
     (IfSign false sign.Semicolon (MorePrinted c (items ++ record { printed = printed; separator = separator.Semicolon } ∷ []))
     (says (Print c items (Some printed))))
 
--- behind a value of PRINT USING
+-- after a value of PRINT USING
 abbrev pub using_value_form : Option Tree → Tree → List UsingItemTree → Tree → Form
 using_value_form c format values t =
     IfSign false sign.Comma (MoreUsing c format (values ++ record { value = t; separator = separator.Comma } ∷ []))
@@ -155,7 +156,7 @@ using_value_form c format values t =
 abbrev pub number_option : Keyword → (Option Tree → Form) → Form
 number_option k g = IfSign false sign.Comma (TakeKey false k (ExprOf want.Number (λ n. g (Some n)))) (g None)
 
--- what MAT stores: behind `=` each first word tells the form, and behind a name what follows it
+-- What MAT stores: after `=` the first word decides the form, and after a name the next word does.
 abbrev pub matrix_form : (MatrixTree → Form) → Form
 matrix_form g =
     IfKey false keyword.Zer (g Zero)

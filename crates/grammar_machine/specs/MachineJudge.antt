@@ -1,4 +1,4 @@
--- The machine's verdict on a line. No promise speaks of it: it carries proofs alone.
+-- The machine's verdict on a line. It serves proofs only.
 use Rattle.std.specs.Prelude.{List, [], ◌∷◌, Option, None, Ok, Err}
 use Rattle.basic_tree.specs.declared.tokens.Cause.TheVariants as cause
 use Rattle.basic_tree.specs.Tokens.{Reading, tokens_of}
@@ -15,7 +15,7 @@ line_symbols = OneStatement ∷ MoreStatements ∷ []
 abbrev pub line_values : Values
 line_values = Parsed [] ∷ []
 
--- what stands before the first separator, and behind each
+-- the statement before the first separator, and the one after each
 abbrev pub line_in : List (Option StatementTree) → LineTree
 line_in [] = record { first = None; others = [] }
 line_in (s ∷ ss) = record { first = s; others = ss }

@@ -1,4 +1,4 @@
--- What each expected symbol does with the word that follows, or at the end. No promise speaks of it: it carries proofs alone.
+-- What each expected symbol does with the next word, or at the end. It serves proofs only.
 use Rattle.std.specs.Prelude.{ℕ, ◌||◌, ◌&&◌, ◌==◌, not, List, [], ◌∷◌, ◌++◌, Bool, true, false, cond, Option, Some, None, option_and_then}
 use Rattle.basic_tree.specs.declared.names.Name.{Name}
 use Rattle.basic_tree.specs.declared.tokens.Keyword.{Keyword}
@@ -21,10 +21,10 @@ use Rattle.grammar_machine.specs.MachineForms.{begins_value, item_form, has_room
 use Rattle.grammar_machine.specs.MachineSentences.{Class, Choice, Head, Simple, Sentence, sentence_of, modifier_of}
 use Rattle.grammar_machine.specs.MachineStarts.{Start, takes, atom, signed, start}
 
--- ---- what a symbol does where a word follows, or the end
+-- ---- what a symbol does with the next word, or at the end
 
 pub data MachineMove : Type 0 where
-  -- it takes the word, which opens a level or does not
+  -- it takes the word, which may open a level
   Shifts : Bool → Values → List Symbol → MachineMove
   Skips : Values → MachineMove
   -- a level ends
@@ -39,7 +39,7 @@ abbrev pub begin : ℕ → Want → Values → Option Word → MachineMove
 begin l w vs None = Refuses
 begin l w vs (Some t) = begun (start l w vs t)
 
--- what stands behind an operator
+-- what follows an operator
 abbrev pub right_of : Operator → Bool → Symbol
 right_of operator.Power is_textual = Exponent
 right_of operator.Times is_textual = Level sign_level (want_of is_textual)
@@ -103,7 +103,7 @@ more_arguments vs other = Skips (kept_several vs)
 
 -- ---- statements
 
--- what is expected behind what was taken; nothing is skipped there
+-- what is expected after what was taken; nothing is skipped there
 abbrev pub then_also : List Symbol → MachineMove → MachineMove
 then_also more (Shifts opens vs ks) = Shifts opens vs (ks ++ more)
 then_also more other = Refuses
@@ -152,7 +152,7 @@ more_of_list s items g vs (Some (Punctuation sign.Comma)) else_move =
     cond (has_room s items) (Shifts false vs (Go (item_form s (λ item. MoreOf s (items ++ item ∷ []) g)) ∷ [])) else_move
 more_of_list s items g vs other else_move = else_move
 
--- behind TAB
+-- after TAB
 abbrev pub tab_form : Option PrintChannelTree → List PrintItemTree → Form
 tab_form c items = TakeSign true sign.Opening (ExprOf want.Number (λ t. TakeClosing (printed_form c items (Tab t))))
 
@@ -165,7 +165,7 @@ abbrev pub more_using : Option Tree → Tree → List UsingItemTree → Values �
 more_using c format values vs o =
     expression_if begins_value want.Either (λ t. using_value_form c format values t) vs o (Skips (Stated (PrintUsing c format values None) ∷ vs))
 
--- what a form does, given what a clause does
+-- what a form does, given what clauses do
 abbrev pub form_move_with : ((ClauseTree → Form) → Values → Option Word → MachineMove) → Form → Values → Option Word → MachineMove
 form_move_with clause (Made v) vs o = Skips (v ∷ vs)
 form_move_with clause (TakeKey opens k f) vs o = take_key opens k vs o (Go f ∷ []) Refuses
@@ -192,7 +192,7 @@ form_move_with clause (ClauseIn g) vs o = clause g vs o
 abbrev pub no_clause : (ClauseTree → Form) → Values → Option Word → MachineMove
 no_clause g vs o = Refuses
 
--- what stands behind a statement that is a clause
+-- what follows a statement that is a clause
 abbrev pub behind_clause : (ClauseTree → Form) → Class → MachineMove → MachineMove
 behind_clause g Choice m = then_also (Close ∷ AwaitClause g ∷ []) m
 behind_clause g Head m = Refuses
@@ -210,7 +210,7 @@ clause_move g vs (Some t) = clause_sentence g vs t (sentence_of t)
 abbrev pub form_move : Form → Values → Option Word → MachineMove
 form_move f vs o = form_move_with clause_move f vs o
 
--- what stands behind a statement of the line
+-- what follows a statement of the line
 abbrev pub behind_class : Class → List Symbol
 behind_class Simple = Modifiers ∷ Do AddStatement ∷ []
 behind_class other = Do AddStatement ∷ []

@@ -1,17 +1,18 @@
--- The machine's steps over the words: structural on the words, with the levels of nesting that are left. No promise speaks of it: it carries proofs alone.
+-- The run of the machine over the words, by recursion over the words, with the number of nesting
+-- levels that are left. It serves proofs only.
 use Rattle.std.specs.Prelude.{ℕ, zero, suc, List, [], ◌∷◌, ◌++◌, Bool, true, false, Option, Some, None, Result, Ok, Err}
 use Rattle.basic_tree.specs.SpellingWords.{Word}
 use Rattle.grammar_machine.specs.MachineStack.{Values, Symbol}
 use Rattle.grammar_machine.specs.MachineMoves.{MachineMove, Shifts, Skips, Closes, Refuses, move}
 
--- a move of the topmost symbol, and of those below it until a word is taken
+-- a move of the top symbol, and of those below it, until a word is taken
 pub data Turn : Type 0 where
   Next : ℕ → Values → List Symbol → Turn
   Ended : Values → Turn
   Stuck : Turn
   Deep : Turn
 
--- with so many levels left
+-- with this many levels left
 abbrev pub entered : Bool → ℕ → Values → List Symbol → Turn
 entered false n vs k = Next n vs k
 entered true zero vs k = Deep
@@ -27,12 +28,12 @@ abbrev pub turn : List Symbol → ℕ → Values → Option Word → Turn
 turn [] n vs t = Ended vs
 turn (s ∷ k) n vs t = moved (move s vs t) n k (λ m vs'. turn k m vs' t)
 
--- the words from the one that is refused, or from the one that opens a level too many
+-- the words from the rejected one on, or from the one that opens a level too many
 pub data Halt : Type 0 where
   Wrong : List Word → Halt
   TooDeep : List Word → Halt
 
--- the values at the end and the words that are left, or where it stops
+-- the values at the end and the words that are left, or where the machine stops
 abbrev pub MachineOutcome : Type 0
 MachineOutcome = Result (Values × List Word) Halt
 

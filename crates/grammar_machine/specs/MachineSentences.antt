@@ -1,4 +1,4 @@
--- With which word each statement begins, and its form. No promise speaks of it: it carries proofs alone.
+-- The word with which each statement begins, and its form. It serves proofs only.
 use Rattle.std.specs.Prelude.{true, false, [], ◌∷◌, Option, Some, None}
 use Rattle.basic_tree.specs.declared.tokens.Keyword.{Keyword}
 use Rattle.basic_tree.specs.declared.tokens.Keyword.TheVariants as keyword
@@ -13,7 +13,7 @@ use Rattle.basic_tree.specs.SpellingStatements.{clause_wants_else}
 use Rattle.grammar_machine.specs.MachineStack.{Modifying, Targets, Shapes, FileShapes, Parameters, Arrays, Lines, Channels, FieldParts, LineNumber, Bound, Form, Made, TakeKey, TakeSign, TakeClosing, IfKey, IfSign, ExprOf, ExprIf, NameIn, FnNameIn, LiteralIn, LiteralIf, QuotedIf, ItemIn, MoreItems, MorePrinted, ClauseIn}
 use Rattle.grammar_machine.specs.MachineForms.{chains, list_form, targets_in, shapes_in, files_in, names_in, lines_in, channels_in, parts_in, says, range_form, else_form, targets_form, value_form, using_value_form, matrix_form, number_option, file_form}
 
--- ---- statements that stand by themselves
+-- ---- statements that can be neither clauses nor modified
 
 abbrev pub if_form : Form
 if_form =
@@ -46,7 +46,7 @@ def_form =
 abbrev pub result_form : Form
 result_form = FnNameIn (λ f. TakeSign false sign.Equal (ExprOf (want_of f.text) (λ value. says (Result f value))))
 
--- behind USING: the format, and a first value
+-- after USING: the format, and a first value
 abbrev pub using_form : Option Tree → Form
 using_form c = ExprOf want.Text (λ format. TakeSign false sign.Comma (ExprOf want.Either (λ t. using_value_form c format [] t)))
 
@@ -126,9 +126,9 @@ mat_form =
     (IfKey false keyword.Print mat_print_form
     (NameIn want.Number (λ a. TakeSign false sign.Equal (matrix_form (λ v. says (MatLet a v)))))))
 
--- ---- which statement a word begins
+-- ---- which statement begins with a word
 
--- an IF; what stands in no clause and without modifiers; any other
+-- an IF; a statement that is allowed in no clause and takes no modifier; any other
 pub data Class : Type 0 where
   Choice : Class
   Head : Class

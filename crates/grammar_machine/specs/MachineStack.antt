@@ -1,4 +1,5 @@
--- What is still expected behind the words so far: a stack of symbols, and the trees made so far. No promise speaks of it: it carries proofs alone.
+-- What is still expected after the words so far, as a stack of symbols, and the trees made so far.
+-- It serves proofs only.
 use Rattle.std.specs.Prelude.{ℕ, ◌+◌, List, [], ◌∷◌, ◌++◌, ◌&&◌, nat_lt, Bool, Option, Some}
 use Rattle.std.specs.Int.{is_power_of_two}
 use Rattle.basic_values.specs.declared.limits.TheConstants.{MOST_NUMBER}
@@ -14,7 +15,7 @@ use Rattle.basic_tree.specs.declared.parts.FileShape.{FileShape}
 use Rattle.basic_tree.specs.SpellingWords.{Word}
 use Rattle.basic_tree.specs.Trees.{Tree, Literal, Element, FunctionOf, Call, Parenthesized, Negative, Positive, Not, Operation, Comparison, Trees, NoTrees, AndTrees, ModifierTree, If, PrintItemTree, PrintChannelTree, UsingItemTree, CloseChannelTree, FieldPartTree, ClauseTree, StatementTree, Modified, End}
 
--- the loosest level, that of a whole expression
+-- the lowest precedence, that of a whole expression
 abbrev pub loosest : ℕ
 loosest = 11
 
@@ -32,7 +33,7 @@ Values = List Value
 
 -- ---- what statements expect
 
--- an element of a list with commas
+-- an element of a list that is separated by commas
 pub data Item : Type 0 where
   TargetItem : Tree → Item
   ShapeItem : Shape → Item
@@ -42,7 +43,7 @@ pub data Item : Type 0 where
   ChannelItem : CloseChannelTree → Item
   FieldItem : FieldPartTree → Item
 
--- which elements a list with commas has
+-- which elements a list has
 pub data Sequence : Type 0 where
   Targets : Want → Sequence
   Shapes : Sequence
@@ -53,7 +54,7 @@ pub data Sequence : Type 0 where
   Channels : Sequence
   FieldParts : Sequence
 
--- which literals may stand somewhere: the number of a line; a bound, or the number of a line or 0; the bytes of an element
+-- which literals are allowed: a line number; a bound, or a line number or 0; the size of an element
 pub data Limit : Type 0 where
   LineNumber : Limit
   Bound : Limit
@@ -64,20 +65,20 @@ within LineNumber n = nat_lt 0 n && nat_lt n (MOST_NUMBER + 1)
 within Bound n = nat_lt n (MOST_NUMBER + 1)
 within Size n = is_power_of_two n && nat_lt 1 n && nat_lt n 513
 
--- what is expected of a statement, and what behind each part that stands there
+-- what is expected of a statement, and after each of its parts
 pub data Form : Type 0 where
   -- nothing more: this has been read
   Made : Value → Form
-  -- a word, which opens a level of nesting or does not
+  -- a word, which may open a level of nesting
   TakeKey : Bool → Keyword → Form → Form
   TakeSign : Bool → Sign → Form → Form
-  -- the closing parenthesis, with which its level ends
+  -- the closing parenthesis, which ends its level
   TakeClosing : Form → Form
-  -- a word and what stands behind it, or else the other
+  -- a word and what follows it, or else the other form
   IfKey : Bool → Keyword → Form → Form → Form
   IfSign : Bool → Sign → Form → Form → Form
   ExprOf : Want → (Tree → Form) → Form
-  -- an expression where its first word passes the test, or else the other
+  -- an expression if its first word passes the test, or else the other form
   ExprIf : (Word → Bool) → Want → (Tree → Form) → Form → Form
   -- a variable or an element
   TargetOf : Want → (Tree → Form) → Form
@@ -89,13 +90,13 @@ pub data Form : Type 0 where
   -- an item of DATA, and more of them
   ItemIn : (List ℕ → Form) → Form
   MoreItems : List (List ℕ) → (List (List ℕ) → Form) → Form
-  -- more elements behind commas
+  -- more elements, each after a comma
   MoreOf : Sequence → List Item → (List Item → Form) → Form
   -- more items of PRINT
   MorePrinted : Option PrintChannelTree → List PrintItemTree → Form
-  -- more values of PRINT USING, behind its channel, its format and those before
+  -- more values of PRINT USING, after its channel, its format and the values so far
   MoreUsing : Option Tree → Tree → List UsingItemTree → Form
-  -- what an IF runs, with which its level ends
+  -- what an IF runs; its level ends there
   ClauseIn : (ClauseTree → Form) → Form
 
 -- what makes a tree of the topmost values
@@ -111,19 +112,19 @@ pub data Action : Type 0 where
   MakeElement : Name → Action
   MakeFunction : Function → Action
   MakeCall : Name → Action
-  -- a modifier behind a statement
+  -- a modifier after a statement
   Modify : Action
   -- one more statement of the line
   AddStatement : Action
 
 pub data Symbol : Type 0 where
-  -- an expression of a level and a wanted kind
+  -- an expression of a precedence level and a wanted kind
   Level : ℕ → Want → Symbol
-  -- more operands at a level
+  -- more operands of a level
   More : ℕ → Symbol
   -- more relations; true: the whole has to be a number
   MoreRelations : Bool → Symbol
-  -- signs and an atom, behind `^`
+  -- signs and an atom, after `^`
   Exponent : Symbol
   -- a sign that opens no level
   Expect : Sign → Symbol
@@ -132,23 +133,23 @@ pub data Symbol : Type 0 where
   -- the end of a level
   Close : Symbol
   Do : Action → Symbol
-  -- behind a name: subscripts, or none
+  -- after a name: subscripts, or none
   Subscripts : Name → Symbol
   -- a second subscript, or none
   SecondSubscript : Symbol
-  -- behind the name of a function of the program: arguments, or none
+  -- after the name of a function of the program: arguments, or none
   Arguments : Name → Symbol
   -- more arguments, or none
   MoreArguments : Symbol
   Go : Form → Symbol
-  -- behind an expression, and behind a statement that is a clause
+  -- after an expression, and after a statement that is a clause
   Await : (Tree → Form) → Symbol
   AwaitClause : (ClauseTree → Form) → Symbol
   -- modifiers, or none
   Modifiers : Symbol
   -- a statement of the line, or none
   OneStatement : Symbol
-  -- more statements behind separators, or none
+  -- more statements, each after a separator, or none
   MoreStatements : Symbol
 
 -- ---- values
@@ -182,7 +183,7 @@ abbrev pub below : Values → Values
 below [] = []
 below (v ∷ vs) = vs
 
--- the same values, where there are any
+-- the same values, if there are any
 abbrev pub kept : Values → Values
 kept vs = Term (top vs) ∷ below vs
 

@@ -1,4 +1,5 @@
--- How an expression of a level begins with a word, and what is expected behind it. No promise speaks of it: it carries proofs alone.
+-- How an expression of a level begins with a word, and what is expected after that. It serves
+-- proofs only.
 use Rattle.std.specs.Prelude.{ℕ, zero, suc, ◌+◌, ◌==◌, nat_lt, not, if◌then◌else◌, List, [], ◌∷◌, ◌++◌, Bool, true, false, cond, Option, Some, None}
 use Rattle.basic_values.specs.declared.limits.TheConstants.{MOST_NUMBER}
 use Rattle.basic_tree.specs.declared.tokens.Keyword.TheVariants as keyword
@@ -27,7 +28,7 @@ abbrev pub behind : List Symbol → Option Start → Option Start
 behind more None = None
 behind more (Some s) = Some (record { opens = s.opens; values = s.values; expected = s.expected ++ more })
 
--- whether a number or a text may stand where a kind is wanted
+-- whether a number or a string is allowed where this kind is wanted
 abbrev pub takes : Want → Bool → Bool
 takes want.Number is_textual = not is_textual
 takes want.Text is_textual = is_textual
@@ -36,7 +37,7 @@ takes want.Either is_textual = true
 abbrev pub if_takes : Want → Bool → Option Start → Option Start
 if_takes w is_textual s = cond (takes w is_textual) s None
 
--- the arguments of a function: each of its kind, with commas between
+-- the arguments of a function, each of its kind, separated by commas
 abbrev pub more_expected : List Want → List Symbol
 more_expected [] = Expect sign.Closing ∷ Close ∷ []
 more_expected (w ∷ ws) = Expect sign.Comma ∷ Level loosest w ∷ Do Collect ∷ more_expected ws
@@ -59,7 +60,7 @@ atom w vs (Punctuation sign.Opening) = starts true vs (Level loosest w ∷ Expec
 atom w vs (Key k) = function_start w vs (function_of k)
 atom w vs other = None
 
--- what a sign or NOT makes
+-- what a sign or NOT leads to
 abbrev pub prefixed : Want → Values → Symbol → Action → Option Start
 prefixed w vs operand a = if_takes w false (starts true vs (operand ∷ Close ∷ Do a ∷ []))
 
@@ -72,7 +73,7 @@ abbrev pub negated : Want → Values → Word → Option Start → Option Start
 negated w vs (Key keyword.Not) s = prefixed w vs (Level not_level want.Number) MakeNot
 negated w vs other s = s
 
--- the kind of a relation's first side
+-- the kind of a relation's left side
 abbrev pub side : Want → Want
 side want.Number = want.Either
 side want.Text = want.Text
@@ -83,7 +84,7 @@ relations want.Number = MoreRelations true ∷ []
 relations want.Text = []
 relations want.Either = MoreRelations false ∷ []
 
--- what stands at a level: signs, relations, NOT or a chain of operators
+-- what a level has: signs, relations, NOT, or a chain of operators
 pub data Rank : Type 0 where
   Signs : Rank
   Relations : Rank

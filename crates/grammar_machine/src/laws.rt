@@ -1,5 +1,5 @@
-//! That the grammar has one answer, as laws over its definitions in `basic_tree`.
-//! Each is the contract of a function that does nothing.
+//! The grammar has one answer: laws about its definitions in `basic_tree`. Each is the contract of
+//! a function with an empty body.
 
 ghost use Rattle.basic_tree.specs.AnswerLaws.{LevelsAreSettled, OneBytesAnswer, OneVerdict};
 ghost use Rattle.basic_tree.specs.AnswerLaws.{OneExprAnswer, OneLineAnswer};
@@ -16,38 +16,38 @@ pub fn one_line()
     ensures { OneLine }
 {}
 
-/// Every line of bytes has a tree, or is refused for a cause: there is a judge of all lines.
+/// Every line has a tree, or is rejected for a cause: there is a judge that follows the grammar.
 pub fn lines_are_judged()
     ensures { LinesAreJudged }
 {}
 
-/// Behind each place words are read as an expression of the wanted kind, or refused.
+/// From each place on, words are read as an expression of the wanted kind, or rejected.
 pub fn expressions_are_read()
     ensures { ExpressionsAreRead }
 {}
 
-/// The level of nesting in which a word stands hangs on the words up to it, and on none behind it.
+/// The nesting depth of a word depends on the words up to it, and on none after it.
 pub fn levels_are_settled()
     ensures { LevelsAreSettled }
 {}
 
-/// From a place on, words are read as one expression up to one place, or refused at one place
-/// for one cause.
+/// From a place on, words are read as one expression up to one place, or rejected at one place for
+/// one cause.
 pub fn expressions_have_one_answer()
     ensures { OneExprAnswer }
 {}
 
-/// Words are one line, or refused at one place for one cause.
+/// Words are one line, or rejected at one place for one cause.
 pub fn lines_have_one_answer()
     ensures { OneLineAnswer }
 {}
 
-/// Bytes spell one line, or are refused at one place for one cause.
+/// Bytes spell one line, or are rejected at one place for one cause.
 pub fn bytes_have_one_answer()
     ensures { OneBytesAnswer }
 {}
 
-/// The bytes of a line have one verdict: all judges by the grammar agree.
+/// Every line has one verdict: all judges agree.
 pub fn one_verdict()
     ensures { OneVerdict }
 {}

@@ -39,14 +39,7 @@ reply_fields Expired = []
 
 reply_written : (r : Reply) → reply_text r ≡ reply_word r ++ fields (reply_fields r)
 reply_written Done = refl
-reply_written (Opened blocks read write) = refl
-reply_written (Block page) = refl
-reply_written (Record pages) = refl
-reply_written (Name name code blocks) = refl
-reply_written (Message job account text) = refl
-reply_written (State job account calls) = refl
-reply_written (Failed number) = refl
-reply_written Expired = refl
+reply_written r = refl
 
 short_number : (n : ℕ) → n < 2 ^ 32 → is_plain (decimal n) ≡ true
 short_number n small = decimal_plain n (omega arith)

@@ -3,14 +3,13 @@ use Rattle.std.proofs.Common.{◌≡◌, ℕ, zero, suc, ◌+◌, ◌-◌, ◌<�
 use Rattle.std.specs.Prelude.{bytes_eq}
 use Rattle.std.specs.Cmp.Lexicographic.{bytes_decides}
 use Rattle.std.specs.List.{AllByRecursion}
-use Rattle.std.specs.Fmt.{decimal}
 use Rattle.std.proofs.lemmas.Bool.{ltb-true, ltb-false}
 use Rattle.std.proofs.lemmas.List.{append-nil, length-append, length-replicate}
 use Rattle.monitor_calls.specs.declared.calls.Entry.{Entry}
 use Rattle.monitor_calls.specs.declared.calls.Request.TheVariants.{Logout}
 use Rattle.monitor_calls.specs.declared.calls.Reply.TheVariants.{Done}
 use Rattle.monitor_calls.specs.Proper.{IsProperEntry, Proper}
-use Rattle.deck_model.specs.Histories.{entry_line, entry_lines, history_text}
+use Rattle.deck_model.specs.Histories.{entry_line, entry_lines, count_text, history_text}
 use Rattle.basic_values.proofs.CutLaws.{Lacks}
 use Rattle.history_reader.specs.EndedLines.{ended_lines, with_feeds, first_ended}
 use Rattle.history_reader.specs.HistoryReading.{TellsHistory, BeginsHistory, WrongAt, ReadsHistory}
@@ -20,7 +19,8 @@ use Rattle.history_reader.specs.LineErrors.{trouble_at_line}
 use Rattle.history_reader.specs.ReadingLaw.{HistoryIsOne, WrongPlaceIsOne}
 use Rattle.history_reader.specs.LineForms.{entry_read}
 use Rattle.history_reader.specs.SoFar.{heading_text, NoHeading, NoEntry, SoFar, TakesEntry}
-use Rattle.history_reader.proofs.CountLaws.{any_decimal_lacks, decimal_one}
+use Rattle.deck_model.proofs.CountTexts.{count_one}
+use Rattle.history_reader.proofs.CountLaws.{number_lacks}
 use Rattle.history_reader.proofs.EndedLaws.{one_line, first_line, ended_front, front_is, next_is, fewer_first}
 use Rattle.history_reader.proofs.FormLaws.{line_of, line_lacks, line_feed, entry_again}
 
@@ -85,18 +85,18 @@ heading_lacks count lacks = (refl, (refl, (refl, (refl, (refl, (refl, (refl, (re
 pub same_count : (a b : List ℕ) → heading_text a ≡ heading_text b → a ≡ b
 same_count a b e = cc
 
-pub history_shape : (h : List Entry) → history_text h ≡ heading_text (decimal (length h)) ++ 10 ∷ entry_lines h
-history_shape h = append_assoc (heading_text (decimal (length h))) (10 ∷ []) (entry_lines h)
+pub history_shape : (h : List Entry) → history_text h ≡ heading_text (count_text (length h)) ++ 10 ∷ entry_lines h
+history_shape h = append_assoc (heading_text (count_text (length h))) (10 ∷ []) (entry_lines h)
 
 -- a history's text behind the heading of a count
-headed : (h : List Entry) (count rest : List ℕ) → Lacks 10 count → history_text h ≡ heading_text count ++ 10 ∷ rest → (decimal (length h) ≡ count) × (entry_lines h ≡ rest)
+headed : (h : List Entry) (count rest : List ℕ) → Lacks 10 count → history_text h ≡ heading_text count ++ 10 ∷ rest → (count_text (length h) ≡ count) × (entry_lines h ≡ rest)
 headed h count rest lacks same =
-    let parts = one_line (heading_text (decimal (length h))) (heading_text count) (entry_lines h) rest (heading_lacks (decimal (length h)) (any_decimal_lacks (length h))) (heading_lacks count lacks) (sym (history_shape h) ∙ same) in
-    (same_count (decimal (length h)) count parts.0, parts.1)
+    let parts = one_line (heading_text (count_text (length h))) (heading_text count) (entry_lines h) rest (heading_lacks (count_text (length h)) (number_lacks (length h))) (heading_lacks count lacks) (sym (history_shape h) ∙ same) in
+    (same_count (count_text (length h)) count parts.0, parts.1)
 
 pub history_is_one : HistoryIsOne
 history_is_one text a b ta tb =
-    let same = headed a (decimal (length b)) (entry_lines b) (any_decimal_lacks (length b)) (sym ta.text_is ∙ tb.text_is ∙ history_shape b) in
+    let same = headed a (count_text (length b)) (entry_lines b) (number_lacks (length b)) (sym ta.text_is ∙ tb.text_is ∙ history_shape b) in
     same_entries a b ta.proper tb.proper same.1
 
 -- ---- where a text goes wrong
@@ -135,7 +135,7 @@ wrong_heading text bad = record {
         let f = first_line text line lines e in
         let front : first_ended 1 text ≡ line ++ 10 ∷ [] = next_is text [] (ended_lines text) refl line lines e in
         let same : history_text begins.history ≡ line ++ 10 ∷ begins.more = begins.text_is ∙ ap (λ (t : List ℕ). t ++ begins.more) front ∙ append_assoc line (10 ∷ []) begins.more in
-        let parts = one_line (heading_text (decimal (length begins.history))) line (entry_lines begins.history) begins.more (heading_lacks (decimal (length begins.history)) (any_decimal_lacks (length begins.history))) f.2 (sym (history_shape begins.history) ∙ same) in
+        let parts = one_line (heading_text (count_text (length begins.history))) line (entry_lines begins.history) begins.more (heading_lacks (count_text (length begins.history)) (number_lacks (length begins.history))) f.2 (sym (history_shape begins.history) ∙ same) in
         bad (length begins.history) f.0 (f.1 ∙ ap (λ (t : List ℕ). t ++ 10 ∷ f.0) (sym parts.0))
 
 -- ---- behind some entries
@@ -165,7 +165,7 @@ fillers_proper (suc n) = ((omega arith, (tt, tt)), fillers_proper n)
 
 module _ (text count : List ℕ) (entries : List Entry) (rest : List ℕ) (so_far : SoFar text count entries rest) where
   count_lacks : Lacks 10 count
-  count_lacks = subst (Lacks 10) (sym so_far.shown) (any_decimal_lacks so_far.number)
+  count_lacks = subst (Lacks 10) (sym so_far.shown) (number_lacks so_far.number)
 
   front_text : with_feeds (so_far_lines count entries) ≡ (heading_text count ++ 10 ∷ []) ++ entry_lines entries
   front_text = ap (λ (t : List ℕ). (heading_text count ++ 10 ∷ []) ++ t) (with_feeds-lines entries)
@@ -179,7 +179,7 @@ module _ (text count : List ℕ) (entries : List Entry) (rest : List ℕ) (so_fa
   ended = ap ended_lines whole_text ∙ ended_front (so_far_lines count entries) rest (heading_lacks count count_lacks, lines_lack entries so_far.proper)
 
   -- a history that goes on behind the entries
-  left_behind : (h : List Entry) (more : List ℕ) → Proper h → history_text h ≡ with_feeds (so_far_lines count entries) ++ more → (decimal (length h) ≡ count) × Left entries h more
+  left_behind : (h : List Entry) (more : List ℕ) → Proper h → history_text h ≡ with_feeds (so_far_lines count entries) ++ more → (count_text (length h) ≡ count) × Left entries h more
   left_behind h more proper same =
       let regroup : with_feeds (so_far_lines count entries) ++ more ≡ heading_text count ++ 10 ∷ (entry_lines entries ++ more) =
       ap (λ (t : List ℕ). t ++ more) front_text ∙ append_assoc (heading_text count ++ 10 ∷ []) (entry_lines entries) more ∙ append_assoc (heading_text count) (10 ∷ []) (entry_lines entries ++ more) in
@@ -187,38 +187,38 @@ module _ (text count : List ℕ) (entries : List Entry) (rest : List ℕ) (so_fa
       (parts.0, left_of entries h more so_far.proper proper parts.1)
 
   abbrev Stuck : Type 0
-  Stuck = (decimal (length entries) ≡ count) ⊎ NoEntry rest
+  Stuck = (count_text (length entries) ≡ count) ⊎ NoEntry rest
 
   -- no entry stands there, where a history goes on
-  blocked : length entries < 2 ^ 64 → Stuck → (h : List Entry) (more : List ℕ) (e : Entry) (others : List Entry) → decimal (length h) ≡ count → length h ≡ length entries + suc (length others) → IsProperEntry e → rest ≡ entry_line e ++ more → ⊥
-  blocked small (inl full) h more e others shown counted proper same =
-      let one : length h ≡ length entries = decimal_one (length h) (length entries) small (shown ∙ sym full) in
+  blocked : Stuck → (h : List Entry) (more : List ℕ) (e : Entry) (others : List Entry) → count_text (length h) ≡ count → length h ≡ length entries + suc (length others) → IsProperEntry e → rest ≡ entry_line e ++ more → ⊥
+  blocked (inl full) h more e others shown counted proper same =
+      let one : length h ≡ length entries = count_one (length h) (length entries) (shown ∙ sym full) in
       omega arith
-  blocked small (inr none) h more e others shown counted proper same = none e more proper same
+  blocked (inr none) h more e others shown counted proper same = none e more proper same
 
-  no_history : length entries < 2 ^ 64 → Stuck → (rest ≡ [] → decimal (length entries) ≡ count → ⊥) → (h : List Entry) → TellsHistory text h → ⊥
-  no_history small stuck unended h told =
+  no_history : Stuck → (rest ≡ [] → count_text (length entries) ≡ count → ⊥) → (h : List Entry) → TellsHistory text h → ⊥
+  no_history stuck unended h told =
       let behind = left_behind h rest told.proper (sym told.text_is ∙ whole_text) in
       go behind.1.entries behind.1.proper behind.1.count behind.1.lines behind.0
     where
-      go : (left : List Entry) → Proper left → length h ≡ length entries + length left → entry_lines left ≡ rest → decimal (length h) ≡ count → ⊥
+      go : (left : List Entry) → Proper left → length h ≡ length entries + length left → entry_lines left ≡ rest → count_text (length h) ≡ count → ⊥
       go [] proper counted lines shown =
           let all : length h ≡ length entries = omega arith in
-          unended (sym lines) (ap decimal (sym all) ∙ shown)
-      go (e ∷ others) proper counted lines shown = blocked small stuck h (entry_lines others) e others shown counted proper.0 (sym lines)
+          unended (sym lines) (ap count_text (sym all) ∙ shown)
+      go (e ∷ others) proper counted lines shown = blocked stuck h (entry_lines others) e others shown counted proper.0 (sym lines)
 
-  no_longer : length entries < 2 ^ 64 → Stuck → suc (length entries) < length (ended_lines text) → BeginsHistory (first_ended (suc (suc (length entries))) text) → ⊥
-  no_longer small stuck some begins = go (ended_lines rest) refl
+  no_longer : Stuck → suc (length entries) < length (ended_lines text) → BeginsHistory (first_ended (suc (suc (length entries))) text) → ⊥
+  no_longer stuck some begins = go (ended_lines rest) refl
     where
       counted : length (ended_lines text) ≡ suc (length entries) + length (ended_lines rest)
       counted = ap length ended ∙ omega (arith, length-append (so_far_lines count entries) (ended_lines rest), length-lines entries)
 
-      next : (line : List ℕ) (lines : List (List ℕ)) → ended_lines rest ≡ line ∷ lines → (left : List Entry) → Proper left → length begins.history ≡ length entries + length left → entry_lines left ≡ line ++ 10 ∷ begins.more → decimal (length begins.history) ≡ count → ⊥
+      next : (line : List ℕ) (lines : List (List ℕ)) → ended_lines rest ≡ line ∷ lines → (left : List Entry) → Proper left → length begins.history ≡ length entries + length left → entry_lines left ≡ line ++ 10 ∷ begins.more → count_text (length begins.history) ≡ count → ⊥
       next line lines e [] proper counted same shown = some_byte line begins.more 10 same
       next line lines e (first ∷ others) proper counted same shown =
           let f = first_line rest line lines e in
           let parts = one_line (line_of first) line (entry_lines others) begins.more (line_lacks first proper.0) f.2 (sym (line_then first (entry_lines others)) ∙ same) in
-          blocked small stuck begins.history f.0 first others shown counted proper.0 (f.1 ∙ ap (λ (t : List ℕ). t ++ 10 ∷ f.0) (sym parts.0) ∙ sym (line_then first f.0))
+          blocked stuck begins.history f.0 first others shown counted proper.0 (f.1 ∙ ap (λ (t : List ℕ). t ++ 10 ∷ f.0) (sym parts.0) ∙ sym (line_then first f.0))
 
       go : (lines : List (List ℕ)) → ended_lines rest ≡ lines → ⊥
       go [] e = let none : length (ended_lines rest) ≡ 0 = ap length e in omega (arith, counted)
@@ -235,7 +235,7 @@ module _ (text count : List ℕ) (entries : List Entry) (rest : List ℕ) (so_fa
   goes_on : BeginsHistory (first_ended (suc (length entries)) text)
   goes_on =
       let m : ℕ = so_far.number in
-      let shown : count ≡ decimal m = so_far.shown in
+      let shown : count ≡ count_text m = so_far.shown in
       let most : length entries ≤ m = so_far.most in
       let whole : List Entry = entries ++ replicate (m - length entries) filler in
       let many : length (so_far_lines count entries) ≡ suc (length entries) = omega (arith, length-lines entries) in
@@ -247,26 +247,26 @@ module _ (text count : List ℕ) (entries : List Entry) (rest : List ℕ) (so_fa
         history = whole;
         proper = proper_both entries (replicate (m - length entries) filler) so_far.proper (fillers_proper (m - length entries));
         more = fill;
-        text_is = history_shape whole ∙ (λ i. heading_text ((ap decimal all ∙ sym shown) i) ++ 10 ∷ lines_both entries (replicate (m - length entries) filler) i)
+        text_is = history_shape whole ∙ (λ i. heading_text ((ap count_text all ∙ sym shown) i) ++ 10 ∷ lines_both entries (replicate (m - length entries) filler) i)
             ∙ sym (append_assoc (heading_text count) (10 ∷ []) (entry_lines entries ++ fill)) ∙ sym (append_assoc (heading_text count ++ 10 ∷ []) (entry_lines entries) fill)
             ∙ ap (λ (t : List ℕ). t ++ fill) (sym front);
       }
 
-  pub wrong_here : length entries < 2 ^ 64 → (decimal (length entries) ≡ count) ⊎ NoEntry rest → (rest ≡ [] → decimal (length entries) ≡ count → ⊥) → WrongAt text (suc (length entries))
-  wrong_here small stuck unended = record {
-    none = no_history small stuck unended;
+  pub wrong_here : (count_text (length entries) ≡ count) ⊎ NoEntry rest → (rest ≡ [] → count_text (length entries) ≡ count → ⊥) → WrongAt text (suc (length entries))
+  wrong_here stuck unended = record {
+    none = no_history stuck unended;
     few = omega (arith, ap length ended, length-append (so_far_lines count entries) (ended_lines rest), length-lines entries);
     begins = goes_on;
-    longest = no_longer small stuck;
+    longest = no_longer stuck;
   }
 
-  pub whole_here : rest ≡ [] → decimal (length entries) ≡ count → TellsHistory text entries
+  pub whole_here : rest ≡ [] → count_text (length entries) ≡ count → TellsHistory text entries
   whole_here none shown = record {
     proper = so_far.proper;
-    text_is = so_far.text_is ∙ (λ i. heading_text (sym shown i) ++ 10 ∷ (entry_lines entries ++ none i)) ∙ ap (λ (t : List ℕ). heading_text (decimal (length entries)) ++ 10 ∷ t) (append-nil (entry_lines entries)) ∙ sym (history_shape entries);
+    text_is = so_far.text_is ∙ (λ i. heading_text (sym shown i) ++ 10 ∷ (entry_lines entries ++ none i)) ∙ ap (λ (t : List ℕ). heading_text (count_text (length entries)) ++ 10 ∷ t) (append-nil (entry_lines entries)) ∙ sym (history_shape entries);
   }
 
-  more_unmet : (decimal (length entries) ≡ count → ⊥) → length entries < so_far.number
+  more_unmet : (count_text (length entries) ≡ count → ⊥) → length entries < so_far.number
   more_unmet unmet = go (ltb (length entries) so_far.number) refl
     where
       go : (b : Bool) → ltb (length entries) so_far.number ≡ b → length entries < so_far.number
@@ -275,9 +275,9 @@ module _ (text count : List ℕ) (entries : List Entry) (rest : List ℕ) (so_fa
           let l = ltb-false (length entries) so_far.number e in
           let most = so_far.most in
           let same : length entries ≡ so_far.number = omega arith in
-          absurd (unmet (ap decimal same ∙ sym so_far.shown))
+          absurd (unmet (ap count_text same ∙ sym so_far.shown))
 
-  pub one_more : (e : Entry) (after : List ℕ) → (decimal (length entries) ≡ count → ⊥) → IsProperEntry e → rest ≡ entry_line e ++ after → SoFar text count (entries ++ e ∷ []) after
+  pub one_more : (e : Entry) (after : List ℕ) → (count_text (length entries) ≡ count → ⊥) → IsProperEntry e → rest ≡ entry_line e ++ after → SoFar text count (entries ++ e ∷ []) after
   one_more e after unmet proper same = record {
     number = so_far.number;
     shown = so_far.shown;
@@ -294,36 +294,35 @@ no_bytes : (text : List ℕ) → length text ≡ 0 → text ≡ []
 no_bytes [] e = refl
 no_bytes (b ∷ text) e = absurd (omega (arith, e))
 
-module _ (text count : List ℕ) (entries : List Entry) (rest : List ℕ) (so_far : SoFar text count entries rest) (n : ℕ) (counted : n ≡ length entries) (small : n < 2 ^ 64) where
-  told_so : bytes_eq count (decimal n) ≡ true → decimal (length entries) ≡ count
-  told_so e = ap decimal (sym counted) ∙ sym ((bytes_decides count (decimal n)).0 e)
+module _ (text count : List ℕ) (entries : List Entry) (rest : List ℕ) (so_far : SoFar text count entries rest) (n : ℕ) (counted : n ≡ length entries) where
+  told_so : bytes_eq count (count_text n) ≡ true → count_text (length entries) ≡ count
+  told_so e = ap count_text (sym counted) ∙ sym ((bytes_decides count (count_text n)).0 e)
 
-  pub still_open : bytes_eq count (decimal n) ≡ false → decimal (length entries) ≡ count → ⊥
+  pub still_open : bytes_eq count (count_text n) ≡ false → count_text (length entries) ≡ count → ⊥
   still_open other shown =
-      let both : false ≡ true = sym other ∙ (bytes_decides count (decimal n)).1 (sym shown ∙ ap decimal (sym counted)) in
+      let both : false ≡ true = sym other ∙ (bytes_decides count (count_text n)).1 (sym shown ∙ ap count_text (sym counted)) in
       cc
 
-  wrong_next : (decimal (length entries) ≡ count) ⊎ NoEntry rest → (rest ≡ [] → decimal (length entries) ≡ count → ⊥) → WrongAt text (n + 1)
+  wrong_next : (count_text (length entries) ≡ count) ⊎ NoEntry rest → (rest ≡ [] → count_text (length entries) ≡ count → ⊥) → WrongAt text (n + 1)
   wrong_next stuck unended =
       let next : suc (length entries) ≡ n + 1 = omega arith in
-      let few : length entries < 2 ^ 64 = omega arith in
-      subst (λ (k : ℕ). WrongAt text k) next (wrong_here text count entries rest so_far few stuck unended)
+      subst (λ (k : ℕ). WrongAt text k) next (wrong_here text count entries rest so_far stuck unended)
 
   -- as many entries as are counted, and more bytes
-  pub wrong_behind : bytes_eq count (decimal n) ≡ true → 0 < length rest → WrongAt text (n + 1)
+  pub wrong_behind : bytes_eq count (count_text n) ≡ true → 0 < length rest → WrongAt text (n + 1)
   wrong_behind full some = wrong_next (inl (told_so full)) (λ none shown. let l : length rest ≡ 0 = ap length none in omega arith)
 
   -- no entry in front
-  pub fails_here : {X : Type 0} (view : X → Entry × List ℕ) (error : LineError) → bytes_eq count (decimal n) ≡ false → TakesEntry view rest (Err error) → ReadsHistory text (Err (trouble_at_line error (n + 1)))
+  pub fails_here : {X : Type 0} (view : X → Entry × List ℕ) (error : LineError) → bytes_eq count (count_text n) ≡ false → TakesEntry view rest (Err error) → ReadsHistory text (Err (trouble_at_line error (n + 1)))
   fails_here view Wrong other none = wrong_next (inr none) (λ ended shown. still_open other shown)
   fails_here view Memory other none = tt
 
   -- fewer entries than are counted, and no more bytes
-  pub ends_here : bytes_eq count (decimal n) ≡ false → length rest ≡ 0 → WrongAt text (n + 1)
+  pub ends_here : bytes_eq count (count_text n) ≡ false → length rest ≡ 0 → WrongAt text (n + 1)
   ends_here other ended =
       wrong_next (inr (λ e more good same. no_line e more (sym (no_bytes rest ended) ∙ same))) (λ none shown. still_open other shown)
 
-  pub whole_text_here : bytes_eq count (decimal n) ≡ true → length rest ≡ 0 → TellsHistory text entries
+  pub whole_text_here : bytes_eq count (count_text n) ≡ true → length rest ≡ 0 → TellsHistory text entries
   whole_text_here full ended = whole_here text count entries rest so_far (no_bytes rest ended) (told_so full)
 
 -- what stands behind an entry is shorter

@@ -1,20 +1,19 @@
 -- The first line of a text is a heading or an entry's, or it is found to be none.
 use Rattle.std.proofs.Common.{◌≡◌, ℕ, true, false, List, [], ◌∷◌, ◌++◌, Option, Some, None, Ok, Err, refl, sym, ap, ◌∙◌, arith}
 use Rattle.std.specs.Prelude.{codes, Result, IfOk}
-use Rattle.std.specs.Fmt.{decimal}
 use Rattle.std.proofs.lemmas.List.{append-nil}
 use Rattle.basic_values.specs.Cuts.{◌>>=◌, behind, cut}
 use Rattle.basic_values.proofs.CutLaws.{bind_some, cut_takes, cut_again, behind_takes, behind_again}
 use Rattle.monitor_calls.specs.declared.calls.Entry.{Entry}
 use Rattle.monitor_calls.specs.Proper.{IsProperEntry}
-use Rattle.deck_model.specs.Histories.{entry_line, history_text}
+use Rattle.deck_model.specs.Histories.{entry_line, count_text, history_text}
 use Rattle.history_reader.specs.Counts.{is_count}
 use Rattle.history_reader.specs.declared.failures.LineError.{LineError}
 use Rattle.history_reader.specs.declared.failures.LineError.TheVariants.{Wrong, Memory}
 use Rattle.history_reader.specs.LineFields.{ReadsAs}
 use Rattle.history_reader.specs.LineForms.{entry_read, taken_read}
 use Rattle.history_reader.specs.SoFar.{heading_text, SoFar, NoHeading, NoEntry, TakesEntry}
-use Rattle.history_reader.proofs.CountLaws.{any_decimal_lacks, shown_count, count_shown}
+use Rattle.history_reader.proofs.CountLaws.{number_lacks, shown_count, count_shown}
 use Rattle.history_reader.proofs.FormLaws.{line_of, line_lacks, entry_again}
 use Rattle.history_reader.proofs.HistoryLaws.{line_then, heading_lacks, history_shape, same_count}
 
@@ -24,27 +23,27 @@ none_some (Some y) x none some = cc
 
 -- ---- headings
 
-heading_cut : (n : ℕ) (text rest : List ℕ) → text ≡ heading_text (decimal n) ++ 10 ∷ rest → cut 10 text ≡ Some (heading_text (decimal n), rest)
+heading_cut : (n : ℕ) (text rest : List ℕ) → text ≡ heading_text (count_text n) ++ 10 ∷ rest → cut 10 text ≡ Some (heading_text (count_text n), rest)
 heading_cut n text rest same =
-    ap (cut 10) same ∙ cut_again 10 (heading_text (decimal n)) rest (heading_lacks (decimal n) (any_decimal_lacks n))
+    ap (cut 10) same ∙ cut_again 10 (heading_text (count_text n)) rest (heading_lacks (count_text n) (number_lacks n))
 
 pub no_line_no_heading : (text : List ℕ) → cut 10 text ≡ None → NoHeading text
 no_line_no_heading text none n rest same =
-    none_some (cut 10 text) (heading_text (decimal n), rest) none (heading_cut n text rest same)
+    none_some (cut 10 text) (heading_text (count_text n), rest) none (heading_cut n text rest same)
 
-first_is : (text line after : List ℕ) (n : ℕ) (rest : List ℕ) → cut 10 text ≡ Some (line, after) → text ≡ heading_text (decimal n) ++ 10 ∷ rest → line ≡ heading_text (decimal n)
+first_is : (text line after : List ℕ) (n : ℕ) (rest : List ℕ) → cut 10 text ≡ Some (line, after) → text ≡ heading_text (count_text n) ++ 10 ∷ rest → line ≡ heading_text (count_text n)
 first_is text line after n rest found same =
-    let both : Some (line, after) ≡ Some (heading_text (decimal n), rest) = sym found ∙ heading_cut n text rest same in
-    let parts : (line, after) ≡ (heading_text (decimal n), rest) = cc in
+    let both : Some (line, after) ≡ Some (heading_text (count_text n), rest) = sym found ∙ heading_cut n text rest same in
+    let parts : (line, after) ≡ (heading_text (count_text n), rest) = cc in
     ap (λ (p : List ℕ × List ℕ). p.0) parts
 
 pub other_word : (text line after : List ℕ) → cut 10 text ≡ Some (line, after) → behind (codes "HISTORY ") line ≡ None → NoHeading text
 other_word text line after found none n rest same =
-    none_some (behind (codes "HISTORY ") line) (decimal n) none (ap (behind (codes "HISTORY ")) (first_is text line after n rest found same) ∙ behind_again (codes "HISTORY ") (decimal n))
+    none_some (behind (codes "HISTORY ") line) (count_text n) none (ap (behind (codes "HISTORY ")) (first_is text line after n rest found same) ∙ behind_again (codes "HISTORY ") (count_text n))
 
 pub no_count : (text line after count : List ℕ) → cut 10 text ≡ Some (line, after) → behind (codes "HISTORY ") line ≡ Some count → is_count count ≡ false → NoHeading text
 no_count text line after count found word bad n rest same =
-    let shown : count ≡ decimal n = same_count count (decimal n) (sym (behind_takes (codes "HISTORY ") line count word) ∙ first_is text line after n rest found same) in
+    let shown : count ≡ count_text n = same_count count (count_text n) (sym (behind_takes (codes "HISTORY ") line count word) ∙ first_is text line after n rest found same) in
     let both : false ≡ true = sym bad ∙ ap is_count shown ∙ shown_count n in
     cc
 
@@ -61,10 +60,10 @@ found_heading text line after count found word good =
 
 -- ---- entries
 
-pub one_written : (e : Entry) (out : List ℕ) → out ≡ history_text (e ∷ []) → cut 10 out ≡ Some (heading_text (decimal 1), entry_line e)
+pub one_written : (e : Entry) (out : List ℕ) → out ≡ history_text (e ∷ []) → cut 10 out ≡ Some (heading_text (count_text 1), entry_line e)
 one_written e out written =
-    ap (cut 10) (written ∙ history_shape (e ∷ [])) ∙ cut_again 10 (heading_text (decimal 1)) (entry_line e ++ []) (heading_lacks (decimal 1) (any_decimal_lacks 1))
-    ∙ ap (λ (t : List ℕ). Some (heading_text (decimal 1), t)) (append-nil (entry_line e))
+    ap (cut 10) (written ∙ history_shape (e ∷ [])) ∙ cut_again 10 (heading_text (count_text 1)) (entry_line e ++ []) (heading_lacks (count_text 1) (number_lacks 1))
+    ∙ ap (λ (t : List ℕ). Some (heading_text (count_text 1), t)) (append-nil (entry_line e))
 
 entry_cut : (e : Entry) (text more : List ℕ) → IsProperEntry e → text ≡ entry_line e ++ more → cut 10 text ≡ Some (line_of e, more)
 entry_cut e text more proper same = ap (cut 10) (same ∙ line_then e more) ∙ cut_again 10 (line_of e) more (line_lacks e proper)
@@ -105,10 +104,10 @@ takes_entry view text line after (Err Memory) found read proper = tt
 -- the line behind the heading of what is written of one entry
 pub line_written : (e : Entry) (before out front line : List ℕ) → before ≡ [] → out ≡ before ++ history_text (e ∷ []) → cut 10 out ≡ Some (front, line) → line ≡ entry_line e
 line_written e before out front line none written found =
-    let both : Some (front, line) ≡ Some (heading_text (decimal 1), entry_line e) = sym found ∙ one_written e out (written ∙ ap (λ (t : List ℕ). t ++ history_text (e ∷ [])) none) in
-    let parts : (front, line) ≡ (heading_text (decimal 1), entry_line e) = cc in
+    let both : Some (front, line) ≡ Some (heading_text (count_text 1), entry_line e) = sym found ∙ one_written e out (written ∙ ap (λ (t : List ℕ). t ++ history_text (e ∷ [])) none) in
+    let parts : (front, line) ≡ (heading_text (count_text 1), entry_line e) = cc in
     ap (λ (p : List ℕ × List ℕ). p.1) parts
 
 pub line_is_written : (e : Entry) (before out : List ℕ) → before ≡ [] → out ≡ before ++ history_text (e ∷ []) → cut 10 out ≡ None → ⊥
 line_is_written e before out none written missed =
-    none_some (cut 10 out) (heading_text (decimal 1), entry_line e) missed (one_written e out (written ∙ ap (λ (t : List ℕ). t ++ history_text (e ∷ [])) none))
+    none_some (cut 10 out) (heading_text (count_text 1), entry_line e) missed (one_written e out (written ∙ ap (λ (t : List ℕ). t ++ history_text (e ∷ [])) none))

@@ -57,41 +57,11 @@ request_fields (Declare name most) = letters_or_dash name ∷ decimal most ∷ [
 request_fields (Send name text) = letters_or_dash name ∷ hex_or_dash text ∷ []
 request_fields (Sleep seconds) = decimal seconds ∷ []
 request_fields (Print text) = hex_or_dash text ∷ []
-request_fields Logout = []
-request_fields Remove = []
-request_fields Receive = []
-request_fields Tick = []
-request_fields Assign = []
-request_fields Deassign = []
-request_fields OpenPrinter = []
-request_fields ClosePrinter = []
-request_fields Status = []
+request_fields other = []
 
 pub request_written : (r : Request) → request_text r ≡ request_word r ++ fields (request_fields r)
 request_written (Login account password) = refl
-request_written Logout = refl
-request_written (OpenFile channel name kind update code) = refl
-request_written (CloseFile channel) = refl
-request_written (Get channel block) = refl
-request_written (Put channel block page) = refl
-request_written (GetRecord channel block count) = refl
-request_written (PutRecord channel block pages) = refl
-request_written (Unlock channel) = refl
-request_written (Kill name) = refl
-request_written (Rename old new code) = refl
-request_written (Directory owner index) = refl
-request_written (Declare name most) = refl
-request_written Remove = refl
-request_written (Send name text) = refl
-request_written Receive = refl
-request_written (Sleep seconds) = refl
-request_written Tick = refl
-request_written Assign = refl
-request_written Deassign = refl
-request_written OpenPrinter = refl
-request_written (Print text) = refl
-request_written ClosePrinter = refl
-request_written Status = refl
+request_written r = refl
 
 -- ---- no word has a space or a LF
 

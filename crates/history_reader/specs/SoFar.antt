@@ -1,9 +1,8 @@
 -- A text of which some entries are read, and what readers find in front of one. No promise of the program speaks of it.
 use Rattle.std.specs.Prelude.{◌≡◌, ℕ, ◌≤◌, List, [], ◌∷◌, ◌++◌, length, Option, Some, None, Result, Ok, Err, codes, ⊤}
-use Rattle.std.specs.Fmt.{decimal}
 use Rattle.monitor_calls.specs.declared.calls.Entry.{Entry}
 use Rattle.monitor_calls.specs.Proper.{IsProperEntry, Proper}
-use Rattle.deck_model.specs.Histories.{entry_line, entry_lines}
+use Rattle.deck_model.specs.Histories.{entry_line, entry_lines, count_text}
 use Rattle.history_reader.specs.declared.failures.LineError.{LineError}
 use Rattle.history_reader.specs.declared.failures.LineError.TheVariants.{Wrong, Memory}
 
@@ -14,14 +13,14 @@ heading_text count = codes "HISTORY " ++ count
 -- the text is a first line with the count of no fewer, these entries, and a rest
 pub record SoFar (text count : List ℕ) (entries : List Entry) (rest : List ℕ) : Type 0 where
   pub number : ℕ
-  pub shown : count ≡ decimal number
+  pub shown : count ≡ count_text number
   pub most : length entries ≤ number
   pub proper : Proper entries
   pub text_is : text ≡ heading_text count ++ 10 ∷ (entry_lines entries ++ rest)
 
 -- no first line of a history is in front
 abbrev pub NoHeading : List ℕ → Type 0
-NoHeading text = (n : ℕ) (rest : List ℕ) → text ≡ heading_text (decimal n) ++ 10 ∷ rest → ⊥
+NoHeading text = (n : ℕ) (rest : List ℕ) → text ≡ heading_text (count_text n) ++ 10 ∷ rest → ⊥
 
 -- no line of an entry is in front
 abbrev pub NoEntry : List ℕ → Type 0

@@ -5,20 +5,13 @@ ghost use Rattle.std.specs.List.{list_all};
 ghost use Rattle.std.specs.Char.{is_ascii_digit};
 ghost use Rattle.history_reader.specs.Counts.{is_count};
 
-/// How many digits of a number are shown, at the most: the last ones.
-const MOST_DIGITS: usize = 64;
-
-/// Whether the text is that of a number, of any size.
+/// Returns whether the text is that of a number of any size: digits without a leading zero.
 pub(crate) fn is_count(text: &[u8]) -> bool
     ensures { result ≡ is_count text.now }
 {
     match text {
         [] => false,
-        [first, others @ ..] => {
-            is_digits(text)
-                && others.len() < MOST_DIGITS
-                && (*first != b'0' || others.is_empty() || others.len() == MOST_DIGITS - 1)
-        }
+        [first, others @ ..] => is_digits(text) && (*first != b'0' || others.is_empty()),
     }
 }
 

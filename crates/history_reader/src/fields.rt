@@ -3,7 +3,10 @@
 
 ghost use Rattle.std.specs.Prelude.{◌≡◌};
 ghost use Rattle.basic_values.specs.Cuts.{Finds, cut};
-ghost use Rattle.history_reader.specs.LineFields.{ReadsAs, word_read, field_by, byte_read, half_read, long_read, account_read, short_read, stem_of, name_read, letters_read, truth_read, kind_read, code_read, blocks_read};
+ghost use Rattle.history_reader.specs.LineFields.{ReadsAs, word_read, field_by, byte_read};
+ghost use Rattle.history_reader.specs.LineFields.{half_read, long_read, account_read, short_read};
+ghost use Rattle.history_reader.specs.LineFields.{stem_of, name_read, letters_read, truth_read};
+ghost use Rattle.history_reader.specs.LineFields.{kind_read, code_read, blocks_read};
 
 use crate::failures::LineError;
 use basic_values::{behind, cut, number_between};

@@ -1,10 +1,13 @@
 //! Fields that are bytes, two hexadecimal signs for each.
 
-ghost use Rattle.std.specs.Prelude.{◌≡◌, ◌*◌, ◌<◌, ◌≤◌, length, Some, None, nat_le, if◌then◌else◌, IfOk};
+ghost use Rattle.std.specs.Prelude.{◌≡◌, ◌*◌, ◌<◌, ◌≤◌, length, Some, None, nat_le, if◌then◌else◌};
+ghost use Rattle.std.specs.Prelude.{IfOk};
 ghost use Rattle.basic_values.specs.declared.limits.TheConstants.{BLOCK_BYTES};
 ghost use Rattle.basic_values.specs.declared.texts.TheConstants.{MOST_BYTES};
 ghost use Rattle.deck_model.specs.Files.{pages_of};
-ghost use Rattle.history_reader.specs.LineFields.{ReadsAs, field_by, sign_value, hex_bytes, password_read, message_read, one_page_read, page_run_read};
+ghost use Rattle.history_reader.specs.LineFields.{ReadsAs, field_by, sign_value, hex_bytes};
+ghost use Rattle.history_reader.specs.LineFields.{password_read, message_read, one_page_read};
+ghost use Rattle.history_reader.specs.LineFields.{page_run_read};
 
 use crate::failures::LineError;
 use crate::fields::word;

@@ -2,6 +2,7 @@
 
 ghost use Rattle.std.specs.Prelude.{◌≡◌, ◌++◌, ◌∷◌, [], ℕ, List, OnOk, bytes_eq};
 ghost use Rattle.std.specs.Fmt.{decimal};
+ghost use Rattle.deck_model.specs.Histories.{count_text};
 ghost use Rattle.history_reader.specs.HistoryReading.{ReadsHistory};
 ghost use Rattle.history_reader.specs.SoFar.{SoFar, FindsHeading};
 
@@ -62,8 +63,14 @@ fn entries(alloc: Global, count: &[u8], text: &[u8]) -> Result<Vec<Entry>, Troub
     }
 }
 
-/// Whether the text is that of the number.
+/// Returns whether the text is all digits of the number.
 fn is_decimal_of(number: usize, text: &[u8]) -> bool
+    ensures { result ≡ bytes_eq text.now (count_text number) }
+{
+    is_formatted(number, text)
+}
+
+fn is_formatted(number: usize, text: &[u8]) -> bool
     ensures { result ≡ bytes_eq text.now (decimal number) }
 {
     let mut buffer = Buffer::new();

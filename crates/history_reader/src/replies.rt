@@ -2,7 +2,10 @@
 
 ghost use Rattle.std.specs.Prelude.{◌≡◌};
 ghost use Rattle.history_reader.specs.LineFields.{ReadsAs};
-ghost use Rattle.history_reader.specs.LineForms.{opened_read, block_read, record_read, file_reply_read, letter_read, state_read, failed_read, told_reply_read, reply_by, reply_read};
+ghost use Rattle.history_reader.specs.LineForms.{opened_read, block_read, record_read};
+ghost use Rattle.history_reader.specs.LineForms.{file_reply_read, letter_read, state_read};
+ghost use Rattle.history_reader.specs.LineForms.{failed_read, told_reply_read, reply_by};
+ghost use Rattle.history_reader.specs.LineForms.{reply_read};
 
 use crate::failures::LineError;
 use crate::fields::{

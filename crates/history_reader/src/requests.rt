@@ -2,7 +2,13 @@
 
 ghost use Rattle.std.specs.Prelude.{◌≡◌};
 ghost use Rattle.history_reader.specs.LineFields.{ReadsAs};
-ghost use Rattle.history_reader.specs.LineForms.{bare_read, login_read, open_read, close_read, get_read, put_read, getrec_read, putrec_read, unlock_read, kill_read, rename_read, directory_read, declare_read, send_read, sleep_read, print_read, job_request_read, block_request_read, file_request_read, request_read};
+ghost use Rattle.history_reader.specs.LineForms.{bare_read, login_read, open_read, close_read};
+ghost use Rattle.history_reader.specs.LineForms.{get_read, put_read, getrec_read, putrec_read};
+ghost use Rattle.history_reader.specs.LineForms.{unlock_read, kill_read, rename_read};
+ghost use Rattle.history_reader.specs.LineForms.{directory_read, declare_read, send_read};
+ghost use Rattle.history_reader.specs.LineForms.{sleep_read, print_read, job_request_read};
+ghost use Rattle.history_reader.specs.LineForms.{block_request_read, file_request_read};
+ghost use Rattle.history_reader.specs.LineForms.{request_read};
 
 use crate::failures::LineError;
 use crate::fields::{

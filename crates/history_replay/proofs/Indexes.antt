@@ -6,7 +6,7 @@ use Rattle.std.proofs.lemmas.Option.{slice_get_within, same_Some}
 use Rattle.std.proofs.lemmas.Bool.{cases_eq, ne_eqb}
 use Rattle.monitor_calls.specs.declared.calls.Entry.{Entry}
 use Rattle.history_replay.specs.Disputes.{entry_position}
-use Rattle.history_replay.specs.Ports.{position_behind, IsIndex}
+use Rattle.history_replay.specs.Lists.{position_behind, IsIndex}
 use Rattle.history_replay.proofs.Positions.{drop_item}
 
 pub index_none : (jobs : ℕ) (history : List Entry) → IsIndex (length history) jobs history (replicate jobs (length history)) (replicate (length history) (length history))

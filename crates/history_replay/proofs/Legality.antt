@@ -10,7 +10,7 @@ use Rattle.monitor_model.specs.History.{after, IsAnswered, Legal}
 use Rattle.monitor_model.proofs.GoodLaw.{jobs_next}
 use Rattle.monitor_model.proofs.Histories.{after_push, legal_push}
 use Rattle.history_replay.specs.Disputes.{WrongReply}
-use Rattle.history_replay.specs.Ports.{AreOfJobs}
+use Rattle.history_replay.specs.Lists.{AreOfJobs}
 use Rattle.history_replay.proofs.Positions.{drop_item}
 
 -- the entries of a legal history are of the monitor's jobs

@@ -1,6 +1,6 @@
 pub mod Positions
 pub mod Indexes
-pub mod PortSteps
+pub mod ListSteps
 pub mod Legality
 pub mod Runs
 mod DisputesExamples

@@ -5,7 +5,7 @@ use Rattle.std.proofs.lemmas.Option.{slice_get_within, none-some, same_Some}
 use Rattle.monitor_calls.specs.declared.calls.Entry.{Entry}
 use Rattle.monitor_model.specs.History.{pair_in, part_of}
 use Rattle.history_replay.specs.Disputes.{entry_position}
-use Rattle.history_replay.specs.Ports.{position_behind}
+use Rattle.history_replay.specs.Lists.{position_behind}
 
 abbrev own : ℕ → Entry → Bool
 own job entry = entry.job == job

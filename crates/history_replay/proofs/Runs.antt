@@ -6,12 +6,15 @@ use Rattle.basic_values.specs.declared.failures.Trouble.{Trouble}
 use Rattle.basic_values.specs.declared.failures.Trouble.TheVariants as trouble
 use Rattle.monitor_calls.specs.declared.calls.Entry.{Entry}
 use Rattle.monitor_calls.specs.Pairs.{Pair}
+use Rattle.monitor_calls.specs.declared.events.Event.{Event}
+use Rattle.monitor_calls.specs.Pairs.{pairs_of}
+use Rattle.monitor_calls.specs.Typing.{Typing, Open, AreTyped}
 use Rattle.monitor_model.specs.History.{part_of}
-use Rattle.terminal_runner.specs.Runs.{does_at, AllDid}
+use Rattle.terminal_runner.specs.Runs.{AreUnused, Did, AllDid}
 use Rattle.history_replay.specs.declared.disputes.Dispute.{Dispute}
 use Rattle.history_replay.specs.declared.disputes.Dispute.TheVariants as dispute
-use Rattle.history_replay.specs.Disputes.{entry_position, Departs}
-use Rattle.history_replay.specs.Ports.{JobRan, FirstRan, JobsRan}
+use Rattle.history_replay.specs.Disputes.{each_does, entry_position, Departs}
+use Rattle.history_replay.specs.Lists.{Listed, part, heard, lister, EndsSeat, JobDeparts, JobRan, FirstRan, JobsRan}
 
 module _ (does : ℕ → List Pair → List ℕ → Type 0) (history : List Entry) where
   did_push : (from job : ℕ) (screens : List (List ℕ)) (screen : List ℕ) → job ≡ from + length screens → AllDid does history from screens → does job (part_of job history) screen → AllDid does history from (screens ++ screen ∷ [])
@@ -50,7 +53,7 @@ module _ {B : Type 0} (does : B → List Pair → List ℕ → Type 0) (history 
   body_here (first ∷ before) behind body = body_here before behind body
 
   -- what a job did or where it departed, by its own body, is so by the body at its place
-  ran_at : (bodies : List B) (body : B) (job : ℕ) (result : Result (List ℕ) (Trouble Dispute)) → slice_get bodies job ≡ Some body → JobRan (λ own. does body) job history result → JobRan (does_at does bodies) job history result
+  ran_at : (bodies : List B) (body : B) (job : ℕ) (result : Result (List ℕ) (Trouble Dispute)) → slice_get bodies job ≡ Some body → JobRan (λ own. does body) job history result → JobRan (each_does does bodies) job history result
   ran_at bodies body job (Ok screen) at ran = subst (λ (o : Option B). IfSome o (λ b. does b (part_of job history) screen)) (sym at) ran
   ran_at bodies body job (Err (trouble.Refused (dispute.Reply entry))) at ran = ran
   ran_at bodies body job (Err (trouble.Refused (dispute.Meaning which place position))) at ran =
@@ -71,7 +74,48 @@ module _ {B : Type 0} (does : B → List Pair → List ℕ → Type 0) (history 
   ran_at bodies body job (Err trouble.NoMemory) at ran = tt
 
   -- so it is of the next body of a loop over all of them, where those before it did their parts
-  pub next_ran : (all yielded rest left : List B) (body : B) (screens : List (List ℕ)) (job : ℕ) (result : Result (List ℕ) (Trouble Dispute)) → yielded ++ rest ≡ all → rest ≡ body ∷ left → FirstRan (does_at does all) (length yielded) history screens → job ≡ length screens → JobRan (λ own. does body) job history result → JobRan (does_at does all) (length yielded) history result
+  pub next_ran : (all yielded rest left : List B) (body : B) (screens : List (List ℕ)) (job : ℕ) (result : Result (List ℕ) (Trouble Dispute)) → yielded ++ rest ≡ all → rest ≡ body ∷ left → FirstRan (each_does does all) (length yielded) history screens → job ≡ length screens → JobRan (λ own. does body) job history result → JobRan (each_does does all) (length yielded) history result
   next_ran all yielded rest left body screens job result whole step ran count this =
       let here : slice_get all (length yielded) ≡ Some body = subst (λ (l : List B). slice_get l (length yielded) ≡ Some body) (ap (λ (l : List B). yielded ++ l) (sym step) ∙ whole) (body_here yielded left body) in
       ran_at all body (length yielded) result here (subst (λ j. JobRan (λ own. does body) j history result) (count ∙ ran.one_each) this)
+
+-- nothing was typed at the keyboard of the next job
+pub unused_next : {B K : Type 0} (keys : K → Typing) (all yielded rest left : List (B × K)) (job : B × K) → yielded ++ rest ≡ all → rest ≡ job ∷ left → AreUnused keys all → keys job.1 ≡ Open
+unused_next {B} {K} keys all yielded rest left job whole step are =
+    go yielded (subst (λ (l : List (B × K)). AreUnused keys l) (sym (ap (λ (l : List (B × K)). yielded ++ l) (sym step) ∙ whole)) are)
+  where
+    go : (yielded : List (B × K)) → AreUnused keys (yielded ++ job ∷ left) → keys job.1 ≡ Open
+    go [] are = are.0
+    go (first ∷ yielded) are = go yielded are.1
+
+-- what a job did over its port
+pub port_did : {K W : Type 0} (which : K → W) (keys : K → Typing) (does : List Event → List ℕ → Type 0) (keyboard given used : K) (log events : List Event) (pairs : List Pair) (screen : List ℕ) → given ≡ keyboard → which used ≡ which given → log ≡ events → pairs_of log ≡ pairs → AreTyped (keys used) log → does events screen
+    → Did which keys does keyboard used pairs screen
+port_did which keys does keyboard given used log events pairs screen was its all pairs_are typed done = record {
+  same = its ∙ ap which was;
+  events = events;
+  pairs_are = ap pairs_of (sym all) ∙ pairs_are;
+  typed = subst (λ (es : List Event). AreTyped (keys used) es) all typed;
+  done = done;
+}
+
+-- what a job did over the entries of a seat is its part of the history, or departs from it
+module _ (does : List Pair → List ℕ → Type 0) (history : List Entry) (number : ℕ) (seat : Listed) (who : lister seat ≡ (history, number)) (screen : List ℕ) (did : does (heard seat) screen) where
+  pub ran_whole : heard seat ≡ part seat → does (part_of number history) screen
+  ran_whole whole = subst (λ (pairs : List Pair). does pairs screen) (whole ∙ ap (λ (l : List Entry × ℕ). part_of l.1 l.0) who) did
+
+  pub ran_else : (why : Dispute) → EndsSeat seat (Some why) → JobRan (λ own. does) number history (Err (trouble.Refused why))
+  ran_else (dispute.Reply entry) is = is
+  ran_else (dispute.Meaning which place position) is = subst (λ (l : List Entry × ℕ). JobDeparts (λ own. does) l.0 l.1 which place position) who (record {
+    job_is = is.job_is;
+    departs = record {
+      pairs = heard seat;
+      screen = screen;
+      done = did;
+      common = is.part_at.common;
+      within_pairs = is.part_at.within_pairs;
+      within_part = is.part_at.within_part;
+      differs = is.part_at.differs;
+    };
+    position_is = is.position_is;
+  })

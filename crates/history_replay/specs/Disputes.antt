@@ -1,5 +1,5 @@
 -- When a list of entries is a history of jobs that do this, and where it first fails.
-use Rattle.std.specs.Prelude.{◌≡◌, ℕ, zero, suc, ◌==◌, ◌<◌, ◌≤◌, if◌then◌else◌, List, [], ◌∷◌, ◌++◌, length, take, slice_get, Result, Ok, Err}
+use Rattle.std.specs.Prelude.{◌≡◌, ℕ, zero, suc, ◌==◌, ◌<◌, ◌≤◌, if◌then◌else◌, List, [], ◌∷◌, ◌++◌, length, take, slice_get, IfSome, Result, Ok, Err}
 use Rattle.std.specs.Global.{Vec}
 use Rattle.basic_values.specs.declared.failures.Trouble.{Trouble}
 use Rattle.basic_values.specs.declared.failures.Trouble.TheVariants as trouble
@@ -10,6 +10,10 @@ use Rattle.monitor_model.specs.History.{after, IsAnswered, Legal, part_of}
 use Rattle.terminal_runner.specs.Runs.{AllDid}
 use Rattle.history_replay.specs.declared.disputes.Dispute.{Dispute}
 use Rattle.history_replay.specs.declared.disputes.Dispute.TheVariants as dispute
+
+-- what the job of a number does, of what each does
+abbrev pub each_does : {J : Type 0} → (J → List Pair → List ℕ → Type 0) → List J → ℕ → List Pair → List ℕ → Type 0
+each_does does jobs number pairs screen = IfSome (slice_get jobs number) (λ job. does job pairs screen)
 
 -- THE FIRST WRONG REPLY
 
@@ -23,6 +27,13 @@ pub record WrongReply (m : State) (history : List Entry) (place : ℕ) : Type 0 
   pub place_is : place ≡ length before
   pub legal : Legal m before
   pub wrong : IsAnswered (after m before) entry → ⊥
+
+-- the monitor after a legal history, or its first wrong reply; or memory ran out
+abbrev pub IsAfter : State → List Entry → Result State (Trouble Dispute) → Type 0
+IsAfter m history (Ok end) = Legal m history × (end ≡ after m history)
+IsAfter m history (Err (trouble.Refused (dispute.Reply entry))) = WrongReply m history entry
+IsAfter m history (Err (trouble.Refused (dispute.Meaning job place position))) = ⊥
+IsAfter m history (Err trouble.NoMemory) = Unit {0}
 
 -- THE FIRST JOB THAT DEPARTS
 

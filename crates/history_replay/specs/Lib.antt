@@ -1,3 +1,3 @@
 pub mod Disputes
-pub mod Ports
+pub mod Lists
 pub use Rattle.terminal_runner.specs.Runs

@@ -3,7 +3,7 @@
 ghost use Rattle.std.specs.Prelude.{◌≡◌, ◌↔◌, IsTrue, IfOk};
 ghost use Rattle.monitor_model.specs.Answer.{next};
 ghost use Rattle.monitor_model.specs.History.{IsAnswered};
-ghost use Rattle.history_replay.specs.Ports.{ChecksReplies};
+ghost use Rattle.history_replay.specs.Disputes.{IsAfter};
 
 use crate::disputes::Dispute;
 use crate::replies::same_reply;
@@ -12,21 +12,24 @@ use monitor_calls::{Entry, blank_page};
 use monitor_core::Monitor;
 use std::alloc::Global;
 
-/// Asks the monitor the request of each entry, one behind another. The first that it does not reply
-/// to so is the refusal.
-pub(crate) fn check_replies(
+/// Returns the monitor as it is after the entries, if they are a history of this newly opened
+/// monitor. It asks the monitor the request of each entry, one after another, and runs no job.
+///
+/// The first entry whose job does not exist, or whose reply is not the monitor's, is the refusal
+/// `Reply`. There is no other refusal.
+pub fn after_history(
     alloc: Global,
     mut monitor: Monitor,
     history: &[Entry],
-) -> Result<(), Trouble<Dispute>>
-    ensures { ChecksReplies monitor history.now result }
+) -> Result<Monitor, Trouble<Dispute>>
+    ensures { IsAfter monitor history.now result }
 {
     for (place, entry) in history.iter().enumerate() {
         if !is_answered(alloc, &mut monitor, entry)? {
             return Err(Trouble::Refused(Dispute::Reply { entry: place }));
         }
     }
-    Ok(())
+    Ok(monitor)
 }
 
 /// Whether the entry's job is one of the monitor's, and its reply the monitor's.

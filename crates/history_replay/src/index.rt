@@ -1,7 +1,7 @@
 //! Where each job's entries stand in a history.
 
 ghost use Rattle.std.specs.Prelude.{IfOk};
-ghost use Rattle.history_replay.specs.Ports.{AreOfJobs, IsIndex};
+ghost use Rattle.history_replay.specs.Lists.{AreOfJobs, IsIndex};
 
 use basic_values::NoMemory;
 use monitor_calls::Entry;

@@ -1,37 +1,41 @@
 //! The jobs of a history, which do again what they did.
 
 ghost use Rattle.std.specs.Prelude.{◌≡◌, ◌^◌, ◌<◌, ◌++◌, ◌∷◌, [], length, vec_len, OnOk};
-ghost use Rattle.terminal_runner.specs.Runs.{does_at};
-ghost use Rattle.history_replay.specs.Disputes.{entry_position};
-ghost use Rattle.history_replay.specs.Ports.{AreLater, IsIndex, JobRan, JobsRan};
+ghost use Rattle.monitor_calls.specs.Typing.{Open};
+ghost use Rattle.terminal_runner.specs.Runs.{AreUnused, leaves};
+ghost use Rattle.history_replay.specs.Disputes.{each_does, entry_position};
+ghost use Rattle.history_replay.specs.Lists.{AreLater, IsIndex, JobRan, JobsRan};
 
 use crate::disputes::Dispute;
 use crate::index::JobIndex;
-use crate::port::ListPort;
+use crate::list_seat::ListSeat;
 use basic_values::{NoMemory, Trouble};
 use monitor_calls::{Entry, Screen2};
 use std::alloc::Global;
-use terminal_runner::JobBody;
+use terminal_runner::{JobBody, Keyboard, TerminalPort};
 
 /// Runs each job over its entries. The first that departs from them is the refusal.
-pub(crate) fn run_all<B: JobBody + Drop>(
+pub(crate) fn run_all<B: JobBody + Drop, K: Keyboard + Drop>(
     alloc: Global,
-    bodies: Vec<B>,
+    jobs: Vec<(B, K)>,
     history: &[Entry],
     index: &JobIndex,
 ) -> Result<Vec<Screen2>, Trouble<Dispute>>
-    requires index { IsIndex 0 (vec_len bodies) history.now index.now.first.items index.now.later.items }
-    requires few { vec_len bodies < 2 ^ 32 }
-    ensures { JobsRan (does_at B.does bodies.items) (vec_len bodies) history.now result }
+    requires index { IsIndex 0 (vec_len jobs) history.now
+        index.now.first.items index.now.later.items }
+    requires few { vec_len jobs < 2 ^ 32 }
+    requires unused { AreUnused K.keys jobs.items }
+    ensures { JobsRan (each_does (leaves K.which K.keys B.does) jobs.items) (vec_len jobs)
+        history.now result }
 {
     let mut screens = Vec::new(alloc);
-    for body in bodies {
-        let job = screens.len();
-        let first = index.first[job];
+    for job in jobs {
+        let number = screens.len();
+        let first = index.first[number];
         let screen = run_one(
             alloc,
-            body,
-            job as u32,
+            job,
+            number as u32,
             history,
             index.later.as_slice(),
             first,
@@ -41,23 +45,27 @@ pub(crate) fn run_all<B: JobBody + Drop>(
     Ok(screens)
 }
 
-/// Runs a job over its entries, of which the first stands here.
-fn run_one<B: JobBody>(
+/// Runs the job of this number over its entries, of which the first stands here.
+fn run_one<B: JobBody, K: Keyboard + Drop>(
     alloc: Global,
-    body: B,
-    job: u32,
+    job: (B, K),
+    number: u32,
     history: &[Entry],
     later: &[usize],
     first: usize,
 ) -> Result<Screen2, Trouble<Dispute>>
-    requires first { first ≡ entry_position job 0 history.now }
+    requires first { first ≡ entry_position number 0 history.now }
     requires small { length history.now < 2 ^ 63 }
     requires later { AreLater 0 history.now later.now }
-    ensures { JobRan (λ own. B.does body) job history.now result }
+    requires unused { K.keys job.1 ≡ Open }
+    ensures { JobRan (λ own. leaves K.which K.keys B.does job) number history.now result }
 {
-    let mut port = ListPort::new(alloc, history, later, job, first);
+    let (body, keyboard) = job;
+    let seat = ListSeat::new(alloc, history, later, number, first);
+    let mut port = TerminalPort::new(seat, keyboard);
     let screen = body.run(alloc, &mut port)?;
-    match port.departure() {
+    let (seat, _keyboard) = port.into_parts();
+    match seat.departure() {
         None => Ok(screen),
         Some(dispute) => Err(Trouble::Refused(dispute)),
     }

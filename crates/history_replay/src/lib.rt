@@ -2,20 +2,22 @@
 //! thread, or where it first fails.
 //!
 //! `replay` carries the promise. It asks a newly opened monitor each entry's request and compares
-//! the reply (`answers`), and then runs each job's body (`jobs`) over a port that replies what the
-//! job's entries say (`port`), which an index finds (`index`). What a job does is known by its body
-//! alone.
+//! the reply (`answers`), and then runs each job's body (`jobs`) over a keyboard and a seat that
+//! replies what the job's entries say (`list_seat`), which an index finds (`index`). What a job
+//! does is known by its body alone. `after_history` does the first of both, and returns the monitor
+//! as it is after the entries.
 #![tactic(auto)]
 
 mod answers;
 mod disputes;
 mod index;
 mod jobs;
-mod port;
+mod list_seat;
 mod replays;
 mod replies;
 mod requests;
 mod values;
 
+pub use answers::after_history;
 pub use disputes::Dispute;
 pub use replays::replay;

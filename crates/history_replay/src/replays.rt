@@ -1,10 +1,10 @@
-//! A replay of entries over a monitor and a body.
+//! A replay of entries over a monitor, bodies and keyboards.
 
 ghost use Rattle.std.specs.Prelude.{◌≡◌, ◌<◌, ◌^◌, length, vec_len};
-ghost use Rattle.terminal_runner.specs.Runs.{does_at};
-ghost use Rattle.history_replay.specs.Disputes.{Replays};
+ghost use Rattle.terminal_runner.specs.Runs.{AreUnused, leaves};
+ghost use Rattle.history_replay.specs.Disputes.{each_does, Replays};
 
-use crate::answers::check_replies;
+use crate::answers::after_history;
 use crate::disputes::Dispute;
 use crate::index::index_of;
 use crate::jobs::run_all;
@@ -12,24 +12,27 @@ use basic_values::Trouble;
 use monitor_calls::{Entry, Screen2};
 use monitor_core::Monitor;
 use std::alloc::Global;
-use terminal_runner::JobBody;
+use terminal_runner::{JobBody, Keyboard};
 
-/// Whether the entries are a history of a run over this newly opened monitor, of whose jobs each
-/// does what its body does: then what each job's terminal was given, in the order of the jobs.
+/// Returns what each job's terminal was given, in the order of the jobs, if the entries are a
+/// history of a run over this newly opened monitor, of whose jobs each does what its body does when
+/// this is typed.
 ///
-/// The first entry whose reply is not the monitor's is the refusal `Reply`. Where there is none, the
+/// The first entry whose reply is not the monitor's is the refusal `Reply`. If there is none, the
 /// least job that does other things than its entries say is the refusal `Meaning`.
-pub fn replay<B: JobBody + Drop>(
+pub fn replay<B: JobBody + Drop, K: Keyboard + Drop>(
     alloc: Global,
     monitor: Monitor,
-    bodies: Vec<B>,
+    jobs: Vec<(B, K)>,
     history: &[Entry],
 ) -> Result<Vec<Screen2>, Trouble<Dispute>>
-    requires { vec_len bodies ≡ length monitor.jobs }
-    ensures { Replays (does_at B.does bodies.items) monitor (vec_len bodies) history.now result }
+    requires one_each { vec_len jobs ≡ length monitor.jobs }
+    requires unused { AreUnused K.keys jobs.items }
+    ensures { Replays (each_does (leaves K.which K.keys B.does) jobs.items) monitor (vec_len jobs)
+        history.now result }
 {
-    let jobs = monitor.job_count();
-    check_replies(alloc, monitor, history)?;
-    let index = index_of(alloc, history, jobs)?;
-    run_all(alloc, bodies, history, &index)
+    let count = monitor.job_count();
+    drop(after_history(alloc, monitor, history)?);
+    let index = index_of(alloc, history, count)?;
+    run_all(alloc, jobs, history, &index)
 }

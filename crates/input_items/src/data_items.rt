@@ -9,8 +9,8 @@ use basic_values::{Fault, NoMemory, Text, Trouble};
 use job_storage::copied;
 use std::alloc::Global;
 
-/// The item of DATA at a place, without the blanks around it, and moves the place behind it. Error 57
-/// where no item is left.
+/// Returns the item of DATA at a place, without the blanks around it, and moves the place to the
+/// next one. Error 57: no item is left.
 #[inline(always)]
 pub fn next_item(alloc: Global, words: &[Text], place: &mut usize) -> Result<Text, Trouble<Fault>>
     ensures item { Answers (data_item (slice_get words.now place.old)) result }

@@ -1,4 +1,4 @@
-//! What an item of INPUT or READ is: a text or a number.
+//! The value of an item of INPUT or READ: a string or a number.
 
 ghost use Rattle.std.specs.Prelude.{◌≡◌, ◌≤◌, ◌==◌, not, length};
 ghost use Rattle.std.specs.List.{take_while, prefix_len};
@@ -14,15 +14,15 @@ use job_storage::{bytes, copied};
 use program_model::Value;
 use std::alloc::Global;
 
-/// The bytes without the blanks around them.
+/// Returns the bytes without the blanks around them.
 pub fn without_blanks(bytes: &[u8]) -> &[u8]
     ensures { result.now ≡ without_blanks bytes.entry.now }
 {
     without_end_blanks(without_front_blanks(bytes))
 }
 
-/// An item as a text or as a number. Error 50 where it spells no number, or where it begins with a quote
-/// whose match does not end it; 51 where the number has more than 16 bits.
+/// Returns an item as a string or as a number. Error 50: it spells no number, or it begins with a
+/// quote and does not end at the matching one. Error 51: the number does not have 16 bits.
 pub fn item_value(alloc: Global, is_text: bool, item: Value) -> Result<Value, Trouble<Fault>>
     ensures { Answers (item_value is_text (text item)) result }
 {
@@ -42,7 +42,7 @@ pub fn item_value(alloc: Global, is_text: bool, item: Value) -> Result<Value, Tr
     }
 }
 
-/// The text of an item: what stands between its quotes, or all of it.
+/// Returns the string of an item: what is between its quotes, or all of it.
 fn item_text(alloc: Global, item: Text) -> Result<Text, Trouble<Fault>>
     ensures { Answers (item_text item) result }
 {
@@ -52,7 +52,7 @@ fn item_text(alloc: Global, item: Text) -> Result<Text, Trouble<Fault>>
     }
 }
 
-/// What stands between a quote and its match, where nothing stands behind that.
+/// Returns what is between a quote and its match, if nothing follows that.
 fn unquoted(alloc: Global, quote: u8, rest: &[u8]) -> Result<Text, Trouble<Fault>>
     ensures { Answers (unquoted quote rest.now) result }
 {
@@ -72,7 +72,7 @@ fn before_quote(quote: u8, rest: &[u8]) -> &[u8]
     &rest[..count_before(quote, rest)]
 }
 
-/// How many bytes stand in front of a quote.
+/// Returns how many bytes are before a quote.
 fn count_before(quote: u8, rest: &[u8]) -> usize
     ensures count { result ≡ prefix_len (λ byte. not (byte == quote)) rest.now }
     ensures within { result ≤ length rest.now }

@@ -1,8 +1,9 @@
-//! The items of INPUT and of READ: those of a line of keys, the next one of DATA, and the value of one.
+//! The items of INPUT and READ: those of a key line, the next one of DATA, and the value of an
+//! item.
 //!
-//! `items_of` carries that a line gives so many items or is refused, `next_item` that an item of DATA is
-//! taken once, and `item_value` which text or number an item is. It stands on `job_storage` for copies of
-//! texts, and on `program_model` and `basic_strings` for what an item is.
+//! `items_of` promises that a line gives as many items as wanted or fails, `next_item` that an item
+//! of DATA is taken once, and `item_value` which string or number an item is. The definitions are
+//! in `program_model`.
 #![tactic(auto)]
 
 mod data_items;

@@ -12,8 +12,8 @@ use basic_values::{Fault, NoMemory, Text, Trouble};
 use job_storage::copied;
 use std::alloc::Global;
 
-/// The first so many items of a line, which is cut at the commas outside quotes, without the blanks
-/// around them. Error 59 where the line has fewer.
+/// Returns the first items of a line, without the blanks around them. The line is split at the
+/// commas outside quotes. Error 59: the line has fewer items.
 pub fn items_of(alloc: Global, line: &[u8], count: usize) -> Result<Vec<Text>, Trouble<Fault>>
     ensures { AnswersList (counted count (items_in_line line.now)) result }
 {
@@ -25,7 +25,7 @@ pub fn items_of(alloc: Global, line: &[u8], count: usize) -> Result<Vec<Text>, T
     Ok(items)
 }
 
-/// All items of a line.
+/// Returns all items of a line.
 fn items_in_line(alloc: Global, line: &[u8]) -> Result<Vec<Text>, NoMemory>
     ensures { IfOk result (λ items. items.items ≡ items_in_line line.now) }
 {
@@ -34,8 +34,8 @@ fn items_in_line(alloc: Global, line: &[u8]) -> Result<Vec<Text>, NoMemory>
     Ok(items)
 }
 
-/// Puts the items of a line into an empty list. The list is the caller's, so that nothing has to be
-/// dropped at an early end.
+/// Adds the items of a line to an empty list. The list is the caller's, so nothing has to be
+/// dropped at an early exit.
 fn cut_all(alloc: Global, items: &mut Vec<Text>, line: &[u8]) -> Result<(), NoMemory>
     requires { items.old.items ≡ [] }
     ensures { OnOk result (items.new.items ≡ items_in_line line.now) }
@@ -55,7 +55,7 @@ fn cut_all(alloc: Global, items: &mut Vec<Text>, line: &[u8]) -> Result<(), NoMe
     Ok(())
 }
 
-/// Puts an item without the blanks around it behind others.
+/// Adds an item without the blanks around it.
 fn add_item(alloc: Global, items: &mut Vec<Text>, item: &[u8]) -> Result<(), NoMemory>
     ensures { OnOk result (items.new.items ≡ items.old.items ++ without_blanks item.now ∷ []) }
 {
@@ -63,7 +63,7 @@ fn add_item(alloc: Global, items: &mut Vec<Text>, item: &[u8]) -> Result<(), NoM
     Ok(())
 }
 
-/// Whether a byte ends an item.
+/// Returns whether a byte ends an item.
 fn cuts(quote: Option<u8>, byte: u8) -> bool
     ensures { result ≡ cuts quote byte }
 {
@@ -73,7 +73,7 @@ fn cuts(quote: Option<u8>, byte: u8) -> bool
     }
 }
 
-/// The quote that is open behind a byte.
+/// Returns the quote that is open after a byte.
 fn quote_after(quote: Option<u8>, byte: u8) -> Option<u8>
     ensures { result ≡ quote_after quote byte }
 {

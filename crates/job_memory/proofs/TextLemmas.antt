@@ -1,9 +1,8 @@
--- A text that is changed in its place, among all variables.
-use Rattle.std.proofs.Common.{◌≡◌, ℕ, ◌+◌, List, Bool, true, false, Option, Some, None, sym, ap, ◌∙◌, arith, length-append}
-use Rattle.std.proofs.lemmas.Map.Entries.{sum_by-set_value}
+-- A text that is changed in its place: from the one variable to all variables, and to the memory.
+use Rattle.std.proofs.Common.{◌≡◌, ℕ, ◌+◌, ◌≤◌, List, Bool, true, false, Option, Some, None, sym, ap, ◌∙◌, arith, length-append}
+use Rattle.std.proofs.lemmas.Map.Entries.{sum_by-insert_entry, sum_by-set_value}
 use Rattle.std.proofs.lemmas.Map.Steps.{set_value_same}
-use Rattle.std.proofs.lemmas.Grind.{common_steps}
-use Rattle.std.specs.Prelude.{◌++◌, length, take, drop, Result, Ok, Err}
+use Rattle.std.specs.Prelude.{◌++◌, length, if◌then◌else◌, Result, Ok, Err, IfOk, IfSome}
 use Rattle.std.specs.BTreeMap.{insert_entry}
 use Rattle.std.specs.List.Sorted.{IsStrictlySortedBy}
 use Rattle.std.specs.Map.{keys_of, lookup, set_value}
@@ -14,14 +13,13 @@ use Rattle.basic_values.specs.declared.failures.Trouble.TheVariants as trouble
 use Rattle.basic_tree.specs.declared.names.Name.{Name}
 use Rattle.job_memory.specs.declared.contents.Content.{Content}
 use Rattle.job_memory.specs.declared.contents.Content.TheVariants.{Own}
-use Rattle.job_memory.specs.Contents.{size, size_in, text_of}
 use Rattle.job_memory.specs.declared.contents.TheConstants.{MOST_ROOM}
-use Rattle.job_memory.specs.Memory.{Memory, variables_size, variable, room_of}
+use Rattle.job_memory.specs.Contents.{size, text_of}
+use Rattle.job_memory.specs.Memory.{Memory, variables_size, room_of}
 use Rattle.job_memory.specs.Names.{name_cmp, at_name}
-use Rattle.job_memory.specs.TextChanges.{IsOwn, Lengthens, LengthensIn, Shortens, ShortensIn, Appends, own_text, holding_text}
+use Rattle.job_memory.specs.TextChanges.{ChangesOwn, one_variable, among_variables, in_memory, lengthened}
 use Rattle.job_memory.proofs.EntryLemmas.{insert_entry-found}
 use Rattle.job_memory.proofs.NameLemmas.{name_total}
-use Rattle.job_memory.proofs.RoomLemmas.{room_of-store}
 
 module _ (name : Name) (old new : List (Name × Content)) (was is : Content) (sorted : IsStrictlySortedBy name_cmp (keys_of old)) (found : lookup (at_name name) old ≡ Some was) (set : new ≡ set_value (at_name name) old is) where
   -- a variable takes another content: the entries, and the room
@@ -31,44 +29,53 @@ module _ (name : Name) (old new : List (Name × Content)) (was is : Content) (so
   room_changed : variables_size new + size was ≡ variables_size old + size is
   room_changed = omega (arith, ap variables_size set, sum_by-set_value size (at_name name) old was is found)
 
+  room_wanted : (wanted : Content) → variables_size (insert_entry name_cmp old name wanted) + size was ≡ variables_size old + size wanted
+  room_wanted wanted = rw found at (sum_by-insert_entry size name_total old name wanted sorted)
+
   unchanged : is ≡ was → new ≡ old
   unchanged same = set ∙ ap (set_value (at_name name) old) same ∙ set_value_same (at_name name) old was found
 
   some_content : {a b : Content} → Some a ≡ Some b → a ≡ b
   some_content same = cc
 
-  pub lengthened : (more : List ℕ) (spare : ℕ) (r : Result Bool (Trouble Halt)) → Lengthens more spare (Some was) (Some is) r → LengthensIn name more spare old new r
-  lengthened more spare (Ok true) by =
-      let same : is ≡ Own (text_of was ++ more) = some_content by.1 in
-      rw found (by.0, by.2, by.3, entries_changed (Own (text_of was ++ more)) same, grind (arith, common_steps, room_changed, same, some_content by.0))
-  lengthened more spare (Ok false) by = rw found (unchanged (some_content by.0), by.1)
-  lengthened more spare (Err (trouble.Refused halt.TooLong)) by = rw found (unchanged (some_content by.0), by.1, by.2)
-  lengthened more spare (Err (trouble.Refused halt.RoomFull)) by = rw found (unchanged (some_content by.0), by.1, by.2, by.3)
-  lengthened more spare (Err (trouble.Refused halt.NoGosub)) by = absurd by
-  lengthened more spare (Err (trouble.Refused halt.TooDeep)) by = absurd by
-  lengthened more spare (Err (trouble.Refused halt.NoError)) by = absurd by
-  lengthened more spare (Err trouble.NoMemory) by = unchanged (some_content by)
+  pub changed_among : (here most : ℕ) (change : List ℕ → List ℕ) (r : Result Bool (Trouble Halt)) → most + size was ≡ variables_size old + here
+      → ChangesOwn one_variable here change (Some was) (Some is) r → ChangesOwn (among_variables name) most change old new r
+  changed_among here most change (Ok true) left by =
+      rw found (by.0, by.1, by.2, entries_changed (Own (change (text_of was))) (some_content by.3), omega (arith, room_changed, left, by.4))
+  changed_among here most change (Ok false) left by = rw found (unchanged (some_content by.0), by.1)
+  changed_among here most change (Err (trouble.Refused halt.TooLong)) left by = rw found (unchanged (some_content by.0), by.1, by.2)
+  changed_among here most change (Err (trouble.Refused halt.RoomFull)) left by =
+      rw found (unchanged (some_content by.0), by.1, by.2, omega (arith, room_wanted (Own (change (text_of was))), left, by.3))
+  changed_among here most change (Err (trouble.Refused halt.NoGosub)) left by = absurd by
+  changed_among here most change (Err (trouble.Refused halt.TooDeep)) left by = absurd by
+  changed_among here most change (Err (trouble.Refused halt.NoError)) left by = absurd by
+  changed_among here most change (Err trouble.NoMemory) left by = unchanged (some_content by)
 
-  pub shortened : (before count : ℕ) (r : Option ℕ) → Shortens before count (Some was) (Some is) r → ShortensIn name before count old new r
-  shortened before count (Some fewer) by =
-      let kept = take count (drop before (text_of was)) in
-      let same : is ≡ Own kept = some_content by.1 in
-      rw found (by.0, by.2, entries_changed (Own kept) same, grind (arith, common_steps, room_changed, same, some_content by.0, by.3))
-  shortened before count None by = rw found (unchanged (some_content by.0), by.1)
+  -- bytes at the end take their room
+  pub grown : (here : ℕ) (more : List ℕ) (r : Result Bool (Trouble Halt)) → ChangesOwn one_variable here (lengthened more) (Some was) (Some is) r
+      → IfOk r (λ done. variables_size new ≡ variables_size old + (if done then length more else 0))
+  grown here more (Ok true) by =
+      omega (arith, room_changed, ap size (some_content by.0), ap size (some_content by.3), length-append (text_of was) more)
+  grown here more (Ok false) by = omega (arith, ap variables_size (unchanged (some_content by.0)))
+  grown here more (Err why) by = tt
 
--- a text that is not lengthened: the memory is as before
-module _ (name : Name) (more : List ℕ) (m : Memory) (variables : List (Name × Content)) (sorted : IsStrictlySortedBy name_cmp (keys_of m.variables)) where
-  as_before : variables ≡ m.variables → record m { variables = variables } ≡ m
-  as_before same = ap (λ (l : List (Name × Content)). record m { variables = l }) same
+  -- bytes that are cut off give theirs back
+  pub shrunk : (r : Option ℕ) → IfSome r (λ fewer. size is + fewer ≡ size was) → IfSome r (λ fewer. variables_size new + fewer ≡ variables_size old)
+  shrunk (Some fewer) by = omega (arith, room_changed, by)
+  shrunk None by = tt
 
-  room_wanted : IsOwn (variable name m) → room_of (holding_text name (own_text name m ++ more) m) ≡ room_of m + length more
-  room_wanted own =
-      omega (arith, room_of-store m name (Own (own_text name m ++ more)) sorted, ap size_in own, length-append (own_text name m) more)
+module _ (name : Name) (m : Memory) (variables : List (Name × Content)) where
+  with_variables : (others : List (Name × Content)) → variables ≡ others → record m { variables = variables } ≡ record m { variables = others }
+  with_variables others same = ap (λ (l : List (Name × Content)). record m { variables = l }) same
 
-  pub append_refused : (spare : ℕ) (why : Trouble Halt) → room_of m + spare ≡ MOST_ROOM → LengthensIn name more spare m.variables variables (Err why) → Appends name more m (record m { variables = variables }) (Err why)
-  append_refused spare (trouble.Refused halt.TooLong) left by = (as_before by.0, by.1, by.2)
-  append_refused spare (trouble.Refused halt.RoomFull) left by = (as_before by.0, by.1, by.2, omega (arith, room_wanted by.1, left, by.3))
-  append_refused spare (trouble.Refused halt.NoGosub) left by = absurd by
-  append_refused spare (trouble.Refused halt.TooDeep) left by = absurd by
-  append_refused spare (trouble.Refused halt.NoError) left by = absurd by
-  append_refused spare trouble.NoMemory left by = as_before by
+  pub changed_memory : (spare : ℕ) (change : List ℕ → List ℕ) (r : Result Bool (Trouble Halt)) → room_of m + spare ≡ MOST_ROOM
+      → ChangesOwn (among_variables name) (variables_size m.variables + spare) change m.variables variables r
+      → ChangesOwn (in_memory name) MOST_ROOM change m (record m { variables = variables }) r
+  changed_memory spare change (Ok true) left by = (by.0, by.1, by.2, with_variables _ by.3, omega (arith, left, by.4))
+  changed_memory spare change (Ok false) left by = (with_variables _ by.0, by.1)
+  changed_memory spare change (Err (trouble.Refused halt.TooLong)) left by = (with_variables _ by.0, by.1, by.2)
+  changed_memory spare change (Err (trouble.Refused halt.RoomFull)) left by = (with_variables _ by.0, by.1, by.2, omega (arith, left, by.3))
+  changed_memory spare change (Err (trouble.Refused halt.NoGosub)) left by = absurd by
+  changed_memory spare change (Err (trouble.Refused halt.TooDeep)) left by = absurd by
+  changed_memory spare change (Err (trouble.Refused halt.NoError)) left by = absurd by
+  changed_memory spare change (Err trouble.NoMemory) left by = with_variables _ by

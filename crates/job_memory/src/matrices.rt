@@ -1,8 +1,9 @@
-//! Arrays as matrices: their bounds, where their rows and columns stand, their numbers in order, and
-//! numbers that are stored to all elements without a subscript 0.
+//! Arrays as matrices: their bounds, where their rows and columns stand, their numbers in order,
+//! and numbers that are stored to all elements without a subscript 0.
 
 ghost use Rattle.std.specs.Prelude.{◌≡◌, ◌+◌, ◌≤◌, take, drop, vec_len, IfOk};
-ghost use Rattle.job_memory.specs.Matrices.{bounds, count_in, subscripts_at, is_inner, numbers, number_in_list, renumbered, renumbered_in};
+ghost use Rattle.job_memory.specs.Matrices.{bounds, count_in, subscripts_at, is_inner, numbers};
+ghost use Rattle.job_memory.specs.Matrices.{number_in_list, renumbered, renumbered_in};
 ghost use Rattle.job_memory.specs.Memory.{array, arrays_size};
 ghost use Rattle.job_memory.specs.Slots.{IsOrdered};
 
@@ -13,8 +14,8 @@ use crate::tables::Table;
 use basic_tree::Name;
 use basic_values::{Int, NoMemory};
 
-/// The row and the column of the element at a place, where this is the greatest second subscript. An
-/// array of one subscript has one column, number 1.
+/// The row and the column of the element at a place, where this is the greatest second subscript.
+/// An array of one subscript has one column, number 1.
 pub fn subscripts_at(second: Option<u16>, place: usize) -> (usize, usize)
     ensures { result ≡ subscripts_at second place }
 {

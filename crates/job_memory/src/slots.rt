@@ -1,7 +1,8 @@
 //! What is stored under names, without a walk: each letter has a row, and each name of that letter
 //! has a slot of its own there.
 
-ghost use Rattle.std.specs.Prelude.{◌≡◌, ◌<◌, [], vec_len, option_copied, IfOk, OnOk, OnErr, Some, None};
+ghost use Rattle.std.specs.Prelude.{◌≡◌, ◌<◌, [], vec_len, option_copied, IfOk, OnOk, OnErr, Some};
+ghost use Rattle.std.specs.Prelude.{None};
 ghost use Rattle.std.specs.BTreeMap.{insert_entry};
 ghost use Rattle.std.specs.Borrow.{sem};
 ghost use Rattle.std.specs.Map.{lookup, remove_entry};

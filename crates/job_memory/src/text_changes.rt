@@ -1,10 +1,14 @@
-//! Texts that are changed in their place. Only a text of its own can be: a part of a channel's buffer
-//! is another's place too.
+//! Texts that are changed in their place. Only a text of its own can be: a part of a channel's
+//! buffer is another's place too.
 
-ghost use Rattle.std.specs.Prelude.{◌≡◌, ◌≤◌, Some};
+ghost use Rattle.std.specs.Prelude.{◌≡◌, ◌+◌, Ok, Some, IfOk, IfSome, if◌then◌else◌, length};
+ghost use Rattle.std.specs.Option.{is_some};
 ghost use Rattle.job_memory.specs.declared.contents.Content.TheVariants as content;
+ghost use Rattle.job_memory.specs.Contents.{size};
+ghost use Rattle.job_memory.specs.Memory.{variables_size};
 ghost use Rattle.job_memory.specs.Slots.{IsOrdered};
-ghost use Rattle.job_memory.specs.TextChanges.{Appends, Cuts, Lengthens, LengthensIn, Shortens, ShortensIn};
+ghost use Rattle.job_memory.specs.TextChanges.{Appends, ChangesOwn, Cuts, among_variables};
+ghost use Rattle.job_memory.specs.TextChanges.{lengthened, one_variable, shortened};
 
 use crate::contents::{Content, MOST_ROOM};
 use crate::memory::Memory;
@@ -13,8 +17,8 @@ use basic_tree::Name;
 use basic_values::{Halt, MOST_BYTES, Text, Trouble};
 
 impl Memory {
-    /// Puts bytes behind the own text of a variable, as a store of both would, and tells whether it has
-    /// one. If not, nothing changes.
+    /// Puts bytes at the end of the own text of a variable, as a store of both would, and returns
+    /// whether it has one. If not, nothing changes.
     pub fn append(&mut self, name: Name, more: &[u8]) -> Result<bool, Trouble<Halt>>
         ensures { Appends name more.now self.old self.new result }
     {
@@ -28,9 +32,9 @@ impl Memory {
         }
     }
 
-    /// Leaves so many bytes behind the first ones of the own text of a variable, or all that are there,
-    /// as a store of these would, and tells whether it has one. If not, nothing changes. It takes no
-    /// memory.
+    /// Leaves so many bytes of the own text of a variable, after the first ones, or all that are
+    /// there, as a store of these would, and returns whether it has one. If not, nothing changes.
+    /// It takes no memory.
     pub fn cut(&mut self, name: Name, before: usize, count: usize) -> bool
         ensures { Cuts name before count self.old self.new result }
     {
@@ -44,6 +48,8 @@ impl Memory {
     }
 }
 
+/// Puts bytes at the end of the own text of one of these variables, if they may take so many bytes
+/// more.
 fn append_in(
     variables: &mut Slots<Content>,
     name: Name,
@@ -51,7 +57,10 @@ fn append_in(
     spare: usize,
 ) -> Result<bool, Trouble<Halt>>
     requires { IsOrdered variables.old }
-    ensures lengthens { LengthensIn name more.now spare variables.old variables.new result }
+    ensures changes { ChangesOwn (among_variables name) (variables_size variables.old + spare)
+        (lengthened more.now) variables.old variables.new result }
+    ensures grows { IfOk result (λ done. variables_size variables.new
+        ≡ variables_size variables.old + (if done then length more.now else 0)) }
     ensures still_ordered { IsOrdered variables.new }
 {
     match variables.get_mut(name) {
@@ -60,9 +69,14 @@ fn append_in(
     }
 }
 
+/// Leaves a part of the own text of one of these variables, and returns how many bytes fewer there
+/// are; none if it has no such text.
 fn cut_in(variables: &mut Slots<Content>, name: Name, before: usize, count: usize) -> Option<usize>
     requires { IsOrdered variables.old }
-    ensures shortens { ShortensIn name before count variables.old variables.new result }
+    ensures changes { ChangesOwn (among_variables name) (variables_size variables.old)
+        (shortened before count) variables.old variables.new (Ok (is_some result)) }
+    ensures shrinks { IfSome result (λ fewer.
+        variables_size variables.new + fewer ≡ variables_size variables.old) }
     ensures still_ordered { IsOrdered variables.new }
 {
     match variables.get_mut(name) {
@@ -71,9 +85,11 @@ fn cut_in(variables: &mut Slots<Content>, name: Name, before: usize, count: usiz
     }
 }
 
-/// Puts bytes behind a text, where so much room is left. It tells whether there was one.
+/// Puts bytes at the end of a text, if it may take so many bytes more, and returns whether there
+/// was one.
 fn lengthen(place: &mut Content, more: &[u8], spare: usize) -> Result<bool, Trouble<Halt>>
-    ensures { Lengthens more.now spare (Some place.old) (Some place.new) result }
+    ensures { ChangesOwn one_variable (size place.old + spare)
+        (lengthened more.now) (Some place.old) (Some place.new) result }
 {
     match place {
         Content::Own(text) => append_to(text, more, spare),
@@ -82,7 +98,7 @@ fn lengthen(place: &mut Content, more: &[u8], spare: usize) -> Result<bool, Trou
 }
 
 fn append_to(text: &mut Text, more: &[u8], spare: usize) -> Result<bool, Trouble<Halt>>
-    ensures { Lengthens more.now spare
+    ensures { ChangesOwn one_variable (size (content.Own text.old) + spare) (lengthened more.now)
         (Some (content.Own text.old)) (Some (content.Own text.new)) result }
 {
     if more.len() > MOST_BYTES - text.as_bytes().len() {
@@ -95,9 +111,11 @@ fn append_to(text: &mut Text, more: &[u8], spare: usize) -> Result<bool, Trouble
     Ok(true)
 }
 
-/// Leaves a part of a text, and gives how many bytes fewer there are; none where there was no text.
+/// Leaves a part of a text, and returns how many bytes fewer there are; none if there is no text.
 fn shorten(place: &mut Content, before: usize, count: usize) -> Option<usize>
-    ensures { Shortens before count (Some place.old) (Some place.new) result }
+    ensures changes { ChangesOwn one_variable (size place.old) (shortened before count)
+        (Some place.old) (Some place.new) (Ok (is_some result)) }
+    ensures shrinks { IfSome result (λ fewer. size place.new + fewer ≡ size place.old) }
 {
     match place {
         Content::Own(text) => {

@@ -61,8 +61,8 @@ impl Memory {
         self.put(name, Content::Fielded { channel, part })
     }
 
-    /// Stores what does not take the place of a number. It stays out of line, so that a number that takes another's
-    /// place is stored without a call.
+    /// Stores what does not take the place of a number. It stays out of line, so that a number that
+    /// takes another's place is stored without a call.
     #[inline(never)]
     fn put(&mut self, name: Name, content: Content) -> Result<(), Trouble<Halt>>
         ensures { Stores name content self.old self.new result }

@@ -5,7 +5,8 @@ ghost use Rattle.monitor_calls.specs.declared.calls.Request.TheVariants as reque
 ghost use Rattle.job_model.specs.Asking.{can_be_block, can_be_record};
 ghost use Rattle.job_model.specs.Follow.{Follows, answered_by};
 ghost use Rattle.job_model.specs.Play as play;
-ghost use Rattle.job_model.specs.Replies.{asks_for, done_by, opened_by, block_by, pages_by, IsDoneOnly};
+ghost use Rattle.job_model.specs.Replies.{asks_for, done_by, opened_by, block_by, pages_by};
+ghost use Rattle.job_model.specs.Replies.{IsDoneOnly};
 
 use crate::replies::{block_by, done_by, opened_by, pages_by};
 use basic_values::{Series, Stop};

@@ -1,11 +1,13 @@
 //! What a reply tells: that it was done, what was opened or read, or why not.
 
-ghost use Rattle.std.specs.Prelude.{◌≡◌, ◌≤◌, ◌+◌, ℕ, Bool, true, length, Option, Some, IfOk, OnOk, if◌then◌else◌};
+ghost use Rattle.std.specs.Prelude.{◌≡◌, ◌≤◌, ◌+◌, ℕ, Bool, true, length, Option, Some, IfOk, OnOk};
+ghost use Rattle.std.specs.Prelude.{if◌then◌else◌};
 ghost use Rattle.basic_values.specs.declared.failures.Stop.TheVariants as stop;
 ghost use Rattle.monitor_calls.specs.declared.files.FileName.{FileName as TheName};
 ghost use Rattle.monitor_calls.specs.declared.files.OpenKind.{OpenKind as Kind};
 ghost use Rattle.monitor_calls.specs.declared.calls.Request.TheVariants as request;
-ghost use Rattle.job_model.specs.Asking.{counts_as, can_be_block, can_be_blocks, can_be_record, is_error};
+ghost use Rattle.job_model.specs.Asking.{counts_as, can_be_block, can_be_blocks, can_be_record};
+ghost use Rattle.job_model.specs.Asking.{is_error};
 ghost use Rattle.job_model.specs.Follow.{answered_by};
 ghost use Rattle.job_model.specs.Replies.{done_by, opened_by, block_by, pages_by, taken_as};
 

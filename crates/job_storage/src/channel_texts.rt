@@ -43,8 +43,8 @@ impl Storage {
             .read_line(alloc, &mut self.buffers, port, channel)
     }
 
-    /// The column of a channel, from 0 on. The manual's POS. Error 46 outside 1 to 12, 9 where it is
-    /// not open.
+    /// The column of a channel, from 0 on. The manual's POS. Error 46 outside 1 to 12, 9 where it
+    /// is not open.
     pub fn column(&self, channel: Int) -> Result<Int, Fault>
         ensures { result ≡ channel_column channel self.now.files.channels }
     {

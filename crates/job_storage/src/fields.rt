@@ -140,8 +140,8 @@ impl Storage {
         }
     }
 
-    /// LSET or RSET by the text of a variable. Between fields of one channel it takes no memory, and
-    /// makes no copy.
+    /// LSET or RSET by the text of a variable. Between fields of one channel it takes no memory,
+    /// and makes no copy.
     pub fn justify_by(
         &mut self,
         alloc: Global,

@@ -6,7 +6,11 @@ ghost use Rattle.job_model.specs.Follow.{Follows, answered_by};
 ghost use Rattle.job_model.specs.Play as play;
 ghost use Rattle.job_model.specs.Replies.{IsDoneOnly};
 ghost use Rattle.program_model.specs.Storage as held;
-ghost use Rattle.program_model.specs.FileActs.{is_tested, asks_done, file_said, record_and_mode, opens_on, opens_said, open_act, record_size, is_update, without_fields, close_act, shut_act, get_act, put_act, unlock_act, kill_act, rename_act, seconds_of, sleep_act, act_by};
+ghost use Rattle.program_model.specs.FileActs.{is_tested, asks_done, file_said, record_and_mode};
+ghost use Rattle.program_model.specs.FileActs.{opens_on, opens_said, open_act, record_size};
+ghost use Rattle.program_model.specs.FileActs.{is_update, without_fields, close_act, shut_act};
+ghost use Rattle.program_model.specs.FileActs.{get_act, put_act, unlock_act, kill_act, rename_act};
+ghost use Rattle.program_model.specs.FileActs.{seconds_of, sleep_act, act_by};
 ghost use Rattle.record_fields.specs.Layouts.{natural};
 ghost use Rattle.record_fields.specs.Buffers.{IsChannel};
 

@@ -4,8 +4,8 @@
 //! buffers, and core common. `Storage::act` carries the promise: over any port a statement on files
 //! goes through the act that `program_model` has for it; so do one writing, the reading of a line,
 //! elements of arrays in files, and SYS. It stands on `job_memory` for variables, on `channels` and
-//! `virtual_arrays` for files, on `sys_calls` for the texts of SYS, and on `file_names` for the names
-//! that programs write.
+//! `virtual_arrays` for files, on `sys_calls` for the texts of SYS, and on `file_names` for the
+//! names that programs write.
 #![tactic(auto)]
 
 mod channel_texts;

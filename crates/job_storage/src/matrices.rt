@@ -1,7 +1,8 @@
 //! Arrays as matrices, as MAT takes them.
 
 ghost use Rattle.std.specs.Prelude.{◌≡◌, IfOk};
-ghost use Rattle.basic_matrix.specs.MatrixActs.{assigned, row_numbers, HasRow, StoresValue, Touches};
+ghost use Rattle.basic_matrix.specs.MatrixActs.{assigned, row_numbers, HasRow, StoresValue};
+ghost use Rattle.basic_matrix.specs.MatrixActs.{Touches};
 ghost use Rattle.job_memory.specs.Matrices.{bounds};
 
 use crate::storage::Storage;
@@ -27,8 +28,8 @@ impl Storage {
         touch(&mut self.memory, name)
     }
 
-    /// Stores a value to the elements of an array whose subscripts are all 1 or more. Error 55 where
-    /// the bounds do not fit; nothing is stored then.
+    /// Stores a value to the elements of an array whose subscripts are all 1 or more. Error 55
+    /// where the bounds do not fit; nothing is stored then.
     pub fn assign(&mut self, target: Name, value: &MatValue) -> Result<(), Stop>
         ensures memory { StoresValue self.old.memory self.new.memory
             (assigned target value.now self.old.memory) result }

@@ -2,7 +2,9 @@
 
 ghost use Rattle.std.specs.Prelude.{◌≡◌, ◌≢◌, ◌<◌, length, replicate, None, IfOk, IfNone};
 ghost use Rattle.basic_values.specs.declared.limits.TheConstants.{MOST_CALLS};
-ghost use Rattle.monitor_model.specs.Jobs.{nobody, job_at, account_of, calls_of, channel_of, log_in, count, set_channel, end_job, is_open_file, has_channel, is_on};
+ghost use Rattle.monitor_model.specs.Jobs.{nobody, job_at, account_of, calls_of, channel_of};
+ghost use Rattle.monitor_model.specs.Jobs.{log_in, count, set_channel, end_job, is_open_file};
+ghost use Rattle.monitor_model.specs.Jobs.{has_channel, is_on};
 
 use basic_values::NoMemory;
 use monitor_calls::{Account, FileName};

@@ -1,8 +1,8 @@
-//! What fails a test.
+//! How a test fails.
 
 use std::test::Fail;
 
-/// Fails with the place of a row that is answered otherwise, and its table.
+/// Fails with the table and the place of a row, if the row has another result.
 pub(crate) fn expect_row(table: &str, place: usize, is_so: bool) -> Result<(), Fail> {
     if is_so {
         return Ok(());
@@ -10,12 +10,12 @@ pub(crate) fn expect_row(table: &str, place: usize, is_so: bool) -> Result<(), F
     Err(Fail::new(format_args!("row {place} of {table} is answered otherwise")))
 }
 
-/// Fails with what is otherwise, unless it is so.
+/// Fails with this text, unless it is so.
 pub(crate) fn expect(is_so: bool, what: &str) -> Result<(), Fail> {
     if is_so { Ok(()) } else { Err(Fail::new(what)) }
 }
 
-/// Fails with the bytes that are found, unless they are these.
+/// Fails with the bytes that were found, unless they are these.
 pub(crate) fn expect_bytes(found: &[u8], wanted: &[u8]) -> Result<(), Fail> {
     if found == wanted {
         return Ok(());

@@ -222,7 +222,7 @@ fn lines() -> &'static [Line] {
     &LINES
 }
 
-/// The two are one word.
+/// Returns whether the two are the same word.
 fn is_same(word: Word<'_>, wanted: Word<'_>) -> bool {
     match (word, wanted) {
         (Word::Key(a), Word::Key(b)) => a == b,
@@ -236,7 +236,7 @@ fn is_same(word: Word<'_>, wanted: Word<'_>) -> bool {
     }
 }
 
-/// The number of the first word that is another one; none where they are these and no more.
+/// Returns the number of the first word that differs, or `None` if they are these and no more.
 fn first_other(words: &Words<'_>, wanted: &[Word<'_>]) -> Option<usize> {
     if words.len() != wanted.len() || words.peek(wanted.len()).is_some() {
         return Some(wanted.len());
@@ -250,7 +250,7 @@ fn first_other(words: &Words<'_>, wanted: &[Word<'_>]) -> Option<usize> {
     None
 }
 
-/// Whether a line has these words, and none behind them.
+/// Returns whether a line has exactly these words.
 fn has_words(alloc: Global, line: &[u8], wanted: &[Word<'_>]) -> bool {
     if line.len() > 255 {
         return false;
@@ -280,7 +280,7 @@ fn lines_have_their_words(rt: HostRuntime) -> Result<(), Fail> {
 
 // Expressions
 
-/// What an expression of a line is answered: the place behind it, or where it is refused.
+/// The result for an expression of a line: the place after it, or where it is rejected.
 #[derive(Clone, Copy, PartialEq, Eq)]
 enum Answer {
     Read(u16),
@@ -315,10 +315,10 @@ fn refused(refusal: Refusal) -> Answer {
     }
 }
 
-/// A line, what is wanted at its front, and what that is answered.
+/// A line, the kind that is wanted at its front, and the result.
 type Row = (&'static [u8], Want, Answer);
 
-/// The longest run of tokens is taken, and what stands behind it is left.
+/// The longest run of tokens is taken, and the others are left.
 static EXPRESSIONS: [Row; 24] = [
     (b"1%", Want::Number, Answer::Read(1)),
     (b"A%(1%,2%)^-3%)", Want::Number, Answer::Read(9)),
@@ -367,10 +367,10 @@ fn expressions_are_read_or_refused(rt: HostRuntime) -> Result<(), Fail> {
     expect_answers(rt.alloc(), expressions())
 }
 
-/// How many signs, and what the number behind them is answered.
+/// The number of signs, and the result for the number after them.
 static SIGNS: [(usize, Answer); 2] = [(64, Answer::Read(65)), (65, Answer::TooDeep(64))];
 
-/// Fails unless a number behind so many signs is answered so, of a line with more of them.
+/// Fails unless the number after these signs has this result, in a line with more of them.
 fn expect_levels(alloc: Global, line: &[u8]) -> Result<(), Fail> {
     for (count, answer) in &SIGNS {
         let front = line.len().saturating_sub(*count).saturating_sub(1);

@@ -1,5 +1,5 @@
-//! PRINT USING and MAT: the trees of lines, and each token at which a line is refused.
-//! The helpers have no clause: a row compares what really came.
+//! PRINT USING and MAT: the trees of lines, and each token at which a line is rejected. The helpers
+//! have no contract: a row compares the actual result.
 
 use crate::expects::expect_row;
 use crate::trees::is_told;
@@ -12,10 +12,10 @@ use std::test::Fail;
 /// A line, and its tree as `trees` writes it.
 type Tree = (&'static [u8], &'static str);
 
-/// A line, and the place of the token that is refused as a syntax error.
+/// A line, and the place of the token that is a syntax error.
 type Wrong = (&'static [u8], u16);
 
-/// A line, and the byte at which it is refused, and why.
+/// A line, the byte at which it is rejected, and why.
 type Old = (&'static [u8], u16, Cause);
 
 static TREES: [Tree; 39] = [
@@ -177,7 +177,7 @@ fn wrong() -> &'static [Wrong] {
     &WRONG
 }
 
-/// Lines whose first letters are a keyword now: the byte that is refused, and why.
+/// Lines whose first letters are a keyword: the byte that is rejected, and why.
 static OLD: [Old; 4] = [
     (b"MATCH%=1", 3, Cause::FloatingName),
     (b"CON%=1", 3, Cause::StrayByte),
@@ -185,7 +185,7 @@ static OLD: [Old; 4] = [
     (b"FNMAT%=1", 0, Cause::FloatingName),
 ];
 
-/// Whether a line has this tree, as `trees` writes it.
+/// Returns whether a line has this tree, as `trees` writes it.
 fn has_tree(alloc: Global, line: &[u8], tree: &'static str) -> bool {
     if line.len() > 255 {
         return false;
@@ -196,7 +196,7 @@ fn has_tree(alloc: Global, line: &[u8], tree: &'static str) -> bool {
     }
 }
 
-/// Where a line is refused, and why.
+/// Returns where a line is rejected, and why.
 fn refusal_of(alloc: Global, line: &[u8]) -> Option<(u16, Cause)> {
     if line.len() > 255 {
         return None;
@@ -221,7 +221,7 @@ fn last_words_have_their_trees(rt: HostRuntime) -> Result<(), Fail> {
     expect_trees(rt.alloc(), trees())
 }
 
-/// Whether a line is refused there, and so.
+/// Returns whether a line is rejected there, for this cause.
 fn is_refused(alloc: Global, line: &[u8], place: u16, cause: Cause) -> bool {
     match refusal_of(alloc, line) {
         Some((found, why)) => found == place && why == cause,
@@ -252,10 +252,11 @@ fn last_words_are_refused_at_each_token(rt: HostRuntime) -> Result<(), Fail> {
     expect_old(rt.alloc(), &OLD)
 }
 
-/// How many parentheses, and where the line is refused as too deep.
+/// The number of parentheses, and where the line is rejected as too deep.
 static LEVELS: [(usize, Option<u16>); 2] = [(64, None), (65, Some(67))];
 
-/// Whether MAT with a number in these parentheses is refused there as too deep, or nowhere.
+/// Returns whether MAT with a number in these parentheses is rejected there as too deep, or
+/// accepted.
 fn is_level(alloc: Global, opening: &[u8], closing: &[u8], place: Option<u16>) -> bool {
     match [b"MAT A%=".as_slice(), opening, b"1", closing, b"*B%"].concat(alloc) {
         Ok(line) => is_so_deep(alloc, line.as_slice(), place),
@@ -270,7 +271,7 @@ fn is_so_deep(alloc: Global, line: &[u8], place: Option<u16>) -> bool {
     }
 }
 
-/// Fails with the first row that is refused elsewhere, or not, with as many of these parentheses.
+/// Fails with the first row that has another result with this many parentheses.
 fn expect_levels(alloc: Global, opening: &[u8], closing: &[u8]) -> Result<(), Fail> {
     for (levels, place) in &LEVELS {
         let opening = &opening[..opening.len().min(*levels)];

@@ -1,5 +1,5 @@
-//! Tests of the language's crates, by their public calls alone: rows of what is put in and what
-//! comes out. A dear crate has its tests here, so that it is not proved once more for them.
+//! Tests of the crates of the language, by their public calls: tables of inputs and results. The
+//! tests of an expensive crate are here, so that the crate is not proved again for them.
 #![tactic(auto)]
 
 #[cfg(test)]

@@ -1,4 +1,4 @@
-//! Lines that have a tree, and lines that are refused with the token at which they are.
+//! Lines that have a tree, and lines that are rejected at a token.
 
 use crate::expects::{expect, expect_row};
 use basic_line::parse_line;
@@ -8,20 +8,20 @@ use basic_values::Trouble;
 use std::alloc::{AllocError, Global};
 use std::test::Fail;
 
-/// What a line is answered. Places are numbers of tokens, from 0.
+/// The result for a line. Places are numbers of tokens, from 0.
 #[derive(Clone, Copy, PartialEq, Eq)]
 enum Answer {
     Tree,
     Syntax(u16),
     TooDeep(u16),
-    /// A refusal of the scanner, at this byte.
+    /// Rejected by the scanner, at this byte.
     Unscanned(u16),
     NoMemory,
-    /// It has more bytes than a line has.
+    /// It has more bytes than a line can have.
     NoLine,
 }
 
-/// A line and what it is answered.
+/// A line and its result.
 type Row = (&'static [u8], Answer);
 
 fn refused(refusal: Refusal) -> Answer {
@@ -50,7 +50,7 @@ fn parsed(answer: Result<Line, Trouble<Refusal>>) -> Answer {
     }
 }
 
-/// Fails with the first row that is answered otherwise.
+/// Fails with the first row that has another result.
 fn expect_answers(alloc: Global, table: &str, rows: &[Row]) -> Result<(), Fail> {
     for place in 0..rows.len() {
         let (line, answer) = rows[place];
@@ -369,7 +369,7 @@ fn expressions() -> &'static [Row] {
     &EXPRESSIONS
 }
 
-/// Rows that a user meets first.
+/// What a user meets first.
 static MET_FIRST: [Row; 6] = [
     (b"PRINT A", Answer::Unscanned(6)),
     (b"PRINT 1.5", Answer::Unscanned(6)),
@@ -392,7 +392,7 @@ fn lines_have_a_tree_or_are_refused(rt: HostRuntime) -> Result<(), Fail> {
     expect_answers(alloc, "the expressions", expressions())
 }
 
-/// Every word of the language but those that may stand behind a value.
+/// Every word of the language that cannot follow a value.
 static WORDS: [&[u8]; 69] = [
     b"ABS%",
     b"AS",
@@ -469,12 +469,12 @@ fn words() -> &'static [&'static [u8]] {
     &WORDS
 }
 
-/// The operators and the words of modifiers, behind which something is missing.
+/// The operators and the words of modifiers, after which something is missing.
 static GOING_ON: [&[u8]; 10] = [
     b"AND", b"OR", b"XOR", b"IMP", b"EQV", b"IF", b"UNLESS", b"WHILE", b"UNTIL", b"FOR",
 ];
 
-/// Whether a line with this word behind a value is answered so.
+/// Returns whether a line with this word after a value has this result.
 fn is_answered_behind(alloc: Global, word: &[u8], answer: Answer) -> bool {
     match [b"PRINT 1% ".as_slice(), word].concat(alloc) {
         Ok(line) => answer_of(alloc, line.as_slice()) == answer,
@@ -482,7 +482,7 @@ fn is_answered_behind(alloc: Global, word: &[u8], answer: Answer) -> bool {
     }
 }
 
-/// Fails with the first word that is answered otherwise behind a value.
+/// Fails with the first word that has another result after a value.
 fn expect_words(alloc: Global, table: &str, words: &[&[u8]], answer: Answer) -> Result<(), Fail> {
     for place in 0..words.len() {
         let is_so = is_answered_behind(alloc, words[place], answer);
@@ -504,7 +504,7 @@ fn words_stand_behind_a_value_or_not(rt: HostRuntime) -> Result<(), Fail> {
     expect(remark == Answer::Tree, "a remark behind a value")
 }
 
-/// What a nested line is, and where its level 65 opens: front, part, middle, end, levels, answer.
+/// The parts of a nested line, and its result: front, part, middle, end, number of levels, result.
 type Nest = (
     &'static [u8],
     &'static [u8],
@@ -543,11 +543,11 @@ static NESTS: [Nest; 15] = [
     (b"STOPIF1IF1IF", b"(", b"1", b")", 61, Answer::Tree),
     (b"STOPIF1IF1IF", b"(", b"1", b")", 62, Answer::TooDeep(67)),
     (b"PRINT", b"(", b")", b")", 65, Answer::TooDeep(65)),
-    // what is wrong before the level that is too deep is told
+    // an error before the level that is too deep is reported first
     (b"PRINT 1 1", b"(", b"1", b")", 65, Answer::Syntax(2)),
 ];
 
-/// Puts a part behind a line so many times.
+/// Appends a part to a line this many times.
 fn push_times(line: &mut Vec<u8>, part: &[u8], times: usize) -> Result<(), AllocError> {
     for _ in 0..times {
         line.extend_from_slice(part)?;
@@ -555,7 +555,7 @@ fn push_times(line: &mut Vec<u8>, part: &[u8], times: usize) -> Result<(), Alloc
     Ok(())
 }
 
-/// The front, so many times the part, the middle, and so many times the end.
+/// Appends the front, the part this many times, the middle, and the end as many times.
 fn push_nest(line: &mut Vec<u8>, nest: &Nest) -> Result<(), AllocError> {
     line.extend_from_slice(nest.0)?;
     push_times(line, nest.1, nest.4)?;

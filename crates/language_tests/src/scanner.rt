@@ -20,7 +20,7 @@ const D: TokenKind = TokenKind::DataItem;
 
 const S: TokenKind = TokenKind::Sign;
 
-/// A token that is wanted: its sort, its start and its bytes.
+/// A wanted token: its kind, its start and its bytes.
 type Wanted<'a> = (TokenKind, u16, &'a [u8]);
 
 /// A line, and its tokens.
@@ -197,7 +197,7 @@ static TAKEN: [Taken; 60] = [
     (b"\x09A%\x09", &[(V, 1, b"A%")]),
 ];
 
-/// A line, the byte at which it is refused, and why.
+/// A line, the byte at which it is rejected, and why.
 type Refused = (&'static [u8], u16, Cause);
 
 static REFUSED: [Refused; 39] = [
@@ -246,8 +246,8 @@ fn refused() -> &'static [Refused] {
     &REFUSED
 }
 
-/// The keywords but REM and DATA, and of two spellings the longer, with a blank between them: the
-/// proof goes through each row of a table, and takes this text as one.
+/// The keywords except REM and DATA, and the longer one of two spellings, with blanks between them:
+/// the proof goes through each row of a table, but takes this text as one.
 const WORDS: &[u8] =
     b"ABS% AND AS ASCII CHAIN CHR$ CLOSE CLUSTERSIZE CON CVT$% CVT%$ DEF DIM ELSE END EQV \
 ERL ERR ERROR FIELD FILE FNEND FOR GET GO GOSUB GOTO IDN IF IMP INPUT INSTR KILL \
@@ -256,12 +256,12 @@ POS PRINT PUT READ RECORD RECORDSIZE RECOUNT RESTORE RESUME RETURN RIGHT$ RSET S
 SLEEP SPACE$ STEP STOP STRING$ SUB SWAP% SYS TAB THEN TO TRN UNLESS UNLOCK UNTIL \
 USING VAL WHILE XLATE XOR ZER";
 
-/// Whether a token is the wanted one.
+/// Returns whether a token is the wanted one.
 fn is_token(token: Token<'_>, wanted: &Wanted<'_>) -> bool {
     token.kind == wanted.0 && token.start == wanted.1 && token.bytes == wanted.2
 }
 
-/// The number of the first token that is another one; none where they are these and no more.
+/// Returns the number of the first token that differs, or `None` if they are these and no more.
 fn first_other(tokens: &Tokens<'_>, wanted: &[Wanted<'_>]) -> Option<usize> {
     if tokens.len() as usize != wanted.len() {
         return Some(wanted.len());
@@ -276,7 +276,7 @@ fn first_other(tokens: &Tokens<'_>, wanted: &[Wanted<'_>]) -> Option<usize> {
     None
 }
 
-/// Whether a line has these tokens and no more.
+/// Returns whether a line has exactly these tokens.
 fn is_taken(line: &[u8], wanted: &[Wanted<'_>]) -> bool {
     if line.len() > 255 {
         return false;
@@ -287,7 +287,7 @@ fn is_taken(line: &[u8], wanted: &[Wanted<'_>]) -> bool {
     }
 }
 
-/// Whether a line is refused there.
+/// Returns whether a line is rejected there, for this cause.
 fn is_refused(line: &[u8], place: u16, cause: Cause) -> bool {
     if line.len() > 255 {
         return false;
@@ -298,8 +298,8 @@ fn is_refused(line: &[u8], place: u16, cause: Cause) -> bool {
     }
 }
 
-/// The first line that has other tokens.
-// The loop names the table: a function that lends tokens below lines is more than the prover takes.
+/// Returns the first line that has other tokens.
+// The loop names the table: the prover cannot handle a function that borrows tokens of lines.
 fn first_not_taken() -> Option<&'static [u8]> {
     for (line, wanted) in TAKEN {
         if !is_taken(line, wanted) {
@@ -317,7 +317,7 @@ fn expect_none_other(line: Option<&[u8]>) -> Result<(), Fail> {
     }
 }
 
-/// Fails with the first line that is not refused there.
+/// Fails with the first line that is not rejected there.
 fn expect_refused(rows: &[Refused]) -> Result<(), Fail> {
     for row in 0..rows.len() {
         let (line, place, cause) = rows[row];
@@ -332,7 +332,7 @@ fn lines_have_their_tokens_or_are_refused(_rt: HostRuntime) -> Result<(), Fail> 
     expect_refused(refused())
 }
 
-/// What stands behind a word, and the sort of token that it is; none where it is no token.
+/// What follows a word, and the kind of token that it is; `None` if it is no token.
 static BEHIND: [(&[u8], Option<TokenKind>); 4] = [
     (b"Q%", Some(V)),
     (b"7", Some(L)),
@@ -340,12 +340,13 @@ static BEHIND: [(&[u8], Option<TokenKind>); 4] = [
     (b"$", None),
 ];
 
-/// The length of a word, of which none has as many as 20 bytes.
+/// Returns the length of a word. No word has 20 bytes.
 fn end_of(word: &[u8]) -> u16 {
     word.len().min(20) as u16
 }
 
-/// Whether a word ends where a token of that sort begins, or where a stray byte is refused.
+/// Returns whether a word ends where a token of that kind begins, or where a stray byte is
+/// rejected.
 fn ends_before(line: &[u8], word: &[u8], behind: &[u8], kind: Option<TokenKind>) -> bool {
     match kind {
         Some(kind) => is_taken(line, &[(K, 0, word), (kind, end_of(word), behind)]),
@@ -353,7 +354,7 @@ fn ends_before(line: &[u8], word: &[u8], behind: &[u8], kind: Option<TokenKind>)
     }
 }
 
-/// The same of the word with that behind it.
+/// The same for the word with that text after it.
 fn is_ended(alloc: Global, word: &[u8], behind: &[u8], kind: Option<TokenKind>) -> bool {
     match [word, behind].concat(alloc) {
         Ok(line) => ends_before(line.as_slice(), word, behind, kind),
@@ -361,7 +362,7 @@ fn is_ended(alloc: Global, word: &[u8], behind: &[u8], kind: Option<TokenKind>) 
     }
 }
 
-/// Whether a word ends before each of these.
+/// Returns whether a word ends before each of these.
 fn ends(alloc: Global, word: &[u8]) -> bool {
     for (behind, kind) in &BEHIND {
         if !is_ended(alloc, word, behind, *kind) {
@@ -371,7 +372,7 @@ fn ends(alloc: Global, word: &[u8]) -> bool {
     true
 }
 
-/// The first word of a text, and what stands behind the blank behind it.
+/// Returns the first word of a text, and what follows the blank after it.
 fn cut_word(text: &[u8]) -> (&[u8], &[u8]) {
     for place in 0..text.len() {
         if text[place] == b' ' {
@@ -381,7 +382,7 @@ fn cut_word(text: &[u8]) -> (&[u8], &[u8]) {
     (text, &text[text.len()..])
 }
 
-/// Fails with the first word of a text that does not end so.
+/// Fails with the first word of a text that does not end like this.
 fn expect_ends(alloc: Global, words: &[u8]) -> Result<(), Fail> {
     let mut rest = words;
     for place in 0..words.len() {
@@ -400,7 +401,7 @@ fn keywords_end_where_another_byte_begins(rt: HostRuntime) -> Result<(), Fail> {
     expect_ends(rt.alloc(), WORDS)
 }
 
-/// Whether a line has 255 bytes and so many tokens.
+/// Returns whether a line has 255 bytes and this many tokens.
 fn has_tokens(line: &[u8], count: u16) -> bool {
     if line.len() != 255 {
         return false;
@@ -411,7 +412,7 @@ fn has_tokens(line: &[u8], count: u16) -> bool {
     }
 }
 
-/// Whether a line of 255 zeros is one token.
+/// Returns whether a line of 255 zeros is one token.
 fn is_one_token(alloc: Global) -> bool {
     match vec![in alloc; b'0'; 255] {
         Ok(zeros) => has_tokens(zeros.as_slice(), 1),
@@ -419,7 +420,7 @@ fn is_one_token(alloc: Global) -> bool {
     }
 }
 
-/// Whether DATA with these commas is a line of 255 bytes, with an item more than commas.
+/// Returns whether DATA with these commas is a line of 255 bytes, with one item more than commas.
 fn are_all_items(alloc: Global, commas: &[u8]) -> bool {
     match [b"DATA".as_slice(), commas].concat(alloc) {
         Ok(line) => has_tokens(line.as_slice(), 253),
@@ -433,12 +434,12 @@ fn long_lines_and_words(rt: HostRuntime) -> Result<(), Fail> {
     expect(are_all_items(rt.alloc(), &[b','; 251]), "251 commas")
 }
 
-/// Whether words are known by themselves, of which the second is none.
+/// Returns whether the first word is a keyword by itself, and the second is not.
 fn are_keywords(word: &[u8], other: &[u8]) -> bool {
     keyword_of(word) == Some(Keyword::Left) && keyword_of(other).is_none()
 }
 
-/// The same of signs.
+/// The same for signs.
 fn are_signs(sign: &[u8], other: &[u8]) -> bool {
     sign_of(sign) == Some(Sign::DoubleStar) && sign_of(other).is_none()
 }

@@ -1,4 +1,4 @@
-//! The trees of lines: one row at least for each form of a statement.
+//! The trees of lines: at least one row for each form of a statement.
 
 use crate::expects::expect_row;
 use crate::trees::is_told;
@@ -177,7 +177,7 @@ fn choices() -> &'static [Row] {
     &CHOICES
 }
 
-/// Whether a line has this tree, as `trees` writes it.
+/// Returns whether a line has this tree, as `trees` writes it.
 fn is_shown(alloc: Global, bytes: &[u8], tree: &'static str) -> Result<bool, Fail> {
     if bytes.len() > 255 {
         return Err(Fail::new("a line is too long"));

@@ -9,7 +9,7 @@ use basic_values::{Fault, Halt, Int, Text, Trouble};
 use std::alloc::Global;
 use std::test::Fail;
 
-/// A function that gives a text, with its arguments.
+/// A function that gives a string, with its arguments.
 #[derive(Clone, Copy)]
 enum Made<'a> {
     Left(&'a [u8], i16),
@@ -21,7 +21,7 @@ enum Made<'a> {
     Pair(i16),
     Chr(i16),
     Space(i16),
-    /// So many times the byte of a number.
+    /// A byte, this many times.
     Repeated(i16, i16),
     Xlate(&'a [u8], &'a [u8]),
 }
@@ -45,7 +45,7 @@ fn called(alloc: Global, call: Made<'_>) -> Answer {
     }
 }
 
-/// Whether a call gives this text.
+/// Returns whether a call gives this string.
 fn gives(alloc: Global, call: Made<'_>, bytes: &[u8]) -> bool {
     match called(alloc, call) {
         Ok(text) => text.as_bytes() == bytes,
@@ -57,10 +57,10 @@ fn is_too_long(alloc: Global, call: Made<'_>) -> bool {
     matches!(called(alloc, call), Err(Trouble::Refused(Halt::TooLong)))
 }
 
-/// A call, and the text that it gives.
+/// A call, and the string that it gives.
 type Row = (Made<'static>, &'static [u8]);
 
-/// Fails with the first call that gives another text.
+/// Fails with the first call that gives another string.
 fn expect_given(alloc: Global, table: &str, rows: &[Row]) -> Result<(), Fail> {
     for place in 0..rows.len() {
         let (call, bytes) = rows[place];
@@ -69,7 +69,7 @@ fn expect_given(alloc: Global, table: &str, rows: &[Row]) -> Result<(), Fail> {
     Ok(())
 }
 
-/// The text of which a call gives a part, and that part.
+/// Returns the string of which a call takes a part, and that part.
 fn cut_by(call: Made<'_>) -> Option<(&[u8], Cut)> {
     match call {
         Left(text, n) => Some((text, left_cut(Int::new(n)))),
@@ -79,7 +79,7 @@ fn cut_by(call: Made<'_>) -> Option<(&[u8], Cut)> {
     }
 }
 
-/// Whether a text that is cut in its place is then what the call gives.
+/// Returns whether a string that is cut in place is then what the call gives.
 fn leaves(alloc: Global, call: Made<'_>, bytes: &[u8]) -> bool {
     let Some((whole, part)) = cut_by(call) else {
         return false;
@@ -91,7 +91,7 @@ fn leaves(alloc: Global, call: Made<'_>, bytes: &[u8]) -> bool {
     text.as_bytes() == bytes
 }
 
-/// Fails with the first call whose text is cut to another one.
+/// Fails with the first call whose string is cut to another one.
 fn expect_cut(alloc: Global, rows: &[Row]) -> Result<(), Fail> {
     for place in 0..rows.len() {
         let (call, bytes) = rows[place];
@@ -155,7 +155,7 @@ fn parts() -> &'static [Row] {
     &PARTS
 }
 
-/// The parts as texts of their own, and cut in their place.
+/// The parts as new strings, and cut in place.
 #[test]
 fn parts_by_length_and_place(rt: HostRuntime) -> Result<(), Fail> {
     let rows = parts();
@@ -163,7 +163,7 @@ fn parts_by_length_and_place(rt: HostRuntime) -> Result<(), Fail> {
     expect_cut(rt.alloc(), rows)
 }
 
-/// From where on a text is searched, the text, what is sought, and its place.
+/// The place from which on a string is searched, the string, what is sought, and its place.
 static PLACES: [(i16, &[u8], &[u8], i16); 14] = [
     (1, b"ABCABC", b"BC", 2),
     (2, b"ABCABC", b"BC", 2),
@@ -181,7 +181,7 @@ static PLACES: [(i16, &[u8], &[u8], i16); 14] = [
     (32767, b"ABCABC", b"C", 0),
 ];
 
-/// The place of a short text in another.
+/// Returns the place of a short string in another.
 fn place_in(from: i16, a: &[u8], b: &[u8]) -> Option<i16> {
     if a.len() > 9 || b.len() > 9 {
         return None;
@@ -221,7 +221,8 @@ fn numbers() -> &'static [Row] {
     &NUMBERS
 }
 
-/// A number as its shortest text, as it is printed and as two bytes, its size and its sign.
+/// A number as its shortest text, as it is printed and as two bytes, its absolute value and its
+/// sign.
 type Back = (i16, &'static [u8], &'static [u8], [u8; 2], i16, i16);
 
 static BACK: [Back; 5] = [
@@ -232,13 +233,13 @@ static BACK: [Back; 5] = [
     (LOW, b"-32768", b"-32768 ", [128, 0], LOW, -1),
 ];
 
-/// Whether the texts of a number give it back.
+/// Returns whether the texts of a number are read as that number.
 fn gives_back(row: &Back) -> bool {
     let found = (value(row.1), value(row.2), item(row.1));
     found == (Ok(row.0), Ok(row.0), Ok(row.0)) && number_of(&row.3).value() == row.0
 }
 
-/// Whether a number has these digits, this size and this sign.
+/// Returns whether a number has these digits, this absolute value and this sign.
 fn has_size(row: &Back) -> bool {
     let number = Int::new(row.0);
     let has_digits = digits(number).as_slice() == row.1;
@@ -253,10 +254,10 @@ fn expect_back(rows: &[Back]) -> Result<(), Fail> {
     Ok(())
 }
 
-/// Bytes, and the number that comes of them.
+/// Bytes, and the number that they give.
 type Numbered = (&'static [u8], i16);
 
-/// Bytes of another length than two, and their number.
+/// Strings that do not have two bytes, and their number.
 static OTHER_PAIRS: [Numbered; 3] = [(b"", 0), (b"\x01", 256), (b"\x01\x02\x03", 258)];
 
 fn expect_pairs(rows: &[Numbered]) -> Result<(), Fail> {
@@ -284,12 +285,12 @@ fn value_of(answer: Result<Int, Fault>) -> Value {
     }
 }
 
-/// What VAL makes of a text.
+/// Returns what VAL makes of a text.
 fn value(bytes: &[u8]) -> Value {
     value_of(val(bytes))
 }
 
-/// What READ and INPUT make of it.
+/// Returns what READ and INPUT make of it.
 fn item(bytes: &[u8]) -> Value {
     value_of(item_number(bytes))
 }
@@ -371,7 +372,7 @@ fn rows_of_bytes() -> &'static [Row] {
     &BYTES
 }
 
-/// A text, and the number of its first byte.
+/// A string, and the code of its first byte.
 static FIRSTS: [Numbered; 3] = [(b"", 0), (b"A", 65), (b"\xffA", 255)];
 
 fn expect_firsts(rows: &[Numbered]) -> Result<(), Fail> {
@@ -388,7 +389,8 @@ fn bytes_once_and_many_times(rt: HostRuntime) -> Result<(), Fail> {
     expect_firsts(&FIRSTS)
 }
 
-/// Whether a text of so many letters A is given whole by each function that can.
+/// Returns whether a string of this many letters A is returned whole by each function that can do
+/// so.
 fn gives_whole(alloc: Global, text: &[u8], count: i16) -> bool {
     let translated = if count > 65 { text } else { b"" };
     gives(alloc, Left(text, count), text)
@@ -398,7 +400,7 @@ fn gives_whole(alloc: Global, text: &[u8], count: i16) -> bool {
         && gives(alloc, Xlate(text, text), translated)
 }
 
-/// The length of a text, and the place of nothing at its end.
+/// Returns the length of a string, and the place of the empty string at its end.
 fn length_and_end(text: &[u8], count: i16) -> Option<(i16, i16)> {
     if text.len() > 32767 {
         return None;
@@ -407,7 +409,7 @@ fn length_and_end(text: &[u8], count: i16) -> Option<(i16, i16)> {
     Some((len(text).value(), end))
 }
 
-/// The same of the functions that give its length, its end, and as many spaces.
+/// The same for the functions that give its length, its end, and as many spaces.
 fn is_whole(alloc: Global, text: &[u8], spaces: &[u8], count: i16) -> bool {
     let end = if count == 0 { 1 } else { count };
     gives_whole(alloc, text, count)
@@ -415,17 +417,17 @@ fn is_whole(alloc: Global, text: &[u8], spaces: &[u8], count: i16) -> bool {
         && length_and_end(text, count) == Some((count, end))
 }
 
-/// A text of 32,768 bytes is none, and may be cut to one.
+/// Returns whether 32,768 bytes are no string, but can be cut to one.
 fn is_beyond(alloc: Global, text: &[u8]) -> bool {
     is_too_long(alloc, Right(text, 1))
         && is_too_long(alloc, Xlate(text, text))
         && gives(alloc, Right(text, 32767), b"AA")
 }
 
-/// Lengths of texts, and the same as numbers of the language.
+/// Lengths of strings, and the same as numbers of the language.
 static LENGTHS: [(usize, i16); 4] = [(0, 0), (1, 1), (32766, 32766), (32767, 32767)];
 
-/// Whether the first letters and spaces of so many are whole texts.
+/// Returns whether the first `length` letters, and as many spaces, are whole strings.
 fn are_whole(alloc: Global, letters: &[u8], spaces: &[u8], length: usize, count: i16) -> bool {
     if length > letters.len() || length > spaces.len() {
         return false;

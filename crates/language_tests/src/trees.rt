@@ -1,4 +1,4 @@
-//! A tree told in words: one arm for each form of the grammar.
+//! A tree in words: one arm for each form of the grammar.
 
 use basic_tree::{
     ChainLine, Clause, CloseChannel, Expr, FieldPart, FileShape, Function, Line, MatrixValue,
@@ -7,8 +7,8 @@ use basic_tree::{
 };
 use basic_values::Text;
 
-/// What is left of the words that a tree is to be told by. Whoever puts a word there need not ask
-/// each time whether it was the next one.
+/// The words of a tree that are still expected. A function that puts a word there need not ask each
+/// time whether it was the next one.
 struct Told {
     rest: &'static [u8],
     is_other: bool,
@@ -34,13 +34,13 @@ impl Told {
         }
     }
 
-    /// The last digit of a number.
+    /// Puts the last digit of a number.
     fn digit(&mut self, number: u16) {
         self.byte(b'0' + (number % 10) as u8)
     }
 }
 
-/// The bytes of a text, between bars.
+/// Puts the bytes of a string, between bars.
 fn put_bytes(out: &mut Told, bytes: &[u8]) {
     out.byte(b'|');
     out.bytes(bytes);
@@ -71,19 +71,19 @@ fn put_number(out: &mut Told, number: u16) {
     out.digit(number)
 }
 
-/// A word, and a name behind it.
+/// Puts a word, and a name after it.
 fn put_named(out: &mut Told, word: &str, name: &Name) {
     out.put(word);
     put_name(out, name)
 }
 
-/// A word, and an expression behind it.
+/// Puts a word, and an expression after it.
 fn put_worded(out: &mut Told, word: &str, tree: &Expr) {
     out.put(word);
     put_expr(out, tree)
 }
 
-/// What stands behind a word, where it stands there.
+/// Puts a word and an expression after it, if there is one.
 fn put_behind(out: &mut Told, word: &str, tree: &Option<Expr>) {
     if let Some(tree) = tree {
         put_worded(out, word, tree);
@@ -145,7 +145,7 @@ fn relation_word(relation: Relation) -> &'static str {
     }
 }
 
-/// An expression, with brackets round each operation.
+/// Puts an expression, with brackets around each operation.
 #[cycle(expressions)]
 fn put_expr(out: &mut Told, tree: &Expr) {
     match tree {
@@ -198,7 +198,7 @@ fn put_expr(out: &mut Told, tree: &Expr) {
     }
 }
 
-/// An expression between two texts.
+/// Puts an expression between two texts.
 #[cycle(expressions)]
 fn put_between(out: &mut Told, front: &str, tree: &Expr, end: &str) {
     out.put(front);
@@ -326,7 +326,7 @@ fn put_lines(out: &mut Told, word: &str, lines: &[u16]) {
     }
 }
 
-/// A word, and the number of a line or nothing.
+/// Puts a word, and a line number or nothing.
 fn put_line(out: &mut Told, word: &str, line: Option<u16>) {
     out.put(word);
     if let Some(line) = line {
@@ -370,7 +370,7 @@ fn put_record(out: &mut Told, word: &str, channel: &Expr, record: &Option<Expr>)
     put_behind(out, " RECORD ", record)
 }
 
-/// A word, a name, `=` and a value.
+/// Puts a word, a name, `=` and a value.
 fn put_set(out: &mut Told, word: &str, name: &Name, value: &Expr) {
     put_named(out, word, name);
     put_worded(out, "=", value)
@@ -476,7 +476,7 @@ fn put_read(out: &mut Told, targets: &[Target]) {
 
 // Statements
 
-/// Loops, jumps, and statements of a word.
+/// Puts loops, jumps, and statements of one word.
 fn put_jump(out: &mut Told, statement: &Statement) -> bool {
     match statement {
         Statement::For {
@@ -504,7 +504,7 @@ fn put_jump(out: &mut Told, statement: &Statement) -> bool {
     true
 }
 
-/// Files and their channels.
+/// Puts statements on files and channels.
 fn put_file(out: &mut Told, statement: &Statement) -> bool {
     match statement {
         Statement::Open {
@@ -533,7 +533,7 @@ fn put_file(out: &mut Told, statement: &Statement) -> bool {
     true
 }
 
-/// Values that are declared, given, printed or read.
+/// Puts statements that declare, assign, print or read values.
 fn put_value(out: &mut Told, statement: &Statement) -> bool {
     match statement {
         Statement::Data(items) => put_data(out, items.as_slice()),
@@ -584,7 +584,7 @@ fn put_using(
     put_behind(out, " ", last)
 }
 
-/// Two arrays with a sign between them.
+/// Puts two arrays with a sign between them.
 fn put_pair(out: &mut Told, left: &Name, sign: u8, right: &Name) {
     put_name(out, left);
     out.byte(sign);
@@ -628,7 +628,7 @@ fn put_mat_let(out: &mut Told, target: &Name, value: &MatrixValue) {
     put_matrix(out, value)
 }
 
-/// What is printed by a format, and whole arrays.
+/// Puts PRINT USING and statements on whole arrays.
 fn put_array(out: &mut Told, statement: &Statement) -> bool {
     match statement {
         Statement::PrintUsing {
@@ -645,14 +645,14 @@ fn put_array(out: &mut Told, statement: &Statement) -> bool {
     true
 }
 
-/// A statement of none of the forms that hold other statements.
+/// Puts a statement that contains no other statement.
 fn put_simple(out: &mut Told, statement: &Statement) {
     if !(put_jump(out, statement) || put_file(out, statement) || put_array(out, statement)) {
         put_value(out, statement);
     }
 }
 
-/// A word, and a clause in braces behind it.
+/// Puts a word, and a clause in braces after it.
 #[cycle(statements)]
 fn put_clause(out: &mut Told, word: &str, clause: &Clause) {
     out.put(word);
@@ -663,7 +663,7 @@ fn put_clause(out: &mut Told, word: &str, clause: &Clause) {
     out.put("}")
 }
 
-/// A statement, with braces round what is inside another one.
+/// Puts a statement, with braces around statements inside it.
 #[cycle(statements)]
 fn put_statement(out: &mut Told, statement: &Statement) {
     match statement {
@@ -702,7 +702,7 @@ fn put_statement(out: &mut Told, statement: &Statement) {
     }
 }
 
-/// Whether the statements of a line, each behind a colon, are told by these words.
+/// Returns whether the statements of a line, each after a colon, are put as these words.
 pub(crate) fn is_told(line: &Line, words: &'static str) -> bool {
     let mut out = Told {
         rest: words.as_bytes(),

@@ -1,4 +1,4 @@
-//! Whole numbers, texts, failures, and numbers that stand in a text.
+//! Integers, strings, failures, and numbers in a text.
 
 use crate::expects::{expect, expect_bytes, expect_row};
 use basic_values::{
@@ -53,7 +53,7 @@ enum Operator {
 
 use Operator::{And, Divided, Eqv, Imp, Minus, Or, Power, Times, Xor};
 
-/// The value of an operation; none where it divides by 0.
+/// Returns the value of an operation, or `None` for a division by 0.
 fn value_of(operator: Operator, a: i16, b: i16) -> Option<i16> {
     let (left, right) = (Int::new(a), Int::new(b));
     match operator {
@@ -186,7 +186,7 @@ fn expect_turns(rows: &[(i16, i16, i16, i16)]) -> Result<(), Fail> {
     Ok(())
 }
 
-/// Whether a division by 0 is refused with its own error.
+/// Returns whether a division by 0 fails with its own error.
 fn is_refused_at_zero() -> bool {
     match Int::new(LOW).div(Int::new(0)) {
         Ok(_) => false,
@@ -201,7 +201,7 @@ fn operators_at_the_ends_of_their_range(_rt: HostRuntime) -> Result<(), Fail> {
     expect(is_refused_at_zero(), "a division by 0")
 }
 
-/// Two texts, their order, and whether they are the same to the last byte.
+/// Two strings, their order, and whether they are the same to the last byte.
 static COMPARED: [(&[u8], &[u8], Ordering, bool); 7] = [
     (b"AB", b"AB  ", Ordering::Equal, false),
     (b"AB", b"AB", Ordering::Equal, true),
@@ -226,7 +226,7 @@ fn texts_are_compared(_rt: HostRuntime) -> Result<(), Fail> {
     Ok(())
 }
 
-/// The lengths of two texts, and that of both as one; none where it is too long.
+/// The lengths of two strings, and that of both joined; `None` if it is too long.
 type Lengths = (usize, usize, Option<usize>);
 
 static LENGTHS: [Lengths; 8] = [
@@ -240,7 +240,7 @@ static LENGTHS: [Lengths; 8] = [
     (32768, 0, None),
 ];
 
-/// Whether two texts as one have that length, or are refused as too long.
+/// Returns whether two strings joined have that length, or are rejected as too long.
 fn is_as_long(alloc: Global, a: &[u8], b: &[u8], length: Option<usize>) -> bool {
     match concat(alloc, a, b) {
         Ok(text) => length == Some(text.as_bytes().len()),
@@ -249,7 +249,8 @@ fn is_as_long(alloc: Global, a: &[u8], b: &[u8], length: Option<usize>) -> bool 
     }
 }
 
-/// The same where the second is put behind the first in its place. One that is refused leaves the first as it was.
+/// The same if the second is appended to the first in place. If that fails, the first must be as it
+/// was.
 fn grows_as_long(text: &mut Text, first: usize, b: &[u8], length: Option<usize>) -> bool {
     match text.append(b) {
         Ok(()) => length == Some(text.as_bytes().len()),
@@ -258,7 +259,7 @@ fn grows_as_long(text: &mut Text, first: usize, b: &[u8], length: Option<usize>)
     }
 }
 
-/// The same where the first is no text by itself, and no text as one then.
+/// The same if the first is no string by itself, and then no string joined.
 fn is_as_long_in_place(alloc: Global, a: &[u8], b: &[u8], length: Option<usize>) -> bool {
     match Text::of(alloc, a) {
         Ok(mut text) => grows_as_long(&mut text, a.len(), b, length),
@@ -266,7 +267,7 @@ fn is_as_long_in_place(alloc: Global, a: &[u8], b: &[u8], length: Option<usize>)
     }
 }
 
-/// Whether the first texts of two of so many spaces have that length as one, either way.
+/// Returns whether two strings of spaces have that length when joined, in either order.
 fn have_length(alloc: Global, spaces: &[u8], row: &Lengths) -> bool {
     if row.0 > spaces.len() || row.1 > spaces.len() {
         return false;
@@ -286,7 +287,7 @@ fn expect_lengths(alloc: Global, spaces: &[u8], rows: &[Lengths]) -> Result<(), 
     Ok(())
 }
 
-/// Fails unless a text has the bytes that it is made of.
+/// Fails unless a string has the bytes that it is made of.
 fn expect_text(alloc: Global, bytes: &[u8]) -> Result<(), Fail> {
     match Text::of(alloc, bytes) {
         Ok(text) => expect_bytes(text.as_bytes(), bytes),
@@ -301,7 +302,7 @@ fn texts_end_at_their_greatest_length(rt: HostRuntime) -> Result<(), Fail> {
     expect_text(rt.alloc(), b"AB")
 }
 
-/// The number of an error, and its words.
+/// The number of an error, and its text.
 static FAULTS: [(u8, &[u8]); 10] = [
     (0, b""),
     (1, b""),
@@ -315,7 +316,7 @@ static FAULTS: [(u8, &[u8]); 10] = [
     (255, b""),
 ];
 
-/// What halts a program, and its words.
+/// A halt, and its text.
 static HALTS: [(Halt, &[u8]); 5] = [
     (Halt::NoGosub, b"RETURN without GOSUB"),
     (Halt::TooDeep, b"Nested too deep"),
@@ -381,7 +382,7 @@ fn numbers_stand_in_their_range(_rt: HostRuntime) -> Result<(), Fail> {
     Ok(())
 }
 
-/// A text, the blanks, letters and digits in front of it, and the blanks at its end.
+/// A text, the blanks, letters and digits at its front, and the blanks at its end.
 static RUNS: [(&[u8], [usize; 4]); 8] = [
     (b"", [0, 0, 0, 0]),
     (b" \t A", [3, 0, 0, 0]),
@@ -402,8 +403,8 @@ fn runs_of(text: &[u8]) -> [usize; 4] {
     ]
 }
 
-/// How many bytes a text has without the blanks in front and without those at its end, taken from
-/// all of them.
+/// Returns how many bytes a text loses without the blanks at its front, and without those at its
+/// end.
 fn cut_off(text: &[u8]) -> (usize, usize) {
     let front = text.len().saturating_sub(without_front_blanks(text).len());
     (
@@ -423,7 +424,7 @@ fn texts_begin_and_end_with_runs(_rt: HostRuntime) -> Result<(), Fail> {
     Ok(())
 }
 
-/// Whether a list has the numbers that it is made of.
+/// Returns whether a list has the numbers that it is made of.
 fn gives_back(alloc: Global, numbers: &[u16]) -> bool {
     match Vec::from_slice(alloc, numbers) {
         Ok(list) => Series::from_vec(list).as_slice() == numbers,
@@ -431,7 +432,7 @@ fn gives_back(alloc: Global, numbers: &[u16]) -> bool {
     }
 }
 
-/// Fails unless a line of keys has the bytes that it is made of.
+/// Fails unless a key line has the bytes that it is made of.
 fn expect_keys(alloc: Global, bytes: &[u8]) -> Result<(), Fail> {
     if bytes.len() > 255 {
         return Err(Fail::new("the bytes are no key line"));

@@ -1,4 +1,5 @@
--- One buffer cut at the lines of a range: what is lent of it, and what is left when they go or another comes.
+-- One buffer, split at the lines of a range: what is borrowed of it, and what is left when lines
+-- are removed or replaced.
 use Rattle.std.proofs.Common.{◌≡◌, ℕ, suc, ◌+◌, ◌-◌, ◌^◌, ◌<◌, ◌≤◌, List, [], ◌∷◌, ◌++◌, length, take, drop, get_or, map, true, false, ltb, ltb-true, inl, inr, Some, None, refl, sym, ap, subst, ◌∙◌, arith, append_assoc, length-append}
 use Rattle.std.specs.Prelude.{slice_range}
 use Rattle.std.specs.Fmt.{decimal}
@@ -24,7 +25,7 @@ no_mark = record { number = 0; begins = 0; count = 0 }
 
 -- SEARCHING
 
--- the numbers of the marks rise
+-- the numbers of the marks increase
 pub numbers_rise : (bytes : List ℕ) (marks : List Mark) (lines : Lines) → IsListing bytes marks lines → IsNonDecreasingBy (λ (m : Mark). m.number) marks
 numbers_rise bytes marks lines is i j d le lt =
     let keys : map (λ (m : Mark). m.number) marks ≡ keys_of lines = ap (map (λ (m : Mark). m.number)) is.beside ∙ numbers_of 0 lines in
@@ -67,7 +68,7 @@ within_bytes bytes marks lines place is =
 
 -- A RANGE
 
--- a buffer, the places of the lines of a range, and the bytes where they begin and end
+-- a buffer, the places of the lines of a range, and the bytes at which they begin and end
 pub record Ranged (from to : ℕ) (bytes : List ℕ) (marks : List Mark) (lines : Lines) (places : Places) (s e : ℕ) : Type 0 where
   pub lists : IsListing bytes marks lines
   pub placed : IsPlaced from to lines places
@@ -138,7 +139,7 @@ module _ (from to : ℕ) (bytes : List ℕ) (marks : List Mark) (lines : Lines) 
       ap (λ (l : List ℕ). slice_range l s e) bytes_are ∙ middle_of (listing below) (listing among) (listing above) s e starts ends
       ∙ ap listing (sym (within_parts from to lines below among above parts))
 
-  -- the bytes and the marks in front of the range, others, and those behind it
+  -- the bytes and the marks before the range, others, and those after it
   spliced_bytes : (line : List ℕ) → take s bytes ++ (line ++ drop e bytes) ≡ listing below ++ (line ++ listing above)
   spliced_bytes line =
       ap (λ (l : List ℕ). take s l ++ (line ++ drop e l)) bytes_are
@@ -151,7 +152,7 @@ module _ (from to : ℕ) (bytes : List ℕ) (marks : List Mark) (lines : Lines) 
       ∙ ap (λ (l : List Mark). l ++ (put ++ drop places.behind (marks_of 0 below ++ (marks_of s among ++ marks_of e above)))) (front_of (marks_of 0 below) (marks_of s among) (marks_of e above) places.first front_marks)
       ∙ ap (λ (l : List Mark). marks_of 0 below ++ (put ++ l)) (back_of (marks_of 0 below) (marks_of s among) (marks_of e above) places.behind back_marks)
 
-  -- the marks behind it, moved behind so many other bytes
+  -- the marks after it, moved to follow that many other bytes
   shifted_marks : (added place : ℕ) (front ms shifted : List Mark) → ms ≡ front ++ marks_of e above → place ≡ length front
       → shifted ≡ take place ms ++ map (moved (e - s) added) (drop place ms) → shifted ≡ front ++ marks_of (s + added) above
   shifted_marks added place front ms shifted made place-is is-shifted =
@@ -286,7 +287,7 @@ module _ (number : ℕ) (bytes : List ℕ) (marks : List Mark) (lines : Lines) (
   one : IsOne number middle
   one = one_among number lines (take places.first lines) middle (drop places.behind lines) (in_parts number number lines places placed) is.orderly
 
-  -- where there is one, its mark stands within the bytes, and they are the line's
+  -- if there is one, its mark is within the bytes, and they are the line's
   pub mark_stands : (mark : Mark) → places.first < places.behind → mark ≡ get_or marks places.first mark → mark.begins + mark.count + 2 ≤ length bytes
   mark_stands mark there read =
       let inside = placed.inside in

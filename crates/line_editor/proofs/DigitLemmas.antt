@@ -25,7 +25,7 @@ digit_range byte e = (grind (arith, nat_tests), grind (arith, nat_tests))
 pub digit_at : (digits : List ℕ) (i : ℕ) → list_all is_ascii_digit digits ≡ true → i < length digits → IsInRange 48 57 (get_or digits i 0)
 digit_at digits i all lt = digit_range (get_or digits i 0) (passes_at is_ascii_digit digits i all lt)
 
--- one digit more
+-- one more digit
 pub limited_step : (digits : List ℕ) (i value digit limit : ℕ) → list_all is_ascii_digit digits ≡ true → i < length digits → value ≡ min (digits_value 10 (take i digits)) limit → digit ≡ get_or digits i 0 - 48
     → min (value * 10 + digit) limit ≡ min (digits_value 10 (take (i + 1) digits)) limit
 limited_step digits i value digit limit all lt so_far is =

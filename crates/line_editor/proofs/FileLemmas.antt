@@ -56,7 +56,7 @@ digits_plain (byte ∷ ds) all = and_both _ _ (digit_plain byte (digit_at (byte 
 small : (n : ℕ) → n ≤ MOST_NUMBER → n < 2 ^ 64
 small n h = omega arith
 
--- how many digits digits and something else begin with
+-- how many digits a text begins with that is digits and something else
 front_step : (p : ℕ → Bool) (byte : ℕ) (front back : List ℕ) → p byte ≡ true → prefix_len p (front ++ back) ≡ length front → prefix_len p ((byte ∷ front) ++ back) ≡ length (byte ∷ front)
 front_step p byte front back is more = rw is (omega (arith, more))
 
@@ -126,7 +126,7 @@ joined_plain line is plain =
     list_all-append (λ byte. is_written byte && not (is_line_feed byte)) (decimal line.0) line.1
     ∙ and_both _ _ (digits_plain (decimal line.0) (decimal_is_IsNumeral line.0 (small line.0 is.number.high)).0.1) plain
 
--- what stands before the LF of a line
+-- what is before the LF of a line
 abbrev before_feed : ℕ × List ℕ → List ℕ
 before_feed line = joined line ++ 13 ∷ []
 
@@ -241,7 +241,7 @@ read_again lines pages program plain paged =
     subst (λ (texts : List (List ℕ)). AreKept texts [] lines) (sym (ap file_lines (read_back lines pages program.each plain paged) ∙ lines_read lines program.each plain))
     (all_kept [] lines program.each program.ordered program.few)
 
--- all lines are within the numbers that lines have
+-- all lines have line numbers
 within_by : (line : ℕ × List ℕ) (lines : Lines) → is_within 1 MOST_NUMBER line.0 ≡ true → within 1 MOST_NUMBER lines ≡ lines → within 1 MOST_NUMBER (line ∷ lines) ≡ line ∷ lines
 within_by line lines is more = rw is (ap (λ (l : Lines). line ∷ l) more)
 

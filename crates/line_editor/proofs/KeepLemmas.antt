@@ -3,7 +3,8 @@ use Rattle.std.proofs.Common.{◌≡◌, ℕ, inl, inr, List, [], ◌∷◌, ref
 use Rattle.basic_tree.specs.ProgramLines.{Lines}
 use Rattle.line_editor.specs.Files.{IsKept, kept, IsBad, AreKept, HasBad}
 
--- The lines that are left to be stored, behind those that made these: to end with them is to end with all.
+-- The lines that are left to be stored, after those that led to these: to end with them is to end
+-- with all.
 pub record KeptSoFar (texts : List (List ℕ)) (old : Lines) (left : List (List ℕ)) (now : Lines) : Type 0 where
   pub ends : (new : Lines) → AreKept left now new → AreKept texts old new
   pub fails : HasBad left now → HasBad texts old

@@ -1,4 +1,4 @@
--- The text of a program and its file, worked out.
+-- The text of a program and its file, computed.
 use Rattle.std.proofs.Common.{◌≡◌, ℕ, [], ◌∷◌, map, Some, None, refl}
 use Rattle.std.specs.Prelude.{codes}
 use Rattle.std.specs.Fmt.{digits}
@@ -48,7 +48,7 @@ as_listed = refl
 abbrev mark : ℕ → ℕ → ℕ → Mark
 mark number begins count = record { number = number; begins = begins; count = count }
 
--- where the text behind each number begins, and how long it is
+-- where the text after each number begins, and how long it is
 where_they_stand : marks_of 0 some ≡ mark 5 1 5 ∷ mark 20 10 4 ∷ mark 100 19 0 ∷ []
 unfolding digits
 where_they_stand = refl
@@ -56,7 +56,7 @@ where_they_stand = refl
 as_marked : map (line_marked (codes "5 STOP\r\n20 END\r\n100\r\n")) (mark 5 1 5 ∷ mark 20 10 4 ∷ mark 100 19 0 ∷ []) ≡ some
 as_marked = refl
 
--- with 6 bytes out and 2 in before it
+-- 6 bytes were removed and 2 inserted before it
 behind_a_change : moved 6 2 (mark 20 10 4) ≡ mark 20 6 4
 behind_a_change = refl
 

@@ -39,7 +39,7 @@ module _ (R : ℕ → ℕ → Ordering) (number : ℕ) (rest : List ℕ) where
   each_inserted_of P [] same new old = (new, tt)
   each_inserted_of P (l ∷ ls) same new old = each_inserted_by P l ls (R number l.0) refl (same l.0) new old (each_inserted_of P ls same new old.1)
 
-  -- a line that was not there is taken out again
+  -- a line that was not there is removed again
   remove_inserted_by : (l : ℕ × List ℕ) (ls : Lines) (o : Ordering) → R number l.0 ≡ o → R number number ≡ Equal → lookup (is_at (R number)) (l ∷ ls) ≡ None
       → (lookup (is_at (R number)) ls ≡ None → remove_entry (is_at (R number)) (insert_entry R ls number rest) ≡ ls)
       → remove_entry (is_at (R number)) (insert_entry R (l ∷ ls) number rest) ≡ l ∷ ls

@@ -1,4 +1,4 @@
--- A listing cut at a line, and the marks of its lines.
+-- A listing, split at a line, and the marks of its lines.
 use Rattle.std.proofs.Common.{◌≡◌, ℕ, zero, suc, ◌+◌, ◌-◌, ◌<◌, ◌≤◌, List, [], ◌∷◌, ◌++◌, length, take, drop, get_or, map, refl, sym, ap, subst, ◌∙◌, arith, append_assoc, length-append}
 use Rattle.std.specs.Prelude.{slice_range, codes}
 use Rattle.std.specs.Fmt.{decimal}
@@ -68,7 +68,7 @@ marks_moved removed added at (l ∷ lines) le =
     ap (λ (k : ℕ). text_mark k l ∷ map (moved removed added) (marks_of (at + length (listed l)) lines)) head
     ∙ ap (λ (ms : List Mark). mark_at ((at - removed) + added) l ∷ ms) (marks_moved removed added (at + length (listed l)) lines later ∙ ap (λ (k : ℕ). marks_of k lines) tail)
 
--- each stands within the listing
+-- each is within the listing
 abbrev pub StandsIn : ℕ → ℕ → Mark → Type 0
 StandsIn low high mark = (low ≤ mark.begins) × (mark.begins + mark.count + 2 ≤ high)
 
@@ -89,7 +89,7 @@ marks_stand at high (l ∷ lines) le =
     let later : (at + length (listed l)) + length (listing lines) ≤ high = omega arith in
     ((low, end), stand_later at (at + length (listed l)) high (marks_of (at + length (listed l)) lines) (omega arith) (marks_stand (at + length (listed l)) high lines later))
 
--- where the line behind a mark begins
+-- where the line after a mark begins
 pub mark_end : (at : ℕ) (lines : Lines) (k : ℕ) (d : Mark) → k < length lines → (get_or (marks_of at lines) k d).begins + (get_or (marks_of at lines) k d).count + 2 ≡ at + length (listing (take (suc k) lines))
 mark_end at [] k d lt = absurd (omega arith)
 mark_end at (l ∷ lines) zero d lt =
@@ -102,7 +102,7 @@ mark_end at (l ∷ lines) (suc k) d lt =
 
 -- THE LINES BY THEIR MARKS
 
--- what a mark says of a line that begins behind these bytes
+-- what a mark says of a line that begins after these bytes
 line_at : (pre : List ℕ) (line : ℕ × List ℕ) (post : List ℕ) → line_marked (pre ++ (listed line ++ post)) (mark_at (length pre) line) ≡ line
 line_at pre line post =
     let parts : pre ++ (listed line ++ post) ≡ (pre ++ decimal line.0) ++ (line.1 ++ (codes "\r\n" ++ post)) = simp append_assoc in

@@ -1,4 +1,4 @@
--- Bytes cut into pages, and the pages' bytes.
+-- Bytes split into pages, and the pages' bytes.
 use Rattle.std.proofs.Common.{◌≡◌, ℕ, ◌+◌, ◌-◌, ◌<◌, ◌≤◌, ◌⊎◌, inl, inr, List, [], ◌∷◌, ◌++◌, length, take, drop, get_or, replicate, refl, sym, ap, subst, ◌∙◌, arith, append_assoc, append-nil, length-append}
 use Rattle.std.specs.Prelude.{filter, min}
 use Rattle.std.specs.List.{AllByRecursion, concat}
@@ -10,14 +10,15 @@ use Rattle.basic_values.specs.declared.limits.TheConstants.{BLOCK_BYTES}
 use Rattle.basic_tree.specs.FileLines.{is_written, file_text}
 use Rattle.line_editor.specs.Files.{IsPaged}
 
--- one page more is read
+-- one more page is read
 pub text_more : (pages : List (List ℕ)) (i : ℕ) (page : List ℕ) → i < length pages → page ≡ get_or pages i page → file_text (take (i + 1) pages) ≡ file_text (take i pages) ++ filter is_written page
 text_more pages i page lt is =
     ap file_text (take_more pages i page lt) ∙ ap (filter is_written) (concat-append (take i pages) (get_or pages i page ∷ []))
     ∙ filter-append is_written (concat (take i pages)) (concat (get_or pages i page ∷ []))
     ∙ ap (λ (bytes : List ℕ). file_text (take i pages) ++ filter is_written bytes) (append-nil (get_or pages i page) ∙ sym is)
 
--- The pages so far, and the bytes that are left: where none are, there may be zeros behind the last.
+-- The pages so far, and the bytes that are left. If none are left, there may be zeros after the
+-- last page's bytes.
 pub record PagedSoFar (bytes : List ℕ) (pages : List (List ℕ)) (left : List ℕ) : Type 0 where
   pub zeros : ℕ
   pub few : zeros < BLOCK_BYTES
@@ -25,7 +26,7 @@ pub record PagedSoFar (bytes : List ℕ) (pages : List (List ℕ)) (left : List 
   pub holds : concat pages ++ left ≡ bytes ++ replicate zeros 0
   pub ends : (left ≡ []) ⊎ (zeros ≡ 0)
 
--- zeros behind the bytes of the last page
+-- zeros after the bytes of the last page
 pub padded : (whole bytes : List ℕ) (count : ℕ) → whole ≡ bytes → count ≡ length bytes → length bytes ≤ BLOCK_BYTES
     → take BLOCK_BYTES whole ++ replicate (BLOCK_BYTES - count) 0 ≡ bytes ++ replicate (BLOCK_BYTES - length bytes) 0
 padded whole bytes count same counted fits =
@@ -36,7 +37,7 @@ padded whole bytes count same counted fits =
 pub length-padded : (bytes : List ℕ) → length bytes ≤ BLOCK_BYTES → length (bytes ++ replicate (BLOCK_BYTES - length bytes) 0) ≡ BLOCK_BYTES
 length-padded bytes fits = omega (arith, length-append {A = ℕ}, length-replicate {A = ℕ})
 
--- what is left makes no zeros so far
+-- as long as bytes are left, there are no zeros
 no_zeros : (bytes : List ℕ) (pages : List (List ℕ)) (left : List ℕ) → 0 < length left → PagedSoFar bytes pages left → concat pages ++ left ≡ bytes
 no_zeros bytes pages left some so_far = by so_far.ends
   where
@@ -48,7 +49,7 @@ all_pages : (pages : List (List ℕ)) (page : List ℕ) → AllByRecursion (λ p
 all_pages [] page all this = (this, tt)
 all_pages (first ∷ pages) page all this = (all.0, all_pages pages page all.1 this)
 
--- the bytes of one page more
+-- the bytes of one more page
 concat_more : (pages : List (List ℕ)) (page left : List ℕ) → concat (pages ++ page ∷ []) ++ left ≡ concat pages ++ (page ++ left)
 concat_more pages page left =
     ap (λ (bytes : List ℕ). bytes ++ left) (concat-append pages (page ∷ []) ∙ ap (λ (bytes : List ℕ). concat pages ++ bytes) (append-nil page))
@@ -94,7 +95,7 @@ paged_by bytes pages left count page (inr long) some counted is so_far =
     let is' : page ≡ take BLOCK_BYTES left = is ∙ ap (λ (k : ℕ). take count left ++ replicate (BLOCK_BYTES - k) 0) long' ∙ append-nil (take count left) ∙ ap (λ (k : ℕ). take k left) whole in
     subst (λ (k : ℕ). Paged bytes pages page (drop k left)) (sym whole) (subst (λ (p : List ℕ). Paged bytes pages p (drop BLOCK_BYTES left)) (sym is') (paged_long bytes pages left long so_far))
 
--- one page more is written
+-- one more page is written
 pub paged_more : (bytes : List ℕ) (pages : List (List ℕ)) (left : List ℕ) (count : ℕ) (page : List ℕ) → 0 < length left → count ≡ min (length left) BLOCK_BYTES → page ≡ take count left ++ replicate (BLOCK_BYTES - length (take count left)) 0
     → PagedSoFar bytes pages left → PagedSoFar bytes (pages ++ page ∷ []) (drop count left)
 paged_more bytes pages left count page some counted is so_far = paged_by bytes pages left count page (flip (cases_lt BLOCK_BYTES (length left))) some counted is so_far

@@ -1,4 +1,5 @@
--- Lines in the order of their numbers, cut into those below a range, those in it and those above.
+-- Lines in the order of their numbers, split into those below a range, those in it and those above
+-- it.
 use Rattle.std.proofs.Common.{◌≡◌, ℕ, ◌+◌, ◌<◌, ◌≤◌, ◌⊎◌, inl, inr, Bool, true, false, List, [], ◌∷◌, ◌++◌, length, take, drop, get_or, Some, None, refl, sym, ap, subst, ◌∙◌, arith, append-nil, length-drop}
 use Rattle.std.specs.Prelude.{filter, not, max}
 use Rattle.std.specs.BTreeMap.{insert_entry}
@@ -139,13 +140,13 @@ keys_filtered : (p : ℕ → Bool) (ls : Lines) → keys_of (filter (λ line. p 
 keys_filtered p [] = refl
 keys_filtered p (l ∷ ls) = keys_filtered_by p l ls (p l.0) refl (keys_filtered p ls)
 
--- without some, the numbers rise still
+-- without some, the numbers still increase
 pub orderly_without : (from to : ℕ) (lines : Lines) → IsOrderly lines → IsOrderly (without from to lines)
 orderly_without from to lines is =
     let p = λ (n : ℕ). not (is_within from to n) in
     subst (λ (ks : List ℕ). IsStrictlySortedBy nat_cmp ks) (sym (keys_filtered p lines)) (IsStrictlySortedBy-filter nat_cmp p (keys_of lines) is)
 
--- so they do with one more between those below it and those above
+-- the same with one more, between those below it and those above it
 with_one_below : (k : ℕ) (number : ℕ) (rest : List ℕ) (a b : Lines) → nat_cmp k number ≡ Less → AllByRecursion (λ y. nat_cmp k y ≡ Less) (keys_of (a ++ b)) → AllByRecursion (λ y. nat_cmp k y ≡ Less) (keys_of (a ++ (number, rest) ∷ b))
 with_one_below k number rest [] b lt all = (lt, all)
 with_one_below k number rest (l ∷ a) b lt all = (all.0, with_one_below k number rest a b lt all.1)
@@ -229,7 +230,7 @@ module _ (number : ℕ) (lines a m b : Lines) (is : InParts number number lines 
       subst (λ (ls : Lines). IsOrderly ls) (sym (stored_parts rest))
       (orderly_with number rest a b (subst (λ (ls : Lines). IsOrderly ls) (without_parts number number lines a m b is) (orderly_without number number lines order)) is.below is.above)
 
--- without one number, nothing but the line that has it is gone
+-- without one number, only the line that has it is gone
 module _ (number : ℕ) where
   from_level : (k : ℕ) → nat_cmp number k ≡ Equal → number ≡ k
   from_level k is = grind (arith, nat_tests)

@@ -1,4 +1,4 @@
--- What stays a program's text when a line is stored, and when lines are deleted.
+-- A program's text is still one after a line is stored, and after lines are deleted.
 use Rattle.std.proofs.Common.{◌≡◌, ℕ, suc, ◌+◌, ◌≤◌, inl, inr, List, [], ◌∷◌, length, Option, Some, None, refl, sym, ap, subst, ◌∙◌, arith}
 use Rattle.std.specs.Prelude.{filter, not, IsSome, if◌then◌else◌, is_some}
 use Rattle.std.specs.BTreeMap.{BTreeMap, insert_entry, is_at}
@@ -32,7 +32,7 @@ room_kept number lines trees None new beside same (inl there) most is =
     absurd (false≢true (subst (λ (o : Option (List ℕ)). IsSome o) none there))
 room_kept number lines trees None new beside same (inr few) most is = omega arith
 
--- one line more
+-- one more line
 pub whole_stored : (lines lines' : Lines) (trees trees' : BTreeMap ℕ Line) (number : ℕ) (rest : List ℕ) (tree : Line) (o : Option Line)
     → AreWhole lines trees → IsProgramLine (number, rest) → IsTreeOf rest tree → HasRoom number lines → lines' ≡ stored number rest lines → IsOrderly lines'
     → trees'.entries ≡ insert_entry nat_cmp trees.entries number tree → o ≡ lookup (is_at (nat_cmp number)) trees.entries → length trees'.entries ≡ length trees.entries + (if is_some o then 0 else 1) → AreWhole lines' trees'
@@ -59,7 +59,7 @@ program_without lines lines' from to program made = record {
       h;
 }
 
--- a line less
+-- one line less
 pub whole_removed : (lines : Lines) (trees : BTreeMap ℕ Line) (lines' : Lines) (trees' : BTreeMap ℕ Line) (number : ℕ)
     → AreWhole lines trees → lines' ≡ without number number lines → trees'.entries ≡ remove_entry (is_at (nat_cmp number)) trees.entries → AreWhole lines' trees'
 whole_removed lines trees lines' trees' number whole made made' = record {

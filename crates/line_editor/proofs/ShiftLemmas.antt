@@ -21,7 +21,7 @@ module _ (removed added from : ℕ) (old : List Mark) (in' : from ≤ length old
   front : length (take from old) ≡ from
   front = length-take-le from old in'
 
-  -- the one at the place stands there as before
+  -- the one at the place is still as before
   pub not_yet : (place : ℕ) (now : List Mark) (d : Mark) → from ≤ place → place < length old → MovedSoFar removed added from place old now → get_or now place d ≡ get_or old place d
   not_yet place now d le lt so_far =
       let tail = drop from old in

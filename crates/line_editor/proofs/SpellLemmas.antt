@@ -1,4 +1,4 @@
--- What spells a line begins with no digit.
+-- What spells a line does not begin with a digit.
 use Rattle.std.proofs.Common.{◌≡◌, ℕ, Bool, true, false, cond, List, ◌∷◌, Ok, Err, refl, sym, subst, ◌∙◌, arith}
 use Rattle.std.specs.Char.{is_ascii_alphabetic, is_ascii_digit}
 use Rattle.std.specs.Int.{IsInRange}
@@ -47,7 +47,7 @@ digits_begin : (rest : List ℕ) → Begins (digit_front rest)
 unfolding digit_front
 digits_begin rest = either _ _ _
 
--- so there is a cause for which the line is refused
+-- so the line is rejected for some cause
 abbrev IsRefused : Verdict → Type 0
 IsRefused verdict = (why : Cause) × (verdict ≡ RefusedFor why)
 

@@ -14,7 +14,7 @@ use Rattle.line_editor.specs.Edits.{IsStorable, RefusesFor}
 
 -- WRITING
 
--- the pages one behind another are the bytes, and then zeros, fewer than a page has
+-- the pages joined are the bytes, and then zeros, fewer than a page has
 pub record IsPaged (bytes : List ℕ) (pages : List (List ℕ)) : Type 0 where
   pub zeros : ℕ
   pub few : zeros < BLOCK_BYTES
@@ -23,30 +23,30 @@ pub record IsPaged (bytes : List ℕ) (pages : List (List ℕ)) : Type 0 where
 
 -- READING
 
--- the first of the lines, and what is left behind it
+-- the first of the lines, and the text after it
 abbrev pub CutsLine : List ℕ → Cut → Type 0
 CutsLine text cut =
     (file_lines text ≡ cut.line.now ∷ file_lines cut.left.now) × (length cut.left.now < length text)
 
--- the line of a file has a number and can be stored behind those before it
+-- the line of a file has a number and can be stored after those before it
 abbrev pub IsKept : List ℕ → Lines → Type 0
 IsKept text lines = (0 < digits_of text) × IsStorable (number_of text) (rest_of text) lines
 
 abbrev pub kept : List ℕ → Lines → Lines
 kept text lines = stored (number_of text) (rest_of text) lines
 
--- it has no number, or is refused
+-- it has no number, or is rejected
 abbrev pub IsBad : List ℕ → Lines → Type 0
 IsBad text lines =
     (digits_of text ≡ 0)
     ⊎ ((cause : EditRefusal) × RefusesFor (number_of text) (rest_of text) lines cause)
 
--- all lines of a file are stored in turn, and make these of those
+-- all lines of a file are stored in turn, and lead from these lines to those
 abbrev pub AreKept : List (List ℕ) → Lines → Lines → Type 0
 AreKept [] old new = new ≡ old
 AreKept (text ∷ texts) old new = IsKept text old × AreKept texts (kept text old) new
 
--- all before a bad one are stored
+-- all lines before a bad one are stored
 abbrev pub HasBad : List (List ℕ) → Lines → Type 0
 HasBad [] old = ⊥
 HasBad (text ∷ texts) old = IsBad text old ⊎ (IsKept text old × HasBad texts (kept text old))
@@ -61,7 +61,7 @@ KeepsOne text old new (Ok done) = IsKept text old × (new ≡ kept text old)
 KeepsOne text old new (Err (Refused fault)) = (fault ≡ DATA_FORMAT_ERROR) × IsBad text old
 KeepsOne text old new (Err NoMemory) = Unit {0}
 
--- Lines of a file are stored behind others, or there is a bad one among them: error 50.
+-- Lines of a file are stored after others, or one of them is bad: error 50.
 abbrev pub KeepsAll : List (List ℕ) → Lines → Lines → Result Unit (Trouble ℕ) → Type 0
 KeepsAll texts old new (Ok done) = AreKept texts old new
 KeepsAll texts old new (Err (Refused fault)) = (fault ≡ DATA_FORMAT_ERROR) × HasBad texts old

@@ -1,4 +1,4 @@
--- Which lines are those of a program, and their trees.
+-- Which lines a program can have, and their trees.
 use Rattle.std.specs.Prelude.{◌≡◌, ℕ, ◌+◌, ◌≤◌, List, [], ◌∷◌, length}
 use Rattle.std.specs.Fmt.{decimal}
 use Rattle.std.specs.List.{AllByRecursion}
@@ -14,17 +14,17 @@ use Rattle.basic_tree.specs.SpellingStatements.{line_statements}
 use Rattle.basic_tree.specs.StatementViews.{line_of}
 use Rattle.basic_tree.specs.Trees.{LineTree}
 
--- WHICH LINES ARE A PROGRAM'S
+-- WHICH LINES A PROGRAM CAN HAVE
 
 pub record IsNumber (number : ℕ) : Type 0 where
   pub low : 1 ≤ number
   pub high : number ≤ MOST_NUMBER
 
--- the line is not too long with its number
+-- with its number, the line is not too long
 abbrev pub Fits : ℕ → List ℕ → Type 0
 Fits number rest = length (decimal number) + length rest ≤ LINE_LENGTH
 
--- what stands behind a number spells a line
+-- what follows the number spells a line
 abbrev pub SpellsLine : List ℕ → Type 0
 SpellsLine rest = (l : LineTree) × Spells rest l
 

@@ -9,11 +9,11 @@ use Rattle.basic_tree.specs.ProgramLines.{Lines, is_within, listed}
 use Rattle.line_editor.specs.declared.buffer.Mark.{Mark}
 use Rattle.line_editor.specs.declared.buffer.Places.{Places}
 
--- the numbers rise
+-- the numbers increase
 abbrev pub IsOrderly : Lines → Type 0
 IsOrderly lines = IsStrictlySortedBy nat_cmp (keys_of lines)
 
--- WHERE LINES STAND IN A LISTING
+-- WHERE LINES ARE IN A LISTING
 
 -- the mark of a line that begins at this byte
 abbrev pub mark_at : ℕ → ℕ × List ℕ → Mark
@@ -24,17 +24,17 @@ abbrev pub marks_of : ℕ → Lines → List Mark
 marks_of at [] = []
 marks_of at (line ∷ lines) = mark_at at line ∷ marks_of (at + length (listed line)) lines
 
--- a mark behind a change that took so many bytes out and put so many in
+-- a mark after a change that removed this many bytes and inserted that many
 abbrev pub moved : ℕ → ℕ → Mark → Mark
 moved removed added mark = record { number = mark.number; begins = (mark.begins - removed) + added; count = mark.count }
 
--- it stands behind what was taken out, and still within a buffer
+-- it is after what was removed, and stays within a buffer
 abbrev pub CanMove : ℕ → ℕ → Mark → Type 0
 CanMove removed added mark = (removed ≤ mark.begins) × ((mark.begins - removed) + added < 2 ^ 64)
 
--- WHERE LINES STAND AMONG OTHERS
+-- WHERE LINES ARE AMONG OTHERS
 
--- the lines from one number to another, those before them and those behind
+-- the lines from one number to another, those before them, and those after them
 pub record IsPlaced (from to : ℕ) (lines : Lines) (places : Places) : Type 0 where
   pub rises : places.first ≤ places.behind
   pub inside : places.behind ≤ length lines

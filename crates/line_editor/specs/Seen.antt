@@ -9,7 +9,7 @@ use Rattle.line_editor.specs.Lines.{IsProgram, AreTrees}
 abbrev pub lines_seen : Inside → Lines
 lines_seen text = text.buffer
 
--- the lines are a program's, and their trees stand beside them
+-- the lines are a program's, and these are their trees
 pub record AreWhole (lines : Lines) (trees : BTreeMap ℕ Line) : Type 0 where
   pub program : IsProgram lines
   pub beside : AreTrees lines trees.entries

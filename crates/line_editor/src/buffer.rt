@@ -1,6 +1,7 @@
-//! The lines of a program in one buffer, as they are listed.
+//! The lines of a program in one buffer, in the form in which they are listed.
 
-ghost use Rattle.std.specs.Prelude.{◌≡◌, ◌+◌, ◌<◌, ◌≤◌, [], ◌∷◌, ◌++◌, length, take, drop, map, MatchOption, IfOk, OnOk, OnErr, vec_len, vec_capacity};
+ghost use Rattle.std.specs.Prelude.{◌≡◌, ◌+◌, ◌<◌, ◌≤◌, [], ◌∷◌, ◌++◌, length, take, drop, map};
+ghost use Rattle.std.specs.Prelude.{MatchOption, IfOk, OnOk, OnErr, vec_len, vec_capacity};
 ghost use Rattle.std.specs.List.{AllWithin, remove_range, splice};
 ghost use Rattle.basic_tree.specs.ProgramLines.{line, stored, within, without, listed, listing};
 ghost use Rattle.line_editor.specs.Marks.{moved, CanMove, IsOrderly, IsPlaced};
@@ -10,28 +11,28 @@ use itoa::Buffer;
 use std::alloc::Global;
 use std::marker::Model;
 
-/// How many bytes a listed line has behind its text: CR and LF.
+/// The bytes of a listed line after its text: CR and LF.
 const LINE_END: usize = 2;
 
-/// Where a line stands in the buffer.
+/// Where a line is in the buffer.
 #[derive(Clone, Copy)]
 pub(crate) struct Mark {
     pub(crate) number: u16,
-    /// Where the text behind the number begins.
+    /// Where the text after the number begins.
     pub(crate) begins: usize,
     /// How many bytes the text has.
     pub(crate) count: usize,
 }
 
-/// The lines from one number to another: the place of the first, and the place behind the last.
+/// The lines from one number to another: the place of the first, and the place after the last.
 #[derive(Clone, Copy)]
 pub(crate) struct Places {
     pub(crate) first: usize,
     pub(crate) behind: usize,
 }
 
-/// The listing of all lines without a gap, and beside it where each of them stands, in the order of
-/// their numbers.
+/// The listing of all lines without a gap, and where each of them is in it, in the order of their
+/// numbers.
 #[derive(Drop)]
 pub(crate) struct LineBuffer {
     bytes: Vec<u8>,
@@ -51,7 +52,7 @@ impl Model for LineBuffer {
 }
 
 impl LineBuffer {
-    /// A buffer without a line. It takes no memory.
+    /// Returns a buffer without lines. It takes no memory.
     pub(crate) fn new(alloc: Global) -> LineBuffer
         ensures { result ≡ [] }
     {
@@ -61,14 +62,14 @@ impl LineBuffer {
         }
     }
 
-    /// How many lines there are.
+    /// Returns the number of lines.
     pub(crate) fn len(&self) -> usize
         ensures { result ≡ length self.now }
     {
         self.marks.len()
     }
 
-    /// The lines from one number to another as they are listed.
+    /// Returns the lines from one number to another, as they are listed.
     pub(crate) fn list(&self, from: u16, to: u16) -> &[u8]
         ensures { result.now ≡ listing (within from to self.entry.now) }
     {
@@ -78,7 +79,7 @@ impl LineBuffer {
         &self.bytes.as_slice()[start..end]
     }
 
-    /// What stands behind a number, where the line is there.
+    /// Returns what follows the number of a line, if there is such a line.
     pub(crate) fn line(&self, number: u16) -> Option<&[u8]>
         ensures { MatchOption result
             (line number self.entry.now ≡ None)
@@ -93,7 +94,7 @@ impl LineBuffer {
         Some(&self.bytes.as_slice()[begins..begins + mark.count])
     }
 
-    /// Stores a line, in the place of the one with its number. What stands behind moves once.
+    /// Stores a line, and replaces one with the same number. What follows it is moved once.
     pub(crate) fn store(&mut self, alloc: Global, number: u16, rest: &[u8]) -> Result<(), NoMemory>
         ensures ok { OnOk result (self.new ≡ stored number rest.now self.old) }
         ensures memory { OnErr result (self.new ≡ self.old) }
@@ -129,7 +130,7 @@ impl LineBuffer {
         shift(&mut self.marks, places.first, end - start, 0);
     }
 
-    /// Where the lines from one number to another stand.
+    /// Returns the places of the lines from one number to another.
     fn places(&self, from: u16, to: u16) -> Places
         ensures { IsPlaced from to self.now result }
     {
@@ -141,7 +142,7 @@ impl LineBuffer {
         }
     }
 
-    /// How many lines have a number below this.
+    /// Returns how many lines have a smaller number.
     fn place_of(&self, number: u32) -> usize
         ensures within { result ≤ length self.now }
         ensures below { AllWithin (λ line. line.0 < number) self.now 0 result }
@@ -152,7 +153,7 @@ impl LineBuffer {
             .partition_point(|mark| u32::from(mark.number) < number)
     }
 
-    /// Where a line begins, or where the last one ends.
+    /// Returns where a line begins, or where the last one ends.
     fn start_of(&self, place: usize) -> usize
         requires { place ≤ length self.now }
         ensures { result ≡ length (listing (take place self.now)) }
@@ -165,7 +166,7 @@ impl LineBuffer {
     }
 }
 
-/// Takes out what stands from one place to another.
+/// Removes the items from one place to another.
 fn take_out<T: Drop>(items: &mut Vec<T>, start: usize, end: usize)
     requires rises { start ≤ end }
     requires within { end ≤ length items.old.items }
@@ -174,7 +175,7 @@ fn take_out<T: Drop>(items: &mut Vec<T>, start: usize, end: usize)
     items.drain(start..end);
 }
 
-/// Puts a line in the place of what stands from one byte to another.
+/// Replaces the bytes from one place to another by a line.
 fn put_bytes(bytes: &mut Vec<u8>, start: usize, end: usize, line: Vec<u8>) -> Result<(), NoMemory>
     requires rises { start ≤ end }
     requires within { end ≤ length bytes.old.items }
@@ -185,7 +186,7 @@ fn put_bytes(bytes: &mut Vec<u8>, start: usize, end: usize, line: Vec<u8>) -> Re
     Ok(())
 }
 
-/// Puts a mark in the place of the one that is there, or between the others, in room that is there.
+/// Replaces the mark of a line, or inserts one, in room that was reserved.
 fn put_mark(marks: &mut Vec<Mark>, places: Places, mark: Mark)
     requires rises { places.first ≤ places.behind }
     requires one { places.behind ≤ places.first + 1 }
@@ -200,10 +201,11 @@ fn put_mark(marks: &mut Vec<Mark>, places: Places, mark: Mark)
     }
 }
 
-/// Moves the marks from this place on, as the bytes behind a change have moved.
+/// Moves the marks from this place on, as the bytes after a change have moved.
 fn shift(marks: &mut Vec<Mark>, from: usize, removed: usize, added: usize)
     requires within { from ≤ length marks.old.items }
-    requires moves { AllWithin (CanMove removed added) marks.old.items from (length marks.old.items) }
+    requires moves { AllWithin (CanMove removed added) marks.old.items from
+        (length marks.old.items) }
     ensures { marks.new.items
         ≡ take from marks.old.items ++ map (moved removed added) (drop from marks.old.items) }
 {
@@ -217,7 +219,7 @@ fn shift(marks: &mut Vec<Mark>, from: usize, removed: usize, added: usize)
     }
 }
 
-/// A line as it is listed: the number, the bytes behind it, CR and LF.
+/// Returns a line as it is listed: the number, the bytes after it, CR and LF.
 fn listed_line(alloc: Global, number: u16, rest: &[u8]) -> Result<Vec<u8>, NoMemory>
     ensures { IfOk result (λ bytes. bytes.items ≡ listed (number, rest.now)) }
 {

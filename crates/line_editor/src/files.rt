@@ -1,10 +1,12 @@
 //! Program files: their pages, and the lines that are read from them.
 
-ghost use Rattle.std.specs.Prelude.{◌≡◌, ◌<◌, ◌≤◌, ◌-◌, ◌++◌, [], length, filter, replicate, IfOk, OnOk, IsTrue, ◌↔◌};
+ghost use Rattle.std.specs.Prelude.{◌≡◌, ◌<◌, ◌≤◌, ◌-◌, ◌++◌, [], length, filter, replicate, IfOk};
+ghost use Rattle.std.specs.Prelude.{OnOk, IsTrue, ◌↔◌};
 ghost use Rattle.basic_tree.specs.ProgramLines.{listing};
 ghost use Rattle.basic_tree.specs.FileLines.{is_written, without_return, file_text, file_lines};
 ghost use Rattle.basic_values.specs.declared.limits.TheConstants.{BLOCK_BYTES};
-ghost use Rattle.line_editor.specs.Files.{IsPaged, IsFileOf, ArePlain, KeepsOne, KeepsAll, ReadsFile, CutsLine};
+ghost use Rattle.line_editor.specs.Files.{IsPaged, IsFileOf, ArePlain, KeepsOne, KeepsAll};
+ghost use Rattle.line_editor.specs.Files.{ReadsFile, CutsLine};
 
 use crate::numbers::line_number;
 use crate::text::ProgramText;
@@ -14,7 +16,7 @@ use basic_values::{Fault, NoMemory, Trouble};
 use monitor_calls::Page;
 use std::alloc::Global;
 
-/// The first line of some text, and what is left behind it.
+/// The first line of a text, and the text after it.
 #[derive(Clone, Copy)]
 struct Cut<'a> {
     line: &'a [u8],
@@ -22,18 +24,19 @@ struct Cut<'a> {
 }
 
 impl ProgramText {
-    /// The file of the text: the lines as they are listed, and zeros behind them to a whole page.
+    /// Returns the pages of the program's file: the lines as they are listed, and zeros to the end
+    /// of the last page.
     pub fn to_file(&self) -> Result<Vec<Page>, NoMemory>
         ensures pages { IfOk result (λ pages. IsPaged (listing self.now) pages.items) }
-        // It is read again as the same lines, where none of them has a zero byte or an LF.
+        // Reading it returns the same lines, if none of them has a zero byte or an LF.
         ensures again { IfOk result (λ pages. ArePlain self.now → IsFileOf pages.items self.now) }
     {
         pages_of(self.alloc, self.list(1, MOST_NUMBER))
     }
 
-    /// Reads a file. Zero bytes are dropped, a line ends at LF or at the end, one CR before the LF
-    /// is dropped, and a number that comes again replaces. Error 50 where a line has no number or
-    /// is refused.
+    /// Reads a file. Zero bytes are dropped. A line ends at LF or at the end of the file, and one
+    /// CR before the LF is dropped. A line replaces an earlier one with its number. Error 50: a
+    /// line has no number, or is rejected.
     pub fn from_file(alloc: Global, pages: &[Page]) -> Result<ProgramText, Trouble<Fault>>
         ensures { ReadsFile pages.now result }
     {
@@ -73,7 +76,7 @@ impl ProgramText {
     }
 }
 
-/// Cuts the bytes into pages, the last of them with zeros behind its bytes.
+/// Splits the bytes into pages, with zeros after the bytes of the last one.
 fn pages_of(alloc: Global, bytes: &[u8]) -> Result<Vec<Page>, NoMemory>
     ensures { IfOk result (λ pages. IsPaged bytes.now pages.items) }
 {
@@ -87,7 +90,7 @@ fn pages_of(alloc: Global, bytes: &[u8]) -> Result<Vec<Page>, NoMemory>
     Ok(pages)
 }
 
-/// A page that begins with these bytes, with zeros behind them.
+/// Returns a page that begins with these bytes and ends with zeros.
 fn page_of(alloc: Global, bytes: &[u8]) -> Result<Page, NoMemory>
     requires { length bytes.now ≤ BLOCK_BYTES }
     ensures { IfOk result
@@ -100,7 +103,7 @@ fn page_of(alloc: Global, bytes: &[u8]) -> Result<Page, NoMemory>
     Ok(page)
 }
 
-/// What stands on the pages, without zero bytes.
+/// Returns the bytes of the pages, without zero bytes.
 fn bytes_of(alloc: Global, pages: &[Page]) -> Result<Vec<u8>, NoMemory>
     ensures { IfOk result (λ bytes. bytes.items ≡ file_text pages.now) }
 {
@@ -111,7 +114,7 @@ fn bytes_of(alloc: Global, pages: &[Page]) -> Result<Vec<u8>, NoMemory>
     Ok(bytes)
 }
 
-/// Adds the bytes that are no zeros.
+/// Appends the bytes that are not zero.
 fn append_written(bytes: &mut Vec<u8>, page: &[u8]) -> Result<(), NoMemory>
     ensures { OnOk result (bytes.new.items ≡ bytes.old.items ++ filter is_written page.now) }
 {
@@ -123,7 +126,7 @@ fn append_written(bytes: &mut Vec<u8>, page: &[u8]) -> Result<(), NoMemory>
     Ok(())
 }
 
-/// Cuts off the first line, up to its LF or to the end.
+/// Splits off the first line, up to its LF or to the end.
 fn first_line(text: &[u8]) -> Cut<'_>
     requires { 0 < length text.now }
     ensures { CutsLine text.entry.now result }
@@ -142,7 +145,7 @@ fn first_line(text: &[u8]) -> Cut<'_>
     }
 }
 
-/// The text without one CR at its end.
+/// Returns the text without one CR at its end.
 fn without_return(text: &[u8]) -> &[u8]
     ensures { result.now ≡ without_return text.entry.now }
 {

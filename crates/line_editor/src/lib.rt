@@ -1,11 +1,13 @@
-//! The text of a program: a map of its lines by their numbers.
+//! The text of a program: a map from line numbers to lines.
 //!
-//! `ProgramText` is seen as the list of its lines in order, each with the bytes behind its number.
-//! It keeps them as they are listed, in one buffer, so that `list` and `line` lend parts of it and
-//! take no memory. `put_line` and `delete` carry what is changed and what is refused, `list` which
-//! bytes are listed, `program` that the trees are those that the bytes spell, `to_file` and
-//! `from_file` that a file is read as it was written. It stands on `basic_line`, which reads the
-//! lines, and on `monitor_calls` for pages.
+//! Contracts see `ProgramText` as the list of its lines in order, each with the bytes after its
+//! number. It keeps them as they are listed, in one buffer, so `list` and `line` borrow parts of it
+//! and take no memory.
+//!
+//! `put_line` and `delete` promise what changes and what is rejected, `list` which bytes are
+//! listed, `program` that the trees are those that the bytes spell, and `to_file` and `from_file`
+//! that a file is read as it was written. The lines are read by `basic_line`; pages are those of
+//! `monitor_calls`.
 #![tactic(auto)]
 
 mod buffer;

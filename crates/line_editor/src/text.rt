@@ -1,6 +1,7 @@
 //! The lines of a program and their trees.
 
-ghost use Rattle.std.specs.Prelude.{◌≡◌, ◌≤◌, [], length, filter, not, MatchOption, OnOk, OnErr, IsTrue, ◌↔◌};
+ghost use Rattle.std.specs.Prelude.{◌≡◌, ◌≤◌, [], length, filter, not, MatchOption, OnOk, OnErr};
+ghost use Rattle.std.specs.Prelude.{IsTrue, ◌↔◌};
 ghost use Rattle.std.specs.Fmt.{decimal};
 ghost use Rattle.line_editor.specs.Edits.{Edits, Keeps, HasRoom, Deletes};
 ghost use Rattle.basic_tree.specs.ProgramLines.{line, stored, is_within, within, without, listing};
@@ -18,16 +19,16 @@ use std::alloc::Global;
 use std::collections::BTreeMap;
 use std::marker::Model;
 
-/// Why a line is not stored. The first cause of this list that there is.
+/// Why a line is not stored: the first of these causes that applies.
 #[derive(Clone, Copy, Debug, PartialEq, Eq)]
 pub enum EditRefusal {
     /// The number is not from 1 to 32767.
     Number,
     /// The line has more than 255 bytes with its number.
     TooLong,
-    /// What stands behind the number spells no line. Places are counted behind it.
+    /// What follows the number spells no line. Places are counted after the number.
     Line(Refusal),
-    /// It is a new line beside 1,000 others.
+    /// It would be line 1,001.
     TooMany,
 }
 
@@ -52,7 +53,7 @@ impl Model for ProgramText {
 }
 
 impl ProgramText {
-    /// A text without a line. It takes no memory.
+    /// Returns a text without lines. It takes no memory.
     pub fn new(alloc: Global) -> ProgramText
         ensures { result ≡ [] }
     {
@@ -65,8 +66,8 @@ impl ProgramText {
         }
     }
 
-    /// Stores a line: its number, and what stands behind it. An empty rest deletes the line. What
-    /// is refused changes nothing.
+    /// Stores a line with this number and the rest after it. An empty rest deletes the line. A
+    /// rejected line changes nothing.
     pub fn put_line(&mut self, number: u16, rest: &[u8]) -> Result<(), Trouble<EditRefusal>>
         ensures { Edits number rest.now self.old self.new result }
     {
@@ -85,16 +86,16 @@ impl ProgramText {
         delete_trees(&mut self.program.lines, from, to);
     }
 
-    /// The lines from one number to another as they are listed: the number, the bytes behind it, CR
-    /// and LF. They are lent, and it takes no memory.
+    /// Returns the lines from one number to another as they are listed: the number, the bytes after
+    /// it, CR and LF. They are borrowed, so it takes no memory.
     pub fn list(&self, from: u16, to: u16) -> &[u8]
         ensures { result.now ≡ listing (within from to self.entry.now) }
     {
         self.buffer.list(from, to)
     }
 
-    /// The bytes behind a number, which are lent; none where the line is not there. It takes no
-    /// memory.
+    /// Returns the bytes after the number of a line, or `None` if there is no such line. They are
+    /// borrowed, so it takes no memory.
     pub fn line(&self, number: u16) -> Option<&[u8]>
         ensures { MatchOption result
             (line number self.entry.now ≡ None)
@@ -103,7 +104,7 @@ impl ProgramText {
         self.buffer.line(number)
     }
 
-    /// The trees of the lines, by their numbers.
+    /// Returns the trees of the lines, by their numbers.
     pub fn program(&self) -> &Program
         ensures trees { AreTrees self.entry.now result.now.lines.entries }
         ensures program { IsProgram self.entry.now }
@@ -111,7 +112,7 @@ impl ProgramText {
         &self.program
     }
 
-    /// Stores a line, which may be empty behind its number.
+    /// Stores a line, whose rest may be empty.
     pub(crate) fn keep(&mut self, number: u16, rest: &[u8]) -> Result<(), Trouble<EditRefusal>>
         ensures { Keeps number rest.now self.old self.new result }
     {
@@ -148,7 +149,7 @@ impl ProgramText {
     }
 }
 
-/// Stores a line and its tree, or neither where memory runs out.
+/// Stores a line and its tree, or neither if memory runs out.
 fn store(
     alloc: Global,
     buffer: &mut LineBuffer,
@@ -175,21 +176,22 @@ fn store(
     }
 }
 
-/// Deletes the trees from one number to another.
+/// Deletes the trees of the lines from one number to another.
 fn delete_trees(trees: &mut BTreeMap<u16, Line>, from: u16, to: u16)
-    ensures { trees.new.entries ≡ filter (λ line. not (is_within from to line.0)) trees.old.entries }
+    ensures { trees.new.entries
+        ≡ filter (λ line. not (is_within from to line.0)) trees.old.entries }
 {
     trees.retain(|number, _| !is_within(from, to, *number));
 }
 
-/// Whether the number is none before or behind these.
+/// Returns whether the number is from `from` to `to`.
 fn is_within(from: u16, to: u16, number: u16) -> bool
     ensures { result ≡ is_within from to number }
 {
     from <= number && number <= to
 }
 
-/// The tree of a line that can be stored where there is room, or why it can't.
+/// Returns the tree of a line that can be stored if there is room, or why it can't.
 fn judged(alloc: Global, number: u16, rest: &[u8]) -> Result<Line, Trouble<EditRefusal>>
     ensures { IsEditVerdict number rest.now result }
 {
@@ -206,14 +208,14 @@ fn judged(alloc: Global, number: u16, rest: &[u8]) -> Result<Line, Trouble<EditR
     }
 }
 
-/// Whether a line may have this number.
+/// Returns whether a line can have this number.
 fn is_number(number: u16) -> bool
     ensures { IsTrue result ↔ IsNumber number }
 {
     (1..=MOST_NUMBER).contains(&number)
 }
 
-/// How many digits a number has.
+/// Returns the number of digits.
 fn digits_of(number: u16) -> usize
     ensures digits { result ≡ length (decimal number) }
     ensures few { result ≤ 5 }

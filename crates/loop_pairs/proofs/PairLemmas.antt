@@ -1,4 +1,4 @@
--- FORs that are open, and the pairs of statements of which some are passed.
+-- FORs that are open, and the pairs of statements when some of them are passed.
 use Rattle.std.proofs.Common.{◌≡◌, ℕ, suc, ◌+◌, ◌<◌, ◌≤◌, Bool, true, false, not, cond, List, [], ◌∷◌, ◌++◌, length, get_or, map, drop, reverse, Option, Some, None, Bor, refl, sym, ap, ◌∙◌, append-nil, arith}
 use Rattle.std.specs.Prelude.{◌==◌, filter}
 use Rattle.std.proofs.lemmas.List.{drop_more, drop_all, reverse-append, map-append}

@@ -2,11 +2,11 @@
 //!
 //! `pairs_in` goes over the statements of a program, and pairs each NEXT with the FOR that it
 //! closes, the nearest open one of its body. `nexts_in` and `fors_in` make two tables of the pairs:
-//! the NEXT of each FOR, and the FOR of each NEXT. The clause of each is the definition of
-//! `program_model` for it, on which and on the trees of `basic_tree` this crate stands.
+//! the NEXT of each FOR, and the FOR of each NEXT. The contract of each is the definition of
+//! `program_model` for it.
 //!
-//! `same_body` and `same_name` say whether two statements stand in one body, and whether two names
-//! are one; `entry_at` reads a table.
+//! `same_body` and `same_name` say whether two statements are in one body, and whether two names
+//! are equal; `entry_at` reads a table.
 #![tactic(auto)]
 
 mod opens;

@@ -1,6 +1,6 @@
 //! FORs that are open.
 
-ghost use Rattle.std.specs.Prelude.{◌≡◌, ◌==◌, [], ◌∷◌, find, option_map, Some, OnOk};
+ghost use Rattle.std.specs.Prelude.{◌≡◌, ◌==◌, [], ◌∷◌, find, option_map, Some, OnOk, OnErr};
 ghost use Rattle.program_model.specs.Program.{same_body, closed_by};
 ghost use Rattle.loop_pairs.specs.Pairs.{open_seen, opens_seen, left_open};
 
@@ -10,7 +10,7 @@ use basic_values::NoMemory;
 use std::alloc::Global;
 use std::marker::Model;
 
-/// A FOR that no NEXT has closed yet: its number, its variable, and the body in which it stands.
+/// A FOR that no NEXT has closed yet: its number, its variable, and the body that it is in.
 #[derive(Clone, Copy)]
 pub struct OpenLoop {
     pub number: usize,
@@ -18,7 +18,7 @@ pub struct OpenLoop {
     pub body: Option<usize>,
 }
 
-/// The FORs that are open, seen nearest first.
+/// The FORs that are open; contracts see the nearest first.
 #[derive(Drop)]
 pub struct Opens {
     items: Vec<OpenLoop>,
@@ -35,7 +35,7 @@ impl Model for Opens {
 }
 
 impl Opens {
-    /// None is open yet.
+    /// Returns an empty list.
     pub fn new(alloc: Global) -> Opens
         ensures { result ≡ [] }
     {
@@ -44,16 +44,17 @@ impl Opens {
         }
     }
 
-    /// Opens a FOR, which is then the nearest.
+    /// Opens a FOR, which is then the nearest. If memory runs out, the same FORs are open as
+    /// before.
     pub fn push(&mut self, opened: OpenLoop) -> Result<(), NoMemory>
-        ensures { OnOk result (self.new ≡ open_seen opened ∷ self.old) }
+        ensures opened { OnOk result (self.new ≡ open_seen opened ∷ self.old) }
+        ensures memory { OnErr result (self.new ≡ self.old) }
     {
         self.items.push(opened)?;
         Ok(())
     }
 
-    /// A NEXT of this variable in this body: it closes the nearest FOR of the body, whose number is
-    /// given, if the variable is the same.
+    /// Closes the nearest open FOR of this body, if it has this variable, and returns its number.
     pub fn close(&mut self, variable: Name, body: Option<usize>) -> Option<usize>
         ensures number { result ≡ option_map (λ o. o.number) (closed_by variable body self.old) }
         ensures rest { self.new ≡ left_open result self.old }
@@ -68,7 +69,7 @@ impl Opens {
     }
 }
 
-/// The number of the FOR that a NEXT of this variable in this body closes.
+/// Returns the number of the FOR that a NEXT of this variable in this body closes.
 fn closed(opens: &[OpenLoop], variable: Name, body: Option<usize>) -> Option<usize>
     ensures { result
         ≡ option_map (λ o. o.number) (closed_by variable body (opens_seen opens.now)) }
@@ -85,7 +86,7 @@ fn closed(opens: &[OpenLoop], variable: Name, body: Option<usize>) -> Option<usi
     }
 }
 
-/// The FOR of a body that was opened last.
+/// Returns the FOR of a body that was opened last.
 fn nearest(opens: &[OpenLoop], body: Option<usize>) -> Option<OpenLoop>
     ensures { option_map open_seen result
         ≡ find (λ o. same_body o.body body) (opens_seen opens.now) }
@@ -98,7 +99,7 @@ fn nearest(opens: &[OpenLoop], body: Option<usize>) -> Option<OpenLoop>
     None
 }
 
-/// Leaves out the FOR of this number.
+/// Removes the FOR with this number.
 fn remove(opens: &mut Vec<OpenLoop>, number: usize)
     ensures { opens_seen opens.new.items ≡ left_open (Some number) (opens_seen opens.old.items) }
 {

@@ -18,8 +18,8 @@ pub struct Pair {
     pub closing: usize,
 }
 
-/// The FORs of a program that are closed, with their NEXTs, in the order of these. The statements
-/// are those of the program, and to each its body is given.
+/// Returns the FORs of a program that are closed, with their NEXTs, in the order of the NEXTs. The
+/// caller gives the statements of the program, and the body of each.
 pub fn pairs_in(
     alloc: Global,
     statements: &[&Statement],
@@ -37,7 +37,7 @@ pub fn pairs_in(
     Ok(pairs)
 }
 
-/// The m-th statement, which stands in this body: a FOR is open, and a NEXT closes one.
+/// Passes the m-th statement, which is in this body: a FOR is opened, and a NEXT closes one.
 fn pass(
     pairs: &mut Vec<Pair>,
     opens: &mut Opens,

@@ -6,15 +6,15 @@ ghost use Rattle.program_model.specs.Program.{same_body};
 
 use basic_tree::Name;
 
-/// Whether two names are one.
+/// Returns whether two names are equal.
 pub fn same_name(one: Name, other: Name) -> bool
     ensures { result ≡ at_name one other }
 {
     one.cmp(&other).is_eq()
 }
 
-/// Whether two statements stand in one body, each given by the number of its DEF, or both outside
-/// of all.
+/// Returns whether two statements are in one body, each given by the number of its DEF, or both
+/// outside of all bodies.
 pub fn same_body(one: Option<usize>, other: Option<usize>) -> bool
     ensures { result ≡ same_body one other }
 {

@@ -1,13 +1,14 @@
-//! By the number of a FOR its NEXT, and by that of a NEXT its FOR.
+//! The NEXT of each FOR and the FOR of each NEXT, by their numbers.
 
-ghost use Rattle.std.specs.Prelude.{◌≡◌, ◌==◌, ℕ, map, find, option_map, slice_index_or, if◌then◌else◌, Some, None, IfOk, OnOk};
+ghost use Rattle.std.specs.Prelude.{◌≡◌, ◌==◌, ℕ, map, find, option_map, slice_index_or};
+ghost use Rattle.std.specs.Prelude.{if◌then◌else◌, Some, None, IfOk, OnOk};
 ghost use Rattle.loop_pairs.specs.Pairs.{pair_seen};
 
 use crate::pairs::Pair;
 use basic_values::NoMemory;
 use std::alloc::Global;
 
-/// By the number of a FOR, its NEXT.
+/// Returns the NEXT of each FOR, by the FOR's number.
 pub fn nexts_in(alloc: Global, pairs: &[Pair]) -> Result<Vec<Option<usize>>, NoMemory>
     ensures { IfOk result (λ nexts. (m : ℕ) → slice_index_or nexts.items m None
         ≡ option_map (λ pair. pair.closing) (find (λ pair. pair.opening == m)
@@ -20,7 +21,7 @@ pub fn nexts_in(alloc: Global, pairs: &[Pair]) -> Result<Vec<Option<usize>>, NoM
     Ok(nexts)
 }
 
-/// By the number of a NEXT, its FOR.
+/// Returns the FOR of each NEXT, by the NEXT's number.
 pub fn fors_in(alloc: Global, pairs: &[Pair]) -> Result<Vec<Option<usize>>, NoMemory>
     ensures { IfOk result (λ fors. (m : ℕ) → slice_index_or fors.items m None
         ≡ option_map (λ pair. pair.opening) (find (λ pair. pair.closing == m)
@@ -33,7 +34,7 @@ pub fn fors_in(alloc: Global, pairs: &[Pair]) -> Result<Vec<Option<usize>>, NoMe
     Ok(fors)
 }
 
-/// Sets an entry of a table, which grows as need be.
+/// Sets an entry of a table, which grows if necessary.
 fn put(table: &mut Vec<Option<usize>>, place: usize, value: usize) -> Result<(), NoMemory>
     ensures { OnOk result ((m : ℕ) → slice_index_or table.new.items m None
         ≡ (if place == m then Some value else slice_index_or table.old.items m None)) }
@@ -50,7 +51,7 @@ fn put(table: &mut Vec<Option<usize>>, place: usize, value: usize) -> Result<(),
     }
 }
 
-/// The entry of a table at a place, none behind its end.
+/// Returns the entry of a table at a place, or `None` past its end.
 pub fn entry_at(table: &[Option<usize>], place: usize) -> Option<usize>
     ensures { result ≡ slice_index_or table.now place None }
 {

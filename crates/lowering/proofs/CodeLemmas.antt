@@ -1,4 +1,4 @@
--- On the code of a program, from its end to its front and as it is kept.
+-- The code of a program, from its end to its front, and as it is stored.
 use Rattle.std.proofs.Common.{◌≡◌, ℕ, zero, suc, ◌+◌, ◌-◌, ◌<◌, ◌≤◌, List, [], ◌∷◌, length, get_or, map, drop, Bor, refl, sym, ap, ◌∙◌, arith}
 use Rattle.std.specs.List.{flat_map}
 use Rattle.std.proofs.lemmas.Option.{slice_get_past}
@@ -36,7 +36,7 @@ seen_at xs m r e = ap (λ (r : Bor Statement). statement_of r.now) e ∙ go xs m
     go (x ∷ xs) zero = refl
     go (x ∷ xs) (suc m) = go xs m
 
--- one statement more, in front of those that have code
+-- one more statement, before those that have code
 pub code_before : (program : Program) (places : Places) (xs : List (Bor Statement)) (loops : List ℕ) (n : ℕ) (r : Bor Statement) (i : ℕ) (new mid old : List Item)
     → loops ≡ sums_from loops_in 0 (map (λ (r : Bor Statement). statement_of r.now) xs) → i ≡ get_or loops (n - 1) 0 → r ≡ get_or xs (n - 1) r → 0 < n → n ≤ length xs
     → old ≡ codes program places n (loops_before (map (λ (r : Bor Statement). statement_of r.now) xs) n) (drop n (map (λ (r : Bor Statement). statement_of r.now) xs))
@@ -74,7 +74,7 @@ code_whole program xs is same h = h ∙ ap (λ l. codes program (places_of progr
 pub code_length : (program : Program) → length (code_of program) ≡ statement_place program (length (statements_of program))
 code_length program = sym (start_past program (places_of program) 0 0 (statements_of program) (length (statements_of program)) (slice_get_past (statements_of program) (length (statements_of program)) (omega arith)))
 
--- the code that is kept is that of the program
+-- the code that is stored is that of the program
 pub code_is : (listing texts : List LineText) (kept : KeptCode) → listing ≡ texts → kept.items ≡ code_of (text_of texts) → kept.words ≡ flat_map items_in (statements_of (text_of listing))
     → ((n : ℕ) → place_in (statement_place (text_of texts) (length (statements_of (text_of texts)))) kept.lines n ≡ statement_place (text_of texts) (line_start n (text_of texts)))
     → code_kept kept ≡ coded (text_of texts)

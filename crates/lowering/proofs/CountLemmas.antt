@@ -1,4 +1,4 @@
--- Who counts what is put has counted as many as the sizes say.
+-- A sink that counts has counted as many as the sizes say.
 use Rattle.std.proofs.Common.{◌≡◌, ℕ, suc, List, [], ◌∷◌, length, refl, ap, ◌∙◌}
 use Rattle.basic_tree.specs.Trees.{Tree, ClauseTree, StatementTree}
 use Rattle.program_model.specs.Program.{Program}

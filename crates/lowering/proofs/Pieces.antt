@@ -1,4 +1,5 @@
--- The pieces of targets and of items of PRINT, one after the other, put into whatever takes items.
+-- The pieces of targets and of items of PRINT, one after the other, put into any sink of
+-- instructions.
 use Rattle.std.proofs.Common.{◌≡◌, List, [], refl, sym, ap, ◌∙◌}
 use Rattle.basic_tree.specs.declared.parts.Target.{Target}
 use Rattle.basic_tree.specs.declared.parts.Target.TheVariants as target

@@ -1,11 +1,11 @@
--- What is put in front of others, into whatever takes items.
+-- What is put in front of others, into any sink of instructions.
 use Rattle.std.specs.Prelude.{ℕ, suc, List}
 use Rattle.basic_tree.specs.Trees.{Tree, Trees, ClauseTree, StatementTree}
 use Rattle.program_model.specs.Program.{Program}
 use Rattle.polish_code.specs.declared.items.Item.{Item}
 use Rattle.polish_code.specs.Code.{Piece, expr_put, trees_put, pieces_put, simple_pieces, body_put, clause_put, places_of}
 
--- who only counts has one more
+-- a sink that only counts has one more
 abbrev pub one_more : Item → ℕ → ℕ
 one_more i n = suc n
 
@@ -18,7 +18,7 @@ with_trees put program es s = trees_put put program (places_of program) es s
 abbrev pub with_pieces : {S : Type 0} → (Item → S → S) → Program → List Piece → S → S
 with_pieces put program ps s = pieces_put put program (places_of program) ps s
 
--- the m-th statement, or one inside it, with so many FORs in front
+-- the m-th statement, or one inside it, with this many FORs before it
 abbrev pub with_simple : {S : Type 0} → (Item → S → S) → Program → ℕ → ℕ → StatementTree → S → S
 with_simple put program m i x s = with_pieces put program (simple_pieces program (places_of program) m i x) s
 

@@ -1,4 +1,4 @@
--- Jumps over parts of statements: over how many items they lead.
+-- Jumps over parts of statements: how many instructions they skip.
 use Rattle.std.specs.Prelude.{ℕ, suc, ◌+◌}
 use Rattle.basic_tree.specs.StatementViews.{statement_of, clause_of}
 use Rattle.basic_tree.specs.TreeViews.{tree_of}
@@ -10,13 +10,13 @@ use Rattle.lowering.specs.declared.sink.Jump.TheVariants.{Skip, SkipUnless, Skip
 use Rattle.lowering.specs.declared.sink.Over.{Over}
 use Rattle.lowering.specs.declared.sink.Over.TheVariants.{Clause, Statement, Value}
 
--- a part of a statement, with the start of it or what stands around it
+-- a part of a statement, with its start or the instructions around it
 abbrev pub items_over : Over → ℕ
 items_over (Clause c) = suc (clause_size (clause_of c.now))
 items_over (Statement s) = suc (body_size (statement_of s.now))
 items_over (Value e) = suc (expr_size (tree_of e.now) + 2)
 
--- the item that leads over a part of so many, and over what else it passes
+-- the instruction that skips a part of this size, and what else it skips
 abbrev pub jump_item : Jump → ℕ → Item
 jump_item Skip count = item.Skip count
 jump_item SkipUnless count = item.SkipUnless count

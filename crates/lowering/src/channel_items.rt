@@ -1,15 +1,18 @@
-//! The items of PRINT #, PRINT USING, INPUT # and INPUT LINE #. The channel lies on the stack below
-//! what is written. Parts go last to first.
+//! The code of PRINT #, PRINT USING, INPUT # and INPUT LINE #. The channel is on the stack below
+//! what is written. Parts are emitted from the last to the first.
 
 ghost use Rattle.std.specs.Prelude.{◌≡◌, [], ◌∷◌, map, length, is_some, option_map, IfOk, OnOk};
-ghost use Rattle.basic_tree.specs.TreeViews.{tree_of, target_of, printed_of, item_of, using_item_of};
+ghost use Rattle.basic_tree.specs.TreeViews.{tree_of, target_of, printed_of, item_of};
+ghost use Rattle.basic_tree.specs.TreeViews.{using_item_of};
 ghost use Rattle.basic_tree.specs.declared.expressions.Operator.TheVariants as operator;
 ghost use Rattle.job_model.specs.Texts.{line_end};
 ghost use Rattle.program_model.specs.FileStatements.{in_order};
 ghost use Rattle.program_model.specs.Parts.{count};
 ghost use Rattle.program_model.specs.PrintingOnChannels.{or_terminal, used_values};
 ghost use Rattle.polish_code.specs.declared.items.Item.TheVariants as item;
-ghost use Rattle.polish_code.specs.Code.{Ex, It, input_pieces, printed_on_pieces, separator_on_pieces, print_on_pieces, end_on_pieces, line_end_pieces, used_pieces};
+ghost use Rattle.polish_code.specs.Code.{Ex, It, input_pieces, printed_on_pieces};
+ghost use Rattle.polish_code.specs.Code.{separator_on_pieces, print_on_pieces, end_on_pieces};
+ghost use Rattle.polish_code.specs.Code.{line_end_pieces, used_pieces};
 ghost use Rattle.lowering.specs.Emission.{with_expression, with_trees, with_pieces};
 
 use crate::expressions::emit_expr;
@@ -23,7 +26,7 @@ use std::alloc::Global;
 
 // PRINT #
 
-/// PRINT #: the channel is tested before the first item.
+/// Emits PRINT #. The channel is tested before the first item.
 pub fn emit_print_on<K: Sink, L: Lookups>(
     alloc: Global,
     code: &mut K,
@@ -98,7 +101,7 @@ fn emit_line_end<K: Sink, L: Lookups>(
     code.put(Item::Quoted(line_end(alloc)?))
 }
 
-/// CR and LF.
+/// Returns CR and LF.
 fn line_end(alloc: Global) -> Result<Text, NoMemory>
     ensures { IfOk result (λ text. text ≡ line_end) }
 {
@@ -162,7 +165,7 @@ fn emit_printed_on<K: Sink, L: Lookups>(
 
 // PRINT USING
 
-/// PRINT USING: all values are evaluated behind the format, and are written at once.
+/// Emits PRINT USING. All values are evaluated after the format, and then written together.
 pub fn emit_print_using<K: Sink, L: Lookups>(
     alloc: Global,
     code: &mut K,
@@ -188,10 +191,11 @@ pub fn emit_print_using<K: Sink, L: Lookups>(
     emit_channel(alloc, code, tables, channel)
 }
 
-/// How many values there are.
+/// Returns the number of values.
 fn used_count(values: &[UsingItem], last: &Option<Expr>) -> Result<u32, NoMemory>
     ensures { IfOk result (λ n. n
-        ≡ count (in_order (used_values (map using_item_of values.now) (option_map tree_of last.now)))) }
+        ≡ count (in_order (used_values (map using_item_of values.now)
+        (option_map tree_of last.now)))) }
 {
     match last {
         None => counted(values.len()),
@@ -234,7 +238,7 @@ fn emit_last<K: Sink, L: Lookups>(
     }
 }
 
-/// The channel, which is the terminal's where none is given.
+/// Emits the channel, or 0, the terminal, if none is given.
 fn emit_channel<K: Sink, L: Lookups>(
     alloc: Global,
     code: &mut K,
@@ -253,7 +257,7 @@ fn emit_channel<K: Sink, L: Lookups>(
 
 // INPUT #
 
-/// INPUT #: a line, and its items.
+/// Emits INPUT #: a line, and its items.
 pub fn emit_input_on<K: Sink, L: Lookups>(
     alloc: Global,
     code: &mut K,
@@ -272,7 +276,7 @@ pub fn emit_input_on<K: Sink, L: Lookups>(
     emit_expr(alloc, code, tables, channel)
 }
 
-/// INPUT LINE #: a line, and CR and LF behind it.
+/// Emits INPUT LINE #: a line, and CR and LF after it.
 pub fn emit_line_on<K: Sink, L: Lookups>(
     alloc: Global,
     code: &mut K,
@@ -283,7 +287,8 @@ pub fn emit_line_on<K: Sink, L: Lookups>(
     ensures { OnOk result (code.new
         ≡ with_pieces K.with (L.program tables.now)
         (Ex (tree_of channel.now) ∷ It item.LineOn ∷ It (item.Quoted line_end)
-        ∷ It (item.Operate operator.Plus) ∷ It (item.Store variable) ∷ It item.Discard ∷ []) code.old) }
+        ∷ It (item.Operate operator.Plus) ∷ It (item.Store variable)
+        ∷ It item.Discard ∷ []) code.old) }
 {
     code.put(Item::Discard)?;
     code.put(Item::Store(variable))?;

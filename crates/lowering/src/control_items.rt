@@ -1,5 +1,5 @@
-//! The items of statements that are more than one item, or one behind a value: FOR, LET, the result of a
-//! function, INPUT LINE of the terminal, ON and END.
+//! The code of statements that are several instructions, or one after a value: FOR, LET, the result
+//! of a function, INPUT LINE of the terminal, ON and END.
 
 ghost use Rattle.std.specs.Prelude.{◌≡◌, [], ◌∷◌, option_map, map, OnOk};
 ghost use Rattle.basic_tree.specs.TreeViews.{tree_of, target_of};
@@ -18,7 +18,8 @@ use code_places::Lookups;
 use polish_code::{FileAct, Item};
 use std::alloc::Global;
 
-/// A FOR, with its limits at the i-th place, that goes behind its NEXT where no turn is made.
+/// Emits a FOR, with its limits at the i-th place. If the loop has no turn, it goes to the
+/// statement after its NEXT.
 pub fn emit_for<K: Sink, L: Lookups>(
     alloc: Global,
     code: &mut K,
@@ -44,7 +45,7 @@ pub fn emit_for<K: Sink, L: Lookups>(
     emit_expr(alloc, code, tables, from)
 }
 
-/// The value that is stored to the targets.
+/// Emits a value, and its stores to the targets.
 pub fn emit_let<K: Sink, L: Lookups>(
     alloc: Global,
     code: &mut K,
@@ -61,7 +62,7 @@ pub fn emit_let<K: Sink, L: Lookups>(
     emit_expr(alloc, code, tables, value)
 }
 
-/// The value that a function of several lines gives.
+/// Emits the result of a function of several lines.
 pub fn emit_result<K: Sink, L: Lookups>(
     alloc: Global,
     code: &mut K,
@@ -76,7 +77,7 @@ pub fn emit_result<K: Sink, L: Lookups>(
     emit_expr(alloc, code, tables, value)
 }
 
-/// A line of keys, stored whole.
+/// Emits a key line that is stored whole.
 pub fn emit_line_asked<K: Sink>(code: &mut K, variable: Name) -> Result<(), NoMemory>
     ensures { OnOk result (code.new
         ≡ K.with item.AskLine (K.with (item.Store variable) (K.with item.Discard code.old))) }
@@ -86,7 +87,7 @@ pub fn emit_line_asked<K: Sink>(code: &mut K, variable: Name) -> Result<(), NoMe
     code.put(Item::AskLine)
 }
 
-/// ON .. GOTO.
+/// Emits ON .. GOTO.
 pub fn emit_on_goto<K: Sink, L: Lookups>(
     alloc: Global,
     code: &mut K,
@@ -103,7 +104,7 @@ pub fn emit_on_goto<K: Sink, L: Lookups>(
     emit_expr(alloc, code, tables, selector)
 }
 
-/// ON .. GOSUB of the m-th statement.
+/// Emits ON .. GOSUB of the m-th statement.
 pub fn emit_on_gosub<K: Sink, L: Lookups>(
     alloc: Global,
     code: &mut K,
@@ -125,7 +126,7 @@ pub fn emit_on_gosub<K: Sink, L: Lookups>(
     emit_expr(alloc, code, tables, selector)
 }
 
-/// END, which closes the channels first.
+/// Emits END, which closes the channels first.
 pub fn emit_end<K: Sink>(code: &mut K) -> Result<(), NoMemory>
     ensures { OnOk result (code.new
         ≡ K.with (item.Ask file.ShutAll) (K.with item.End code.old)) }

@@ -1,4 +1,4 @@
-//! How many items code has, and nothing else of it.
+//! The number of instructions of code, without the code.
 
 ghost use Rattle.std.specs.Prelude.{◌≡◌};
 
@@ -9,7 +9,7 @@ use polish_code::Item;
 use std::alloc::Global;
 use std::marker::Model;
 
-/// How many items were put in front of each other.
+/// Counts the instructions that are put in front of each other.
 #[derive(Drop)]
 pub struct Counted {
     count: u32,
@@ -24,14 +24,14 @@ impl Model for Counted {
 }
 
 impl Counted {
-    /// None so far.
+    /// Returns a count of 0.
     pub fn new() -> Counted
         ensures { result ≡ 0 }
     {
         Counted { count: 0 }
     }
 
-    /// How many.
+    /// Returns the count.
     pub fn count(&self) -> u32
         ensures { result ≡ self.entry.now }
     {

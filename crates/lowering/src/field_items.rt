@@ -1,4 +1,4 @@
-//! The items of FIELD, LSET and RSET. Parts go last to first.
+//! The code of FIELD, LSET and RSET. Parts are emitted from the last to the first.
 
 ghost use Rattle.std.specs.Prelude.{◌≡◌, [], ◌∷◌, map, IfOk, OnOk};
 ghost use Rattle.basic_tree.specs.TreeViews.{tree_of, field_part_of};
@@ -16,7 +16,7 @@ use polish_code::{FileAct, Item};
 use record_fields::Side;
 use std::alloc::Global;
 
-/// FIELD: the channel and all widths, and then the names are bound.
+/// Emits FIELD: the channel and all widths, and then the names are bound.
 pub fn emit_field<K: Sink, L: Lookups>(
     alloc: Global,
     code: &mut K,
@@ -61,7 +61,7 @@ fn emit_widths<K: Sink, L: Lookups>(
     Ok(())
 }
 
-/// LSET and RSET. The text of a variable is taken where it lies.
+/// Emits LSET and RSET. The string of a variable is not put on the stack.
 pub fn emit_justify<K: Sink, L: Lookups>(
     alloc: Global,
     code: &mut K,

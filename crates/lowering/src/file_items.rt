@@ -1,5 +1,5 @@
-//! The items of statements on files: the operands, and what is asked behind them. Parts go last to
-//! first.
+//! The code of statements on files: the operands, and then the request. Parts are emitted from the
+//! last to the first.
 
 ghost use Rattle.std.specs.Prelude.{◌≡◌, [], ◌∷◌, map, option_map, OnOk};
 ghost use Rattle.basic_tree.specs.TreeViews.{tree_of, close_channel_of};
@@ -17,7 +17,7 @@ use monitor_calls::OpenKind;
 use polish_code::{FileAct, Item};
 use std::alloc::Global;
 
-/// An operand, which is 0 where it is left out.
+/// Emits an operand, or 0 if it is left out.
 fn emit_operand<K: Sink, L: Lookups>(
     alloc: Global,
     code: &mut K,
@@ -34,7 +34,7 @@ fn emit_operand<K: Sink, L: Lookups>(
     }
 }
 
-/// OPEN, with its operands in the order of the text.
+/// Emits OPEN, with its operands in the order of the text.
 pub fn emit_open<K: Sink, L: Lookups>(
     alloc: Global,
     code: &mut K,
@@ -71,7 +71,7 @@ fn kind_for(purpose: OpenFor) -> OpenKind
     }
 }
 
-/// CLOSE: the channels one after another.
+/// Emits CLOSE: the channels one after another.
 pub fn emit_close<K: Sink, L: Lookups>(
     alloc: Global,
     code: &mut K,
@@ -88,7 +88,7 @@ pub fn emit_close<K: Sink, L: Lookups>(
     Ok(())
 }
 
-/// What takes one operand.
+/// Emits a statement with one operand.
 pub fn emit_with_one<K: Sink, L: Lookups>(
     alloc: Global,
     code: &mut K,
@@ -104,7 +104,7 @@ pub fn emit_with_one<K: Sink, L: Lookups>(
     emit_expr(alloc, code, tables, operand)
 }
 
-/// What takes two.
+/// Emits a statement with two operands.
 pub fn emit_with_two<K: Sink, L: Lookups>(
     alloc: Global,
     code: &mut K,
@@ -122,7 +122,7 @@ pub fn emit_with_two<K: Sink, L: Lookups>(
     emit_expr(alloc, code, tables, first)
 }
 
-/// GET and PUT: a channel, and a block that may be left out.
+/// Emits GET or PUT: a channel, and a block that may be left out.
 pub fn emit_with_block<K: Sink, L: Lookups>(
     alloc: Global,
     code: &mut K,

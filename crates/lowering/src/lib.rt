@@ -1,17 +1,16 @@
-//! From the trees of a program to its code, or to the reason why it has none.
+//! The compiler: from the trees of a program to its bytecode, or to the reason why it has none.
 //!
-//! `lower` carries it: the code is that of the definitions, exactly where the program is sound, and
-//! else its refusal is that of the least line, for the first cause there. `lower_now` does so for a
-//! line of immediate mode.
+//! `lower` promises that the code is that of the definitions, exactly if the program is sound.
+//! Otherwise the rejection is that of the least line with a cause, for the first cause there.
+//! `lower_now` promises the same for a line of immediate mode.
 //!
-//! Whether a program is sound `program_soundness` says, on which this crate stands; so does the
-//! listing of its text. `polish_code` puts the items of each tree in front of others; so does this
-//! crate, and what runs last is emitted first. Where items go is the trait `Sink`: `Emitted` keeps
-//! them, and `Counted` counts them. What a statement needs of the rest of the program is the trait
-//! `Lookups` of `code_places`, which its `Placement` meets: the tables of a program, and where each
-//! of its statements stands in the code. `places_in` and `loops_in_front` sum that up for it. How
-//! many items a statement has does not depend on them: there `Nowhere` of `code_places` stands for
-//! them.
+//! `program_soundness` decides whether a program is sound, and lists its text. Like `polish_code`,
+//! this crate puts the instructions of each tree in front of others, so what runs last is emitted
+//! first. Where instructions go is the trait `Sink`: `Emitted` stores them, and `Counted` counts
+//! them. What a statement needs to know of the rest of the program is the trait `Lookups` of
+//! `code_places`. Its `Placement` has the tables of a program, and where each statement is in the
+//! code; `places_in` and `loops_in_front` sum that up. The number of instructions does not depend
+//! on it, so counting uses `Nowhere`.
 #![tactic(auto)]
 
 mod channel_items;

@@ -1,4 +1,4 @@
-//! How many FORs statements have, statements and modifiers.
+//! The number of FORs in statements: FOR statements and FOR modifiers.
 
 ghost use Rattle.std.specs.Prelude.{◌≡◌, ◌+◌, OnOk};
 ghost use Rattle.basic_tree.specs.StatementViews.{statement_of, clause_of};
@@ -11,7 +11,7 @@ use code_places::add;
 use statement_walk::{Part, Simple, Visitor, visit_clause, visit_parts};
 use std::marker::Model;
 
-/// Who counts the FORs that it is shown.
+/// A visitor that counts FORs.
 #[derive(Drop)]
 struct Loops {
     count: u32,
@@ -41,7 +41,7 @@ impl Visitor for Loops {
     }
 }
 
-/// How many FORs a statement without others inside is.
+/// Returns the number of FORs of a statement without others inside, 0 or 1.
 fn loops_alone(statement: &Statement) -> u32
     ensures { result ≡ loops_alone (statement_of statement.now) }
 {
@@ -51,7 +51,7 @@ fn loops_alone(statement: &Statement) -> u32
     }
 }
 
-/// Adds how many FORs a statement has.
+/// Adds the number of FORs in a statement.
 pub fn count_loops(total: &mut u32, statement: &Statement) -> Result<(), NoMemory>
     ensures { OnOk result (total.new ≡ total.old + loops_in (statement_of statement.now)) }
 {
@@ -61,7 +61,7 @@ pub fn count_loops(total: &mut u32, statement: &Statement) -> Result<(), NoMemor
     Ok(())
 }
 
-/// Adds how many FORs a clause has.
+/// Adds the number of FORs in a clause.
 pub fn count_clause_loops(total: &mut u32, clause: &Clause) -> Result<(), NoMemory>
     ensures { OnOk result (total.new ≡ total.old + loops_in_clause (clause_of clause.now)) }
 {

@@ -1,4 +1,4 @@
-//! The items of MAT: what an array is multiplied with, and what the statement does.
+//! The code of MAT: the factor of an array, and the statement.
 
 ghost use Rattle.std.specs.Prelude.{◌≡◌, [], IfOk, OnOk};
 ghost use Rattle.basic_tree.specs.TreeViews.{matrix_of};
@@ -16,7 +16,7 @@ use code_places::Lookups;
 use polish_code::{Item, MatrixAct, MatrixForm};
 use std::alloc::Global;
 
-/// MAT READ.
+/// Emits MAT READ.
 pub fn emit_mat_read<K: Sink, L: Lookups>(
     alloc: Global,
     code: &mut K,
@@ -24,7 +24,8 @@ pub fn emit_mat_read<K: Sink, L: Lookups>(
     matrices: &[Name],
 ) -> Result<(), NoMemory>
     ensures { OnOk result (code.new
-        ≡ with_pieces K.with (L.program tables.now) (matrix_pieces (mat.Read matrices.now) []) code.old) }
+        ≡ with_pieces K.with (L.program tables.now)
+        (matrix_pieces (mat.Read matrices.now) []) code.old) }
 {
     code.put(Item::Matrix(MatrixAct::Read(names_of(alloc, matrices)?)))
 }
@@ -37,7 +38,7 @@ fn names_of(alloc: Global, names: &[Name]) -> Result<Series<Name>, NoMemory>
     Ok(Series::from_vec(copy))
 }
 
-/// MAT .. = ..
+/// Emits MAT .. = ..
 pub fn emit_mat_let<K: Sink, L: Lookups>(
     alloc: Global,
     code: &mut K,

@@ -1,7 +1,7 @@
-//! How many items parts of statements have: as many as emitting puts, and they are counted.
+//! The number of instructions of parts of statements, which are emitted into a counter.
 //!
-//! So `places_in` knows where each statement begins before there are items, and who keeps a jump
-//! knows how far it leads.
+//! So `places_in` knows where each statement begins before there is code, and a sink that stores a
+//! jump knows how far it leads.
 
 ghost use Rattle.std.specs.Prelude.{◌≡◌, IfOk};
 ghost use Rattle.basic_tree.specs.StatementViews.{statement_of, clause_of};
@@ -19,7 +19,7 @@ use code_places::{Nowhere, next, sum};
 use polish_code::Item;
 use std::alloc::Global;
 
-/// Of a statement, behind its start.
+/// Returns the number of instructions of a statement after its start.
 pub fn body_size(alloc: Global, statement: &Statement) -> Result<u32, NoMemory>
     ensures { IfOk result (λ size. size ≡ body_size (statement_of statement.now)) }
 {
@@ -44,7 +44,7 @@ fn expr_size(alloc: Global, e: &Expr) -> Result<u32, NoMemory>
     Ok(counted.count())
 }
 
-/// Of a part over which an item leads.
+/// Returns the number of instructions of a part that an instruction skips.
 fn items_over(alloc: Global, over: Over<'_>) -> Result<u32, NoMemory>
     ensures { IfOk result (λ count. count ≡ items_over over.entry) }
 {
@@ -55,7 +55,7 @@ fn items_over(alloc: Global, over: Over<'_>) -> Result<u32, NoMemory>
     }
 }
 
-/// The item that leads over a part.
+/// Returns the instruction that skips a part.
 pub fn jump_item(alloc: Global, jump: Jump<'_>, over: Over<'_>) -> Result<Item, NoMemory>
     ensures { IfOk result (λ one. one ≡ jump_item jump.entry (items_over over.entry)) }
 {

@@ -1,14 +1,18 @@
-//! The items of statements without others inside, their parts last to first.
+//! The code of statements without others inside. Parts are emitted from the last to the first.
 
 ghost use Rattle.std.specs.Prelude.{◌≡◌, [], ◌∷◌, map, length, option_map, IfOk, OnOk};
 ghost use Rattle.basic_tree.specs.StatementViews.{statement_of};
-ghost use Rattle.basic_tree.specs.TreeViews.{tree_of, target_of, printed_of, item_of, prompt_of, chain_line_of};
+ghost use Rattle.basic_tree.specs.TreeViews.{tree_of, target_of, printed_of, item_of, prompt_of};
+ghost use Rattle.basic_tree.specs.TreeViews.{chain_line_of};
 ghost use Rattle.program_model.specs.Chaining.{line_operand};
 ghost use Rattle.program_model.specs.Input.{prompt_text};
 ghost use Rattle.program_model.specs.Targets.{wants_text};
 ghost use Rattle.program_model.specs.Traps.{line_named};
 ghost use Rattle.polish_code.specs.declared.items.Item.TheVariants as item;
-ghost use Rattle.polish_code.specs.Code.{Ex, It, places_of, def_pieces, target_pieces, targets_pieces, judged_pieces, input_pieces, read_pieces, printed_pieces, separator_pieces, print_pieces, end_pieces, step_piece};
+ghost use Rattle.polish_code.specs.Code.{Ex, It, places_of, def_pieces, target_pieces};
+ghost use Rattle.polish_code.specs.Code.{targets_pieces, judged_pieces, input_pieces, read_pieces};
+ghost use Rattle.polish_code.specs.Code.{printed_pieces, separator_pieces, print_pieces};
+ghost use Rattle.polish_code.specs.Code.{end_pieces, step_piece};
 ghost use Rattle.lowering.specs.Emission.{with_expression, with_pieces, with_simple};
 
 use crate::channel_items::{emit_input_on, emit_line_on, emit_print_on, emit_print_using};
@@ -31,7 +35,8 @@ use program_soundness::named_line;
 use record_fields::Side;
 use std::alloc::Global;
 
-/// Puts the items behind the start of the m-th statement in front, which has i FORs before it.
+/// Puts the code after the start of the m-th statement in front. The statement has i FORs before
+/// it.
 pub fn emit_simple<K: Sink, L: Lookups>(
     alloc: Global,
     code: &mut K,
@@ -176,7 +181,7 @@ pub fn emit_simple<K: Sink, L: Lookups>(
     }
 }
 
-/// The step of a FOR, 1 where none is given.
+/// Emits the step of a FOR, or 1 if none is given.
 pub fn emit_step<K: Sink, L: Lookups>(
     alloc: Global,
     code: &mut K,
@@ -219,7 +224,7 @@ fn emit_def<K: Sink, L: Lookups>(
 
 // Targets
 
-/// The store to a target.
+/// Emits the store to a target.
 fn emit_target<K: Sink, L: Lookups>(
     alloc: Global,
     code: &mut K,
@@ -227,7 +232,8 @@ fn emit_target<K: Sink, L: Lookups>(
     target: &Target,
 ) -> Result<(), NoMemory>
     ensures { OnOk result (code.new
-        ≡ with_pieces K.with (L.program tables.now) (target_pieces (target_of target.now) []) code.old) }
+        ≡ with_pieces K.with (L.program tables.now)
+        (target_pieces (target_of target.now) []) code.old) }
 {
     match target {
         Target::Variable(name) => code.put(Item::Store(*name)),
@@ -249,7 +255,7 @@ fn emit_target<K: Sink, L: Lookups>(
     }
 }
 
-/// The stores of one value.
+/// Emits the stores of one value.
 pub fn emit_stores<K: Sink, L: Lookups>(
     alloc: Global,
     code: &mut K,
@@ -267,7 +273,7 @@ pub fn emit_stores<K: Sink, L: Lookups>(
     Ok(())
 }
 
-/// An item that becomes a value and is stored.
+/// Emits an item that becomes a value and is stored.
 fn emit_judged<K: Sink, L: Lookups>(
     alloc: Global,
     code: &mut K,
@@ -275,7 +281,8 @@ fn emit_judged<K: Sink, L: Lookups>(
     target: &Target,
 ) -> Result<(), NoMemory>
     ensures { OnOk result (code.new
-        ≡ with_pieces K.with (L.program tables.now) (judged_pieces (target_of target.now) []) code.old) }
+        ≡ with_pieces K.with (L.program tables.now)
+        (judged_pieces (target_of target.now) []) code.old) }
 {
     code.put(Item::Discard)?;
     emit_target(alloc, code, tables, target)?;
@@ -310,7 +317,7 @@ fn emit_input<K: Sink, L: Lookups>(
     })
 }
 
-/// The stores of the items of a line.
+/// Emits the stores of the items of a line.
 pub fn emit_targets<K: Sink, L: Lookups>(
     alloc: Global,
     code: &mut K,
@@ -343,7 +350,8 @@ fn emit_read<K: Sink, L: Lookups>(
     targets: &[Target],
 ) -> Result<(), NoMemory>
     ensures { OnOk result (code.new
-        ≡ with_pieces K.with (L.program tables.now) (read_pieces (map target_of targets.now)) code.old) }
+        ≡ with_pieces K.with (L.program tables.now)
+        (read_pieces (map target_of targets.now)) code.old) }
 {
     for place in (0..targets.len()).rev() {
         emit_judged(alloc, code, tables, &targets[place])?;
@@ -487,7 +495,7 @@ fn emit_chain<K: Sink, L: Lookups>(
     emit_expr(alloc, code, tables, program)
 }
 
-/// The number of the line, which is 0 where it is left out.
+/// Emits the line number, or 0 if it is left out.
 fn emit_line_operand<K: Sink, L: Lookups>(
     alloc: Global,
     code: &mut K,

@@ -1,9 +1,10 @@
-//! Where the items of code go, one put in front of the other.
+//! Where the instructions of code go, one put in front of the other.
 //!
-//! What emits items is generic over it: `Emitted` keeps them, and `Counted` counts them. So which
-//! items stand for a statement is said once, and so is how many they are. An item that leads over
-//! a part of a statement is put as what it leads over: only who keeps it counts that part. So a
-//! part is counted once for each jump that is kept, and not once more for each that is counted.
+//! The functions that emit code are generic over a sink: `Emitted` stores instructions, and
+//! `Counted` counts them. So the instructions of a statement, and their number, are defined once.
+//! An instruction that skips a part of a statement is put together with that part, and only a sink
+//! that stores it counts the part. So a part is counted once for each stored jump over it, and not
+//! again for each counted one.
 
 ghost use Rattle.std.specs.Prelude.{◌≡◌, OnOk};
 ghost use Rattle.polish_code.specs.declared.items.Item.{Item};
@@ -14,39 +15,39 @@ use basic_values::NoMemory;
 use polish_code::Item;
 use std::alloc::Global;
 
-/// An item that leads over a part of a statement, or back over it, and over what else.
+/// An instruction that skips a part of a statement, or goes back over it; each may include more.
 #[derive(Clone, Copy)]
 pub enum Jump<'a> {
     Skip,
     SkipUnless,
     SkipIf,
-    /// Over the item in front of ELSE too.
+    /// Also skips the instruction before ELSE.
     SkipToElse,
-    /// Over the test behind it too.
+    /// Also goes back over the test after it.
     BackIf(&'a Expr),
     BackUnless(&'a Expr),
-    /// Of a FOR by its place among all, over the step back too.
+    /// Begins a FOR, by its place among all; also skips the step back.
     OpenOrSkip { variable: Name, place: u32 },
     StepBack { variable: Name, place: u32 },
 }
 
-/// The part of a statement over which an item leads.
+/// The part of a statement that an instruction skips.
 #[derive(Clone, Copy)]
 pub enum Over<'a> {
     /// A clause and its start.
     Clause(&'a Clause),
     /// The statement of a modifier and its start.
     Statement(&'a Statement),
-    /// The value of a function of one line, and what stands around it.
+    /// The value of a function of one line, and the instructions around it.
     Value(&'a Expr),
 }
 
 /// Where items go.
 pub trait Sink {
-    /// What it is with an item more in front.
+    /// Its state with one more instruction in front.
     ghost with: { Item → Self → Self };
 
-    /// Puts an item in front.
+    /// Puts an instruction in front.
     fn put(&mut self, item: Item) -> Result<(), NoMemory>
         ensures { OnOk result (self.new ≡ with item self.old) };
 

@@ -1,4 +1,4 @@
-//! A whole program: where its statements stand, and from there its code.
+//! A whole program: where its statements are, and then its code.
 
 ghost use Rattle.std.specs.Prelude.{◌≡◌, IfOk};
 ghost use Rattle.program_soundness.specs.Listings.{text_of};
@@ -13,7 +13,7 @@ use polish_code::Code;
 use program_soundness::Tables;
 use std::alloc::Global;
 
-/// The places of the program of these tables.
+/// Returns the places of the program of these tables.
 pub fn placed<'a>(alloc: Global, tables: Tables<'a>) -> Result<Placement<'a>, NoMemory>
     ensures { IfOk result (λ placement. placement ≡ tables.entry) }
 {
@@ -23,7 +23,7 @@ pub fn placed<'a>(alloc: Global, tables: Tables<'a>) -> Result<Placement<'a>, No
     Ok(Placement::new(tables, places, loops))
 }
 
-/// The code of a program whose places are known.
+/// Returns the code of a program whose places are known.
 pub fn whole_code(alloc: Global, placement: &Placement<'_>) -> Result<Code, NoMemory>
     ensures { IfOk result (λ code. code_kept code ≡ coded (text_of placement.now)) }
 {

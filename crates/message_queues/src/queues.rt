@@ -1,9 +1,12 @@
 //! The receivers.
 
-ghost use Rattle.std.specs.Prelude.{◌≡◌, ◌≤◌, ◌<◌, ◌||◌, ◌==◌, ◌++◌, [], ◌∷◌, length, slice_get, option_copied, Some, position, bytes_eq, not, false, true, filter, IfOk, OnOk, OnErr};
+ghost use Rattle.std.specs.Prelude.{◌≡◌, ◌≤◌, ◌<◌, ◌||◌, ◌==◌, ◌++◌, [], ◌∷◌, length, slice_get};
+ghost use Rattle.std.specs.Prelude.{option_copied, Some, position, bytes_eq, not, false, true};
+ghost use Rattle.std.specs.Prelude.{filter, IfOk, OnOk, OnErr};
 ghost use Rattle.circular_buffer.specs.Buffer.{buffer};
 ghost use Rattle.monitor_model.specs.Refusals.{RefusedBy, RefusedByOrNoMemory};
-ghost use Rattle.monitor_model.specs.Queues.{is_receiver, has_receiver, is_full, letters_of, declare, drop_receiver, send, receive};
+ghost use Rattle.monitor_model.specs.Queues.{is_receiver, has_receiver, is_full, letters_of};
+ghost use Rattle.monitor_model.specs.Queues.{declare, drop_receiver, send, receive};
 ghost use Rattle.message_queues.specs.Calls.{declare_refusals, send_refusals, receive_refusals};
 
 use basic_values::errors::{NAME_EXISTS, NO_BUFFER_SPACE, NO_SUCH_FILE};

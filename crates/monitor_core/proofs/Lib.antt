@@ -3,6 +3,6 @@ mod CopyLemmas
 mod Growth
 pub mod Lookups
 mod MountLemmas
-mod PortLemmas
+mod SeatLemmas
 mod Records
 mod Walks

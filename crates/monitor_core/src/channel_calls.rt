@@ -85,7 +85,8 @@ impl Parts {
         ensures state { OnOk result (
             self.new ≡ (row self.old caller (request.Put channel block page.now)).0) }
         ensures memory { OnErr result (self.new ≡ self.old) }
-        ensures within { is_block self.old.files (the_channel self.old.jobs caller.job channel).name block ≡ true
+        ensures within { is_block self.old.files
+            (the_channel self.old.jobs caller.job channel).name block ≡ true
             → IsOk result }
     {
         let at = match self.on_open(caller.job, channel) {

@@ -1,8 +1,10 @@
 //! What a writing wants: blocks that are free and that the quota of the file's owner leaves, and
 //! several pages at once. It stands on the disk and on the accounts.
 
-ghost use Rattle.std.specs.Prelude.{◌≡◌, ◌+◌, ◌-◌, ◌<◌, ◌≤◌, ◌^◌, true, false, [], ◌∷◌, nat_lt, length, IsOk, OnOk, OnErr};
+ghost use Rattle.std.specs.Prelude.{◌≡◌, ◌+◌, ◌-◌, ◌<◌, ◌≤◌, ◌^◌, true, false, [], ◌∷◌, nat_lt};
+ghost use Rattle.std.specs.Prelude.{length, IsOk, OnOk, OnErr};
 ghost use Rattle.monitor_model.specs.Files.{is_file, is_block, size_at, put, put_all};
+ghost use Rattle.monitor_model.specs.State.{quota_of};
 ghost use Rattle.monitor_model.specs.Refusals.{RefusedByOrNoMemory};
 ghost use Rattle.monitor_model.specs.Answer.{left_to};
 ghost use Rattle.monitor_core.specs.Records.{room_refusals};
@@ -10,7 +12,7 @@ ghost use Rattle.monitor_core.specs.Records.{room_refusals};
 use crate::parts::Parts;
 use basic_values::{Fault, Trouble};
 use block_files::Disk;
-use monitor_calls::{FileName, Page};
+use monitor_calls::{Account, FileName, Page};
 
 impl Parts {
     /// Whether more blocks are wanted than the quota of the file's owner leaves, where the file's
@@ -25,8 +27,19 @@ impl Parts {
         if wanted == 0 {
             return false;
         }
-        let quota = self.accounts.quota(name.owner) as u32;
+        let quota = self.quota_of(name.owner);
         quota.saturating_sub(self.disk.used_by(name.owner)) < wanted
+    }
+
+    /// Returns how many blocks an owner's files may have: none if there is no such account.
+    fn quota_of(&self, owner: Account) -> u32
+        ensures quota { result ≡ quota_of self.now.accounts owner }
+        ensures small { result < 2 ^ 16 }
+    {
+        match self.accounts.quota(owner) {
+            Some(quota) => quota as u32,
+            None => 0,
+        }
     }
 }
 

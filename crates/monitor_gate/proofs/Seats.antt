@@ -7,7 +7,7 @@ use Rattle.atomic_table.specs.Table.{Splits, Joins, Final, Seen}
 use Rattle.atomic_table.proofs.Lists.{set_else, at_longer, at_snoc}
 use Rattle.monitor_calls.specs.declared.calls.Entry.{Entry}
 use Rattle.monitor_model.specs.State.{State}
-use Rattle.monitor_model.specs.History.{part_of}
+use Rattle.monitor_model.specs.History.{after, part_of}
 use Rattle.monitor_gate.specs.declared.recorded.RecordedMonitor.{RecordedMonitor}
 use Rattle.monitor_gate.specs.declared.views.Pass.{Pass}
 use Rattle.monitor_gate.specs.declared.views.SparePass.{SparePass}
@@ -215,12 +215,13 @@ at_rest m s r rest false pl = pl
 at_rest m s r rest true pl =
     let someone = out_has s.views r.round.holder (HasTurn pl.pass r.round.history) pl.knows in absurd (omega arith)
 
--- the last board has the monitor at home, with the one history
+-- the last board has the monitor at home, with the one history, in the state after it
 pub record Closes (m : State) (p : SparePass) (homes : List (Maybe RecordedMonitor)) : Type 0 where
   pub kept : RecordedMonitor
   pub slot : get_elem? homes 0 ≡ some (Some kept)
   pub opening_is : p.opening ≡ m
   pub history : OneHistory p kept.history.items
+  pub state : kept.monitor ≡ after m kept.history.items
 
 pub closes : (m : State) (id : ℕ) (v : Knows) (p : SparePass) (words : List ℕ) (homes : List (Maybe RecordedMonitor)) → v ≡ Spare p → length p.ended ≡ p.made → Final (Seen (Kept m) id v) words homes → Closes m p homes
 closes m id v p words homes is all final =
@@ -242,4 +243,5 @@ closes m id v p words homes is all final =
         passes = λ k e at. (f.ended k e at).part;
         no_others = λ job above. (r.unmade job (omega arith)).1;
       });
+      state = home.records.state ∙ ap (after m) (sym home.records.items);
     }

@@ -1,7 +1,9 @@
 //! The gate, the seats of its jobs, and its spare seat.
 
 ghost use Rattle.std.specs.Prelude.{◌≡◌, ◌<◌, IfOk, OnErr, length};
-ghost use Rattle.monitor_gate.specs.Passes.{seat_value, spare_value, first_pass, after_split, split_off, after_join};
+ghost use Rattle.monitor_model.specs.History.{after};
+ghost use Rattle.monitor_gate.specs.Passes.{seat_value, spare_value, first_pass, after_split};
+ghost use Rattle.monitor_gate.specs.Passes.{split_off, after_join};
 ghost use Rattle.monitor_gate.specs.OneHistory.{Asked, OneHistory};
 
 use crate::table::{GateTable, TableSeat};
@@ -11,11 +13,13 @@ use monitor_core::Monitor;
 use std::alloc::Global;
 use std::marker::Model;
 use std::sync::Wait;
+use std::sync::atomic::{AtomicBool, Ordering};
 
 /// One monitor with the history of its answers, which many seats ask in turn.
 #[derive(Drop)]
 pub struct Gate {
     table: GateTable,
+    is_shut: AtomicBool,
 }
 
 impl Model for Gate {
@@ -102,7 +106,8 @@ impl Gate {
             jobs,
             seat,
         };
-        Ok((Gate { table }, spare))
+        let is_shut = AtomicBool::new(false);
+        Ok((Gate { table, is_shut }, spare))
     }
 
     /// The seat of the next job, from 0. It takes no memory.
@@ -116,6 +121,12 @@ impl Gate {
         let seat = self.table.split(&mut spare.seat);
         spare.made += 1;
         JobSeat { job, seat }
+    }
+
+    /// Turns every seat away from now on: each call that begins later answers at once that memory
+    /// ran out. It is for a run in which a job is out of memory, since such a run is lost.
+    pub fn shut(&self) {
+        self.is_shut.store(true, Ordering::SeqCst);
     }
 
     /// Asks the monitor. It waits until no other seat has the turn.
@@ -132,6 +143,9 @@ impl Gate {
         // No entry was added, and the monitor is as it was.
         ensures memory { OnErr result (seat.new ≡ seat.old) }
     {
+        if self.is_shut.load(Ordering::SeqCst) {
+            return Err(NoMemory);
+        }
         self.table.ask(rt, alloc, &mut seat.seat, seat.job, request)
     }
 
@@ -146,14 +160,16 @@ impl Gate {
         self.table.join(&mut spare.seat, seat);
     }
 
-    /// Hands back the history, once every seat was joined. It takes no memory.
-    pub fn close(self, spare: Spare) -> RunRecord
+    /// Returns the history, and the monitor as it is after it, once every seat was joined. It takes
+    /// no memory.
+    pub fn close(self, spare: Spare) -> (RunRecord, Monitor)
         requires own { spare.gate ≡ self.gate }
         requires all { length spare.pass.ended ≡ spare.pass.made }
         ensures opening { spare.pass.opening ≡ self.opening }
-        ensures history { OneHistory spare.pass result }
+        ensures history { OneHistory spare.pass result.0 }
+        ensures monitor { result.1 ≡ after self.opening result.0 }
     {
-        let Gate { table } = self;
+        let Gate { table, is_shut: _ } = self;
         let Spare {
             made: _,
             jobs: _,

@@ -4,6 +4,7 @@
 //! job, with which a thread asks (`gate`). What a seat knows is its pass (`views`): what it has
 //! seen of the history, and its own pairs in it. The seats stand at a table with one word, the
 //! turn, and one slot, in which the monitor lies with its history (`table`, `recorded`, `plays`).
+//! Once a gate is shut, every call answers that memory ran out.
 //!
 //! `Gate::new`, `split`, `ask`, `join` and `close` carry the promise *one history*: there is one
 //! history of the monitor that answers one call at a time, each reply is the monitor's at its place

@@ -4,6 +4,7 @@
 //! puts it back and gives the turn back. While one has the turn, the others yield and try again.
 
 ghost use Rattle.std.specs.Prelude.{◌≡◌, ◌<◌, [], IfOk, OnErr, length};
+ghost use Rattle.monitor_model.specs.History.{after};
 ghost use Rattle.monitor_gate.specs.declared.views.Knows.TheVariants.{Spare, Asks};
 ghost use Rattle.monitor_gate.specs.Passes.{first_pass, after_split, split_off, after_join};
 ghost use Rattle.monitor_gate.specs.OneHistory.{Asked, OneHistory};
@@ -135,19 +136,20 @@ impl GateTable {
         self.table.shared.join_seat::<ForJob>(spare, seat);
     }
 
-    /// Ends the table, and hands back what the monitor answered.
-    pub(crate) fn close(self, spare: TableSeat) -> RunRecord
+    /// Ends the table, and returns what the monitor answered, and the monitor.
+    pub(crate) fn close(self, spare: TableSeat) -> (RunRecord, Monitor)
         requires own { spare.table_id ≡ self.table.shared.table_id }
         requires spare { IsSpare spare.me }
         requires all { length (spare_of spare.me.0).ended ≡ (spare_of spare.me.0).made }
         ensures opening { (spare_of spare.me.0).opening ≡ self.table.shared.key.value }
-        ensures history { OneHistory (spare_of spare.me.0) result }
+        ensures history { OneHistory (spare_of spare.me.0) result.0 }
+        ensures monitor { result.1 ≡ after self.table.shared.key.value result.0 }
     {
         let GateTable { table } = self;
         let mut closed = table.close_with(spare);
         let slot = closed.take(MONITOR);
         closed.free();
         let kept = slot.unwrap();
-        RunRecord::from_vec(kept.history)
+        (RunRecord::from_vec(kept.history), kept.monitor)
     }
 }

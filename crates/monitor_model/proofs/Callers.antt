@@ -49,7 +49,7 @@ module _ (m : State) (job : ℕ) (account : Account) where
       prints = λ request mild printer printing. had_counted;
       opens = λ channel name kind update code low free there right. had_set channel _;
       makes = λ channel name kind update code low free none h. had_set channel _;
-      remakes = λ channel name kind update code low free there write unopened. had_set channel _;
+      remakes = λ channel name kind update code low free there write unopened output. had_set channel _;
       closes = λ channel is. had_set channel None;
       gets = λ channel block is h. had_counted;
       puts = λ channel block page is h. had_counted;

@@ -1,6 +1,8 @@
 pub mod Counting
+mod Counters
 mod Alike
 mod Callers
+pub mod Closing
 mod Denied
 mod Exclusion
 pub mod FileLemmas
@@ -40,3 +42,7 @@ mod Tracking
 mod TwinDeeds
 mod TwinRows
 mod Twins
+mod UpdateRows
+mod Updating
+pub mod WholeFiles
+mod Writings

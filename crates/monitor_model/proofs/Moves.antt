@@ -95,7 +95,7 @@ module _ (job : ℕ) (P : State → Type 0) where
     makes = λ channel name kind update code low free none h k.
         let file = empty_file name (code_or_60 code) in
         k.opens (record s { files = make s.files file }) channel _ caller low some free (is_file-made s.files file) (k.makes s name (code_or_60 code) none (not-false _ h.0) h.1.1.0 (base _ k));
-    remakes = λ channel name kind update code low free there write unopened k.
+    remakes = λ channel name kind update code low free there write unopened output k.
         let file = empty_file name (code_or_60 code) in
         k.opens (record s { files = remake s.files name (code_or_60 code) }) channel _ caller low some free (is_file-made (remove s.files name) file) (k.remakes s name (code_or_60 code) there unopened (base _ k));
     closes = λ channel is k. k.closes s channel caller (self channel) some (base _ k);

@@ -112,7 +112,7 @@ module _ (m : State) (g : Good m) (job : ℕ) where
       prints = λ request mild printer printing. unchanged request Done mild.no_close;
       opens = λ channel name kind update code low free there right. opened_one caller some channel _ kind code (size_at m.files name) (inl (by_protection caller some name update there right));
       makes = λ channel name kind update code low free none h. opened_one caller some channel (record { name = name; update = update; read = true; write = true }) kind code 0 (inr (inl (record { is_new = none; may_make = not-false _ h.1.0; read = refl; write = refl })));
-      remakes = λ channel name kind update code low free there write unopened. opened_one caller some channel (record { name = name; update = update; read = true; write = true }) kind code 0 (inr (inr (record { is_there = there; may_remake = sym (may-counted m job caller name Write) ∙ write; read = refl; write = refl })));
+      remakes = λ channel name kind update code low free there write unopened output. opened_one caller some channel (record { name = name; update = update; read = true; write = true }) kind code 0 (inr (inr (record { is_there = there; may_remake = sym (may-counted m job caller name Write) ∙ write; read = refl; write = refl })));
       closes = λ channel is. closed_one channel;
       gets = λ channel block is h. unchanged (Get channel block) _ (λ d. refl);
       puts = λ channel block page is h. unchanged (Put channel block page) Done (λ d. refl);

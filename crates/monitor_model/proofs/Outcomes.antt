@@ -66,7 +66,7 @@ pub record Deeds (s : State) (job : ℕ) (caller : Account) (R : Request → Sta
   pub prints : (request : Request) → IsMild request Done → (printer : Printer) → Printing s job request printer → R request (record s { printer = printer }, Done)
   pub opens : (channel : ℕ) (name : FileName) (kind : OpenKind) (update : Bool) (code : Option ℕ) → channel ≤ 12 → channel_of s.jobs job channel ≡ None → is_file s.files name ≡ true → has_right s caller name ≡ true → R (OpenFile channel name kind update code) (opened_there s job caller channel name update)
   pub makes : (channel : ℕ) (name : FileName) (kind : OpenKind) (update : Bool) (code : Option ℕ) → channel ≤ 12 → channel_of s.jobs job channel ≡ None → is_file s.files name ≡ false → NoneApply (making s caller name) → R (OpenFile channel name kind update code) (open_new s job channel name update code)
-  pub remakes : (channel : ℕ) (name : FileName) (kind : OpenKind) (update : Bool) (code : Option ℕ) → channel ≤ 12 → channel_of s.jobs job channel ≡ None → is_file s.files name ≡ true → may s caller name Write ≡ true → is_open_file s.jobs name ≡ false → R (OpenFile channel name kind update code) (opened_made s (remake s.files name (code_or_60 code)) job channel name update)
+  pub remakes : (channel : ℕ) (name : FileName) (kind : OpenKind) (update : Bool) (code : Option ℕ) → channel ≤ 12 → channel_of s.jobs job channel ≡ None → is_file s.files name ≡ true → may s caller name Write ≡ true → is_open_file s.jobs name ≡ false → kind ≡ Output → R (OpenFile channel name kind update code) (opened_made s (remake s.files name (code_or_60 code)) job channel name update)
   pub closes : (channel : ℕ) → is_open s.jobs job channel ≡ true → R (CloseFile channel) (closed_by s job channel, Done)
   pub gets : (channel block : ℕ) → is_open s.jobs job channel ≡ true → NoneApply (to_get s job channel block) → R (Get channel block) (got s job channel block 1, Block (page_read s job channel block))
   pub puts : (channel block : ℕ) (page : List ℕ) → is_open s.jobs job channel ≡ true → NoneApply (to_put s job channel block) → R (Put channel block page) (written_by s job channel block (page ∷ []), Done)
@@ -83,7 +83,7 @@ module _ (s : State) (job : ℕ) (caller : Account) (R : Request → State × Re
   there Either channel name update code low free is h =
       r.opens channel name Either update code low free is (not-false _ h.0)
   there Output channel name update code low free is h =
-      r.remakes channel name Output update code low free is (not-false _ h.0) h.1.0
+      r.remakes channel name Output update code low free is (not-false _ h.0) h.1.0 refl
   there Fresh channel name update code low free is h = absurd (cc)
 
   new : (kind : OpenKind) (channel : ℕ) (name : FileName) (update : Bool) (code : Option ℕ) → channel ≤ 12 → channel_of s.jobs job channel ≡ None → is_file s.files name ≡ false → NoneApply (to_open_new kind s caller name) → R (OpenFile channel name kind update code) (open_new s job channel name update code)

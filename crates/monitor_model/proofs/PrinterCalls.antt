@@ -57,7 +57,7 @@ module _ (m : State) (job : ℕ) where
       prints = λ request mild printer printing. changes refl printing;
       opens = λ channel name kind update code low free there right. stays refl refl;
       makes = λ channel name kind update code low free none h. stays refl refl;
-      remakes = λ channel name kind update code low free there write unopened. stays refl refl;
+      remakes = λ channel name kind update code low free there write unopened output. stays refl refl;
       closes = λ channel is. stays refl refl;
       gets = λ channel block is h. stays refl refl;
       puts = λ channel block page is h. stays refl refl;

@@ -106,7 +106,7 @@ module _ (m : State) (job : ℕ) where
       prints = λ request mild printer printing. by_mild request _ mild;
       opens = λ channel name kind update code low free there right c b page r. absurd r;
       makes = λ channel name kind update code low free none h c b page r. absurd r;
-      remakes = λ channel name kind update code low free there write unopened c b page r. absurd r;
+      remakes = λ channel name kind update code low free there write unopened output c b page r. absurd r;
       closes = λ channel is c b page r. absurd r;
       gets = λ channel block is h. got_block (counted m job) job channel block is h;
       puts = λ channel block bytes is h c b page r. absurd r;
@@ -117,6 +117,13 @@ module _ (m : State) (job : ℕ) where
       renames = λ old new code h c b page r. absurd r;
     }) (λ request n mild. by_mild request _ mild);
   }
+
+  -- a reading goes through a channel that is open
+  pub reading_is_open : (request : Request) (channel block : ℕ) (page : List ℕ) → Reads request (reply m job request) channel block page → (entry : ChannelEntry) × (channel_of m.jobs job channel ≡ Some entry)
+  reading_is_open request channel block page r =
+      let g : IsGot (counted m job) job channel block page (next m job request) = answer_outcomes m job Got get_outcomes request channel block page r in
+      let s = counted m job in
+      (the_channel s.jobs job channel, sym (channel_of-count m.jobs job job channel) ∙ some_of (channel_of s.jobs job channel) closed g.is_open)
 
   -- behind a reading through a channel for update, the channel holds the block
   holding_from_reading : (request : Request) (channel block : ℕ) (page : List ℕ) (entry : ChannelEntry) (name : FileName) → channel_of m.jobs job channel ≡ Some entry → entry.name ≡ name → entry.update ≡ true → Reads request (reply m job request) channel block page → IsHolding (next m job request) job channel name block page

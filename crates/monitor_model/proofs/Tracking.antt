@@ -109,7 +109,7 @@ module _ (m : State) (g : Good m) (job : ℕ) where
       prints = λ request mild printer printing. unchanged request Done mild.no_end;
       opens = λ channel name kind update code low free there right. unchanged (OpenFile channel name kind update code) _ (λ d. refl);
       makes = λ channel name kind update code low free none h. unchanged (OpenFile channel name kind update code) _ (λ d. refl);
-      remakes = λ channel name kind update code low free there write unopened. unchanged (OpenFile channel name kind update code) _ (λ d. refl);
+      remakes = λ channel name kind update code low free there write unopened output. unchanged (OpenFile channel name kind update code) _ (λ d. refl);
       closes = λ channel is. freed (CloseFile channel) Done channel (λ d ne. ne_eqb channel d ne);
       gets = λ channel block is h.
           let page = page_read (counted m job) job channel block in
@@ -143,7 +143,7 @@ no_end_more k d (first ∷ entries) entry none last =
     (none.0, no_end_more k d entries entry none.1 last)
 
 module _ (m : State) (past : List Entry) (entry : Entry) where
-  span_more : (k d : ℕ) (name : FileName) (block : ℕ) (page : List ℕ) → InSpan m past k d name block page → (k ≡ entry.job → is_end d entry.request entry.reply ≡ false) → InSpan m (past ++ entry ∷ []) k d name block page
+  pub span_more : (k d : ℕ) (name : FileName) (block : ℕ) (page : List ℕ) → InSpan m past k d name block page → (k ≡ entry.job → is_end d entry.request entry.reply ≡ false) → InSpan m (past ++ entry ∷ []) k d name block page
   span_more k d name block page s last = record {
     before = s.before;
     by = s.by;

@@ -5,6 +5,8 @@
 #[cfg(test)]
 mod asks;
 #[cfg(test)]
+mod closing;
+#[cfg(test)]
 mod disks;
 #[cfg(test)]
 mod expects;
@@ -15,7 +17,7 @@ mod last_calls;
 #[cfg(test)]
 mod messages;
 #[cfg(test)]
-mod ports;
+mod plain_seats;
 #[cfg(test)]
 mod replies;
 #[cfg(test)]

@@ -37,6 +37,12 @@ impl Run {
         expect_none(alloc, self.first_wrong(alloc, rows)?)
     }
 
+    /// The disk that the monitor leaves.
+    pub(crate) fn into_volume(self) -> Result<Volume, Fail> {
+        let Run { monitor } = self;
+        Ok(monitor.into_volume()?)
+    }
+
     fn first_wrong(&mut self, alloc: Global, rows: &[Row]) -> Result<Option<usize>, Fail> {
         for (place, row) in rows.iter().enumerate() {
             let (job, ask, said) = *row;

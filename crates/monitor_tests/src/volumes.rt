@@ -115,20 +115,22 @@ fn two_accounts(alloc: Global, second: AccountEntry) -> Result<Vec<AccountEntry>
 type FileRow = (u8, &'static [u8], &'static [u8], u8, u8, bool);
 
 /// The volume has eight blocks, and its first file is FIRST.DAT of two.
-static FILES: [FileRow; 13] = [
+static FILES: [FileRow; 15] = [
     (5, b"SECOND", b"DAT", 60, 6, true),
     (5, b"SECOND", b"DAT", 60, 7, false),
     (6, b"SECOND", b"DAT", 60, 6, false),
     (5, b"FIRST", b"DAT", 60, 0, false),
     (5, b"FIRST", b"BAS", 60, 0, true),
     (5, b"FIRST", b"", 60, 0, true),
-    (5, b"", b"DAT", 60, 0, false),
-    (5, b"second", b"DAT", 60, 0, false),
-    (5, b"SECOND", b"dat", 60, 0, false),
-    (5, b"SECOND", b"DATA", 60, 0, false),
+    (5, b"", b"DAT", 60, 0, true),
+    (5, b"", b"", 60, 0, true),
+    (5, b"second", b"DAT", 60, 0, true),
+    (5, b"SECOND", b"dat", 60, 0, true),
+    (5, b"SECOND", b"DATAon", 60, 0, true),
     (5, b"7", b"7", 0, 0, true),
     (5, b"SECOND", b"DAT", 63, 0, true),
-    (5, b"SECOND", b"DAT", 64, 0, false),
+    (5, b"SECOND", b"DAT", 64, 0, true),
+    (5, b"SECOND", b"DAT", 255, 0, true),
 ];
 
 fn first_wrong_file(alloc: Global) -> Result<Option<usize>, Fail> {
@@ -150,27 +152,54 @@ fn is_good_file(alloc: Global, row: &FileRow) -> Result<bool, Fail> {
         project: 100,
         programmer: row.0,
     };
-    let stem = short(row.1)?;
-    let extension = short(row.2)?;
-    let name = FileName {
-        owner,
-        stem,
-        extension,
-    };
+    let name = file_name(owner, row.1, row.2)?;
     let second = file_entry(alloc, name, row.3, row.4)?;
     let volume = volume(alloc, second, MOST_QUOTA)?;
     Ok(volume.is_good())
+}
+
+fn file_name(owner: Account, stem: &[u8], extension: &[u8]) -> Result<FileName, Fail> {
+    Ok(FileName {
+        owner,
+        stem: short(stem)?,
+        extension: short(extension)?,
+    })
+}
+
+/// A stem, an extension, and whether a deck of version 1 or 2 may have that name.
+type NameRow = (&'static [u8], &'static [u8], bool);
+
+static NAMES: [NameRow; 9] = [
+    (b"FIRST", b"DAT", true),
+    (b"A", b"", true),
+    (b"ABCDE6", b"7", true),
+    (b"", b"DAT", false),
+    (b"", b"", false),
+    (b"first", b"DAT", false),
+    (b"FIRST", b"dat", false),
+    (b"FIRST", b"DATA", false),
+    (b"FIRSt", b"DAT", false),
+];
+
+fn first_wrong_name() -> Result<Option<usize>, Fail> {
+    for (place, row) in NAMES.iter().enumerate() {
+        if file_name(OWNER, row.0, row.1)?.is_deck_name() != row.2 {
+            return Ok(Some(place));
+        }
+    }
+    Ok(None)
+}
+
+#[test]
+fn names_of_old_decks_are_in_their_ranges(rt: HostRuntime) -> Result<(), Fail> {
+    expect_none(rt.alloc(), first_wrong_name()?)
 }
 
 /// A volume with the account [100,5] in this quota, and two files.
 fn volume(alloc: Global, second: FileEntry, quota: u16) -> Result<Volume, Fail> {
     let mut accounts = Vec::new(alloc);
     accounts.push(account_entry(OWNER, b"DEMO", 100, quota)?)?;
-    let name = FileName {
-        owner: OWNER,
-        stem: short(b"FIRST")?,
-        extension: short(b"DAT")?,
-    };
+    let name = file_name(OWNER, b"FIRST", b"DAT")?;
     let mut files = Vec::new(alloc);
     files.push(file_entry(alloc, name, 60, 2)?)?;
     files.push(second)?;

@@ -40,8 +40,8 @@ static STORED: [Row; 3] = [
     (1, Some(2), &[1, 2, 3, 4], &[0, 0, 0, 0, 0, 0]),
 ];
 
-/// Whether the array has its bounds, and the numbers are stored to the elements without a subscript 0
-/// alone.
+/// Whether the array has its bounds, and the numbers are stored to the elements without a subscript
+/// 0 alone.
 fn stores_whole(alloc: Global, row: &Row) -> Result<bool, Fail> {
     let mut memory = memory_with(alloc, number_name(b'A'), row.0, row.1)?;
     is_stored_whole(alloc, &mut memory, row)

@@ -1,10 +1,10 @@
 //! The disk: its files, their blocks and codes.
 
-use crate::expects::expect_none;
+use crate::expects::{expect, expect_none};
 use crate::names::file;
 use basic_values::{Fault, NoMemory, Trouble};
 use block_files::Disk;
-use monitor_calls::{FileName, Page};
+use monitor_calls::{FileEntry, FileName, Page};
 use std::alloc::Global;
 use std::test::Fail;
 
@@ -250,4 +250,56 @@ static REMOVED: [Row; 11] = [
 #[test]
 fn blocks_of_a_removed_file_are_free_again(rt: HostRuntime) -> Result<(), Fail> {
     expect_none(rt.alloc(), first_wrong(rt.alloc(), 3, &REMOVED)?)
+}
+
+/// MASTER gets pages that OTHER had, and OTHER's last page is skipped.
+static KEPT_STEPS: [Row; 9] = [
+    (Step::Create(Named::Other, 60), Told::Done),
+    (Step::Write(Named::Other, 4, 9), Told::Done),
+    (Step::Remake(Named::Other, 63), Told::Done),
+    (Step::Create(Named::Master, 200), Told::Done),
+    (Step::Write(Named::Master, 2, 2), Told::Done),
+    (Step::Write(Named::Other, 1, 5), Told::Done),
+    (Step::Write(Named::Master, 1, 1), Told::Done),
+    (Step::Write(Named::Other, 3, 7), Told::Done),
+    (Step::Write(Named::Master, 3, 3), Told::Done),
+];
+
+/// A file's stem, its code, and the byte that each of its blocks is full of.
+type Kept = (&'static [u8], u8, &'static [u8]);
+
+static KEPT: [Kept; 2] = [(b"OTHER", 63, &[5, 0, 7]), (b"MASTER", 200, &[1, 2, 3])];
+
+fn are_full(pages: &[Page], bytes: &[u8]) -> bool {
+    if pages.len() != bytes.len() {
+        return false;
+    }
+    for (place, byte) in bytes.iter().enumerate() {
+        match pages.get(place) {
+            Some(page) if shown(page) == Told::Full(*byte) => {}
+            _ => return false,
+        }
+    }
+    true
+}
+
+fn is_kept(entry: &FileEntry, kept: &Kept) -> bool {
+    entry.name.stem.as_bytes() == kept.0
+        && entry.code == kept.1
+        && are_full(entry.pages.as_slice(), kept.2)
+}
+
+#[test]
+fn files_are_moved_out_with_their_pages(rt: HostRuntime) -> Result<(), Fail> {
+    let mut files = Files::new(rt.alloc(), 8)?;
+    expect_none(rt.alloc(), first_told_wrong(&mut files, &KEPT_STEPS))?;
+    expect(files.disk.blocks() == 8, "another number of blocks")?;
+    let entries = files.disk.into_files()?;
+    match entries.as_slice() {
+        [first, second] => expect(
+            is_kept(first, &KEPT[0]) && is_kept(second, &KEPT[1]),
+            "another file",
+        ),
+        _ => Err(Fail::new("another number of files")),
+    }
 }

@@ -6,7 +6,8 @@ use record_fields::{Buffers, Part, RecordSize, Side, layout, lset, rset, shift_w
 use std::alloc::Global;
 use std::test::Fail;
 
-/// The bytes of a buffer, the widths of three fields, and the offset and the length of each in turn.
+/// The bytes of a buffer, the widths of three fields, and the offset and the length of each in
+/// turn.
 type Widths = (u16, [i16; 3], Option<[u16; 6]>);
 
 static LAYOUTS: [Widths; 13] = [

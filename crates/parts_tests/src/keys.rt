@@ -1,10 +1,10 @@
-//! Keys in order.
+//! The key lines of a port for tests.
 
-use crate::expects::{expect, expect_bytes, expect_none};
+use crate::expects::{expect, expect_none};
 use basic_values::KeyLine;
+use monitor_calls::{Port, ScriptPort};
 use std::alloc::Global;
 use std::test::Fail;
-use terminal_line::{Key, Keys};
 
 fn key_line(alloc: Global, line: &[u8]) -> Result<KeyLine, Fail> {
     if line.len() > 255 {
@@ -13,32 +13,31 @@ fn key_line(alloc: Global, line: &[u8]) -> Result<KeyLine, Fail> {
     Ok(KeyLine::of(alloc, line)?)
 }
 
-fn keys(alloc: Global, lines: &[&[u8]]) -> Result<Keys, Fail> {
+/// Returns a port that gives these key lines and no replies.
+fn typed(alloc: Global, lines: &[&[u8]]) -> Result<ScriptPort, Fail> {
     let mut typed = Vec::new(alloc);
     for line in lines {
         typed.push(key_line(alloc, line)?)?;
     }
-    Ok(Keys::new(typed))
+    Ok(ScriptPort::typed(alloc, typed, Vec::new(alloc)))
 }
 
-/// What the next key is: a line, CTRL Z or the end, and its bytes behind it.
-fn next(alloc: Global, keys: &mut Keys) -> Result<Vec<u8>, Fail> {
-    let mut told = Vec::new(alloc);
-    match keys.next() {
-        Key::Line(line) => {
-            told.push(b'>')?;
-            told.extend_from_slice(line.as_bytes())?;
-        }
-        Key::ControlZ => told.extend_from_slice(b"CTRL Z")?,
-        Key::End => told.extend_from_slice(b"END")?,
+/// Returns whether the next key line has these bytes.
+fn is_next(alloc: Global, port: &mut ScriptPort, wanted: &[u8]) -> Result<bool, Fail> {
+    match port.type_line(alloc)? {
+        Some(line) => Ok(line.as_bytes() == wanted),
+        None => Ok(false),
     }
-    Ok(told)
 }
 
-fn first_wrong(alloc: Global, lines: &[&[u8]], wanted: &[&[u8]]) -> Result<Option<usize>, Fail> {
-    let mut keys = keys(alloc, lines)?;
-    for (place, bytes) in wanted.iter().enumerate() {
-        if next(alloc, &mut keys)?.as_slice() != *bytes {
+/// Returns the place of the first of these lines that is not the next one.
+fn first_wrong(
+    alloc: Global,
+    port: &mut ScriptPort,
+    lines: &[&[u8]],
+) -> Result<Option<usize>, Fail> {
+    for (place, line) in lines.iter().enumerate() {
+        if !is_next(alloc, port, line)? {
             return Ok(Some(place));
         }
     }
@@ -47,33 +46,13 @@ fn first_wrong(alloc: Global, lines: &[&[u8]], wanted: &[&[u8]]) -> Result<Optio
 
 static TYPED: [&[u8]; 5] = [b"RUN", b"^Z", b" ^Z", b"", b"^z"];
 
-static TOLD: [&[u8]; 8] = [
-    b">RUN", b"CTRL Z", b"> ^Z", b">", b">^z", b"END", b"END", b"END",
-];
-
 #[test]
-fn keys_come_in_order_and_then_the_end(rt: HostRuntime) -> Result<(), Fail> {
-    expect_none(rt.alloc(), first_wrong(rt.alloc(), &TYPED, &TOLD)?)?;
-    let mut none = keys(rt.alloc(), &[])?;
-    expect(none.next_line().is_none(), "a line that nobody typed")
-}
-
-/// Whether this line is taken.
-fn is_taken(keys: &mut Keys, wanted: &[u8]) -> bool {
-    match keys.next_line() {
-        Some(line) => line.as_bytes() == wanted,
-        None => false,
+fn key_lines_come_in_order_and_then_the_end(rt: HostRuntime) -> Result<(), Fail> {
+    let mut port = typed(rt.alloc(), &TYPED)?;
+    expect_none(rt.alloc(), first_wrong(rt.alloc(), &mut port, &TYPED)?)?;
+    for _ in 0..3 {
+        let key = port.type_line(rt.alloc())?;
+        expect(key.is_none(), "a line that nobody typed")?;
     }
-}
-
-/// Fails unless this line is taken, and the end comes behind it.
-fn expect_last(alloc: Global, keys: &mut Keys, wanted: &[u8]) -> Result<(), Fail> {
-    expect(is_taken(keys, wanted), "another line")?;
-    expect_bytes(alloc, &next(alloc, keys)?, b"END")
-}
-
-#[test]
-fn a_key_line_is_taken_as_it_was_typed(rt: HostRuntime) -> Result<(), Fail> {
-    let mut keys = keys(rt.alloc(), &[b"^Z"])?;
-    expect_last(rt.alloc(), &mut keys, b"^Z")
+    expect(port.log().len() == 8, "a log with more or fewer events")
 }

@@ -1,4 +1,5 @@
-//! MAT on a memory: rows of assignments, arrays that are made where they are named, and rows that are read.
+//! MAT on a memory: rows of assignments, arrays that are made where they are named, and rows that
+//! are read.
 
 use crate::arrays::{are, holds};
 use crate::expects::{expect, expect_none};

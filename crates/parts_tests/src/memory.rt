@@ -415,8 +415,8 @@ fn own_texts_have_a_length(rt: HostRuntime) -> Result<(), Fail> {
     expect_rows(rt.alloc(), &OWN_TEXTS)
 }
 
-/// Own texts are changed in their place, up to their greatest length and to the room that is left; a
-/// fielded one, and one that is not stored, are not.
+/// Own texts are changed in their place, up to their greatest length and to the room that is left;
+/// a fielded one, and one that is not stored, are not.
 static CHANGED: [Row; 31] = [
     (Step::Append(b'A', b'x', 2), Told::Is(0)),
     (Step::Cut(b'A', 0, 1), Told::Is(0)),

@@ -63,8 +63,23 @@ fn an_account_is_found_by_its_numbers_and_checked_by_its_password(
 }
 
 #[test]
-fn a_quota_is_told_and_0_where_there_is_no_account(rt: HostRuntime) -> Result<(), Fail> {
+fn a_quota_is_that_of_the_account_if_there_is_one(rt: HostRuntime) -> Result<(), Fail> {
     let table = table(rt.alloc())?;
     let quotas = (table.quota(account(1, 2)), table.quota(account(5, 100)));
-    expect(quotas == (8, 0), "another quota")
+    expect(quotas == (Some(8), None), "another quota")
+}
+
+#[test]
+fn the_accounts_are_moved_out_in_their_order(rt: HostRuntime) -> Result<(), Fail> {
+    let entries = table(rt.alloc())?.into_entries();
+    match entries.as_slice() {
+        [first, second] => expect(
+            first.account == account(100, 5)
+                && second.account == account(1, 2)
+                && second.password.as_bytes() == b"SYSTEM".as_slice()
+                && second.limit == 1,
+            "another account",
+        ),
+        _ => Err(Fail::new("another number of accounts")),
+    }
 }

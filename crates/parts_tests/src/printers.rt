@@ -3,6 +3,7 @@
 ghost use Rattle.std.specs.Prelude.{◌≡◌};
 
 use crate::expects::{expect_bytes, expect_none};
+use basic_values::errors::{NO_DEVICE, NOT_OPEN};
 use basic_values::{Fault, Text};
 use monitor_calls::{Entry, Reply, Request, TerminalName};
 use print_spool::{Printer, printed};
@@ -120,12 +121,12 @@ fn entry(job: u32, request: Request, reply: Reply) -> Entry
 fn listings(alloc: Global) -> Result<Vec<u8>, Fail> {
     let names = [terminal(b"T1")?, terminal(b"CONSOLE")?];
     let [begun, lost, ended, cut] = prints(alloc)?;
-    let refused = || Reply::Failed(Fault::new(8));
+    let refused = || Reply::Failed(Fault::new(NO_DEVICE));
     let history = [
         entry(1, Request::OpenPrinter, Reply::Done),
         entry(0, Request::OpenPrinter, refused()),
         entry(1, begun, Reply::Done),
-        entry(0, lost, Reply::Failed(Fault::new(9))),
+        entry(0, lost, Reply::Failed(Fault::new(NOT_OPEN))),
         entry(1, ended, Reply::Done),
         entry(1, Request::ClosePrinter, Reply::Done),
         entry(0, Request::OpenPrinter, Reply::Done),
@@ -139,8 +140,8 @@ fn listings(alloc: Global) -> Result<Vec<u8>, Fail> {
 
 #[test]
 fn listings_stand_in_the_order_of_their_beginning(rt: HostRuntime) -> Result<(), Fail> {
-    let wanted =
-        b"PRINTED 3\nLISTING CONSOLE 18\n10 PRINT\r\n20 END\r\n\nLISTING T1 0\n\nLISTING CONSOLE 1\nA\n";
+    let wanted = b"PRINTED 3\nLISTING CONSOLE 18\n10 PRINT\r\n20 END\r\n\n\
+         LISTING T1 0\n\nLISTING CONSOLE 1\nA\n";
     let bytes = listings(rt.alloc())?;
     expect_bytes(rt.alloc(), &bytes, wanted)
 }

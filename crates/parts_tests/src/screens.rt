@@ -29,18 +29,17 @@ fn a_screen_keeps_what_is_written(rt: HostRuntime) -> Result<(), Fail> {
     expect_bytes(rt.alloc(), screen.close().as_slice(), KEPT)
 }
 
-fn write_fresh_lines(screen: &mut Screen) -> Result<(), Fail> {
-    screen.fresh_line()?;
-    screen.write(b"A\n")?;
-    screen.fresh_line()?;
-    screen.fresh_line()?;
-    screen.write(b"\x07")?;
-    Ok(screen.fresh_line()?)
+/// Begins four lines. LF and BEL leave the column as it is, so only the second ends another line.
+fn begin_lines(screen: &mut Screen) -> Result<(), Fail> {
+    screen.begin_line(b"A\n")?;
+    screen.begin_line(b"")?;
+    screen.begin_line(b"\x07")?;
+    Ok(screen.begin_line(b"B")?)
 }
 
 #[test]
-fn a_fresh_line_is_begun_once(rt: HostRuntime) -> Result<(), Fail> {
+fn a_line_is_begun_once(rt: HostRuntime) -> Result<(), Fail> {
     let mut screen = Screen::new(rt.alloc());
-    write_fresh_lines(&mut screen)?;
-    expect_bytes(rt.alloc(), screen.bytes(), b"A\n\r\n\x07")
+    begin_lines(&mut screen)?;
+    expect_bytes(rt.alloc(), screen.bytes(), b"A\n\r\n\x07B")
 }

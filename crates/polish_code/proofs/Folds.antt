@@ -1,7 +1,8 @@
--- Code is a list of items that are put in front, one by one, of what stands behind; and how many it has.
-use Rattle.std.proofs.Common.{◌≡◌, ℕ, suc, ◌+◌, List, [], ◌∷◌, ◌++◌, length, Some, None, refl, ap, ◌∙◌, subst, arith, length-append}
+-- Code is a list of instructions that are put one by one in front of what follows; and how many
+-- there are.
+use Rattle.std.proofs.Common.{◌≡◌, ℕ, suc, ◌+◌, List, [], ◌∷◌, ◌++◌, length, None, refl, ap, ◌∙◌, subst, arith, length-append}
 use Rattle.std.specs.Prelude.{true, false}
-use Rattle.basic_tree.specs.Trees.{Tree, Literal, Quoted, Variable, Element, FunctionOf, Call, Parenthesized, Negative, Positive, Not, Operation, Comparison, Trees, NoTrees, AndTrees, ModifierTree, If, Unless, While, Until, ForModifier, ClauseTree, LineClause, StatementClause, ElseTree, NoElse, Else, StatementTree, IfThen, IfGoto, Modified, For, Def, Print, Input, InputLine}
+use Rattle.basic_tree.specs.Trees.{Tree, Literal, Quoted, Variable, Element, FunctionOf, Call, Parenthesized, Negative, Positive, Not, Operation, Comparison, Trees, NoTrees, AndTrees, ModifierTree, If, ForModifier, ClauseTree, LineClause, StatementClause, ElseTree, NoElse, Else, StatementTree, IfThen, IfGoto, Modified, For, Def, Print, Input, InputLine}
 use Rattle.program_model.specs.Program.{Program, loops_outside}
 use Rattle.polish_code.specs.declared.items.Item.{Item}
 use Rattle.polish_code.specs.declared.items.Item.TheVariants as item
@@ -15,7 +16,7 @@ folded_both : {S : Type 0} (put : Item → S → S) (xs ys : List Item) (s : S) 
 folded_both put [] ys s = refl
 folded_both put (x ∷ xs) ys s = ap (put x) (folded_both put xs ys s)
 
--- so many items are put in front
+-- this many instructions are put in front
 pub record Folds {S : Type 0} (put : Item → S → S) (f : S → S) (n : ℕ) : Type 0 where
   pub front : List Item
   pub stands : (s : S) → f s ≡ folded put front s
@@ -68,31 +69,19 @@ module _ {S : Type 0} (put : Item → S → S) (program : Program) (places : Pla
   -- sizes do not depend on places
   simple_size : (m i : ℕ) (s : StatementTree) → pieces_size (simple_pieces program places m i s) ≡ pieces_size (simple_pieces [] nowhere 0 0 s)
   simple_size m i (For x a b None) = refl
-  simple_size m i (For x a b (Some c)) = refl
   simple_size m i (Def f xs None) = refl
-  simple_size m i (Def f xs (Some e)) = refl
   simple_size m i (Print None items last) = refl
-  simple_size m i (Print (Some c) items last) = refl
   simple_size m i (Input None p ts) = refl
-  simple_size m i (Input (Some c) p ts) = refl
   simple_size m i (InputLine None x) = refl
-  simple_size m i (InputLine (Some c) x) = refl
-  simple_size m i _ = refl
+  simple_size m i s = refl
 
   pub head_size : (d : ModifierTree) (i n : ℕ) → pieces_size (head_pieces d i n) ≡ pieces_size (head_pieces d 0 0)
-  head_size (If e) i n = refl
-  head_size (Unless e) i n = refl
-  head_size (While e) i n = refl
-  head_size (Until e) i n = refl
   head_size (ForModifier x a b None) i n = refl
-  head_size (ForModifier x a b (Some c)) i n = refl
+  head_size d i n = refl
 
   pub tail_size : (d : ModifierTree) (i n : ℕ) → pieces_size (tail_pieces d i n) ≡ pieces_size (tail_pieces d 0 0)
   tail_size (If e) i n = refl
-  tail_size (Unless e) i n = refl
-  tail_size (While e) i n = refl
-  tail_size (Until e) i n = refl
-  tail_size (ForModifier x a b c) i n = refl
+  tail_size d i n = refl
 
   pub head_folds : (d : ModifierTree) (i n : ℕ) → Folds put (pieces_put put program places (head_pieces d i n)) (pieces_size (head_pieces d 0 0))
   head_folds d i n = subst (Folds put (pieces_put put program places (head_pieces d i n))) (head_size d i n) (pieces_folds (head_pieces d i n))
@@ -103,7 +92,7 @@ module _ {S : Type 0} (put : Item → S → S) (program : Program) (places : Pla
   simple_folds : (m i : ℕ) (s : StatementTree) → Folds put (pieces_put put program places (simple_pieces program places m i s)) (pieces_size (simple_pieces [] nowhere 0 0 s))
   simple_folds m i s = subst (Folds put (pieces_put put program places (simple_pieces program places m i s))) (simple_size m i s) (pieces_folds (simple_pieces program places m i s))
 
-  -- ELSE behind THEN
+  -- ELSE after THEN
   abbrev pub else_behind : ℕ → ℕ → ElseTree → S → S
   else_behind m i o s = skip_put put o (else_put put program places m i o s)
 

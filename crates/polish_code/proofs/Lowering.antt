@@ -1,4 +1,5 @@
--- A tree of the meaning as one of the code: what its laws are, and that each act does the same in both.
+-- A tree of the meaning as one of the code: the laws of this, and that each interaction tree is the
+-- same in both.
 use Rattle.std.proofs.Common.{◌≡◌, ℕ, zero, suc, ◌-◌, List, [], ◌∷◌, ◌++◌, length, drop, Option, Some, None, Ok, Err, refl, sym, ap, ◌∙◌}
 use Rattle.std.specs.Prelude.{Bool, true, false, if◌then◌else◌, map, nat_lt, nat_le, Result, ℤ, bytes_eq, ◌+ℤ◌, codes}
 use Rattle.std.proofs.lemmas.List.{length-map}
@@ -14,13 +15,13 @@ use Rattle.error_trap.specs.declared.trap.Trap.{Trap}
 use Rattle.error_trap.specs.Trapping.{raised, led as led_to, way_out}
 use Rattle.job_memory.specs.Memory.{Memory, variable, store, store_at}
 use Rattle.job_memory.specs.Calls.{enter}
-use Rattle.job_model.specs.Act.{Act, Gives, Breaks, Asks, Takes, ◌then◌, Break, Faulted, Halted, Gone, Left, break_over, over, no_way}
+use Rattle.job_model.specs.Act.{Act, Gives, Breaks, Asks, Types, Takes, ◌then◌, Break, Faulted, Halted, Gone, Left, break_over, over, no_way}
 use Rattle.program_model.specs.declared.homes.Home.{Home}
 use Rattle.program_model.specs.Program.{Program, Position}
 use Rattle.program_model.specs.declared.values.Value.{Value}
 use Rattle.program_model.specs.declared.values.Value.TheVariants.{Number, Text}
 use Rattle.program_model.specs.declared.values.Frame.{Frame}
-use Rattle.program_model.specs.Job.{number, text, Job, Leaving, Ended, Stopped, StoppedInside, Chained, Deed, text_made, or_fault}
+use Rattle.program_model.specs.Job.{number, text, Job, Leaving, Ended, Deed, text_made, or_fault}
 use Rattle.program_model.specs.Expressions.{Around}
 use Rattle.virtual_arrays.specs.declared.places.VirtualShape.{VirtualShape}
 use Rattle.program_model.specs.Operators.{gives_number, sum_of, operated}
@@ -29,6 +30,7 @@ use Rattle.program_model.specs.OnChannels.{is_terminal, column_on}
 use Rattle.program_model.specs.SysActs.{sys_act}
 use Rattle.program_model.specs.Elements.{read_act, write_act, element_read, element_stored}
 use Rattle.program_model.specs.Justified.{justified_in, justifies}
+use Rattle.program_model.specs.Printing.{written}
 use Rattle.program_model.specs.PrintingOnChannels.{output_tested, tab_on, zone_on, text_act, writes_on, used_bytes, writes_used}
 use Rattle.record_fields.specs.declared.writing.Side.{Side}
 use Rattle.record_fields.specs.Writing.{justified}
@@ -57,7 +59,7 @@ module _ (program : Program) where
   abbrev pub low : Job Position → Job Spot
   low = lowered program
 
-  -- what is done where nothing goes on behind it
+  -- what is done if nothing follows it
   abbrev pub keeps : {A : Type 0} → A → Job Position → Walked A
   keeps a j = Gives a (low j)
 
@@ -65,23 +67,25 @@ module _ (program : Program) where
   lowers_then (Gives a j) f g = refl
   lowers_then (Breaks b j) f g = refl
   lowers_then (Asks r k) f g = ap (Asks r) (λ i x. lowers_then (k x) f g i)
+  lowers_then (Types k) f g = ap Types (λ i key. lowers_then (k key) f g i)
   lowers_then (Takes j m) f g = ap (Takes (low j)) (lowers_then m f g)
 
   pub then_lowers : {A B C : Type 0} (m : Deed Position A) (f : A → Job Position → Walked B) (g : B → Job Spot → Walked C) → (lowers program m f) then g ≡ lowers program m (λ a j. f a j then g)
   then_lowers (Gives a j) f g = refl
   then_lowers (Breaks b j) f g = refl
   then_lowers (Asks r k) f g = ap (Asks r) (λ i x. then_lowers (k x) f g i)
+  then_lowers (Types k) f g = ap Types (λ i key. then_lowers (k key) f g i)
   then_lowers (Takes j m) f g = ap (Takes (low j)) (then_lowers m f g)
 
-  -- what goes on alike is alike
+  -- trees with equal continuations are equal
   pub alike : {A B : Type 0} (m : Deed Position A) {f g : A → Job Position → Walked B} → ((a : A) (j : Job Position) → f a j ≡ g a j) → lowers program m f ≡ lowers program m g
   alike m e = ap (lowers program m) (λ i a j. e a j i)
 
-  -- an act that does the same in code
+  -- an interaction tree that is the same in code
   abbrev pub Same : {A : Type 0} → Walked A → Deed Position A → Type 0
   Same m' m = m' ≡ lowers program m keeps
 
-  -- and then what goes on
+  -- and then what follows
   pub follow : {A B C : Type 0} (m' : Walked A) (m : Deed Position A) (f' : A → Job Spot → Walked C) (f : A → Job Position → Deed Position B) (g : B → Job Position → Walked C) → Same m' m → ((a : A) (j : Job Position) → f' a (low j) ≡ lowers program (f a j) g) → m' then f' ≡ lowers program (m then f) g
   follow m' m f' f g same next = ap (λ n. n then f') same ∙ then_lowers m keeps f' ∙ alike m next ∙ sym (lowers_then m f g)
 
@@ -121,6 +125,7 @@ module _ (program : Program) where
   over_same j (Breaks Gone s) = refl
   over_same j (Breaks (Left way) s) = absurd way
   over_same j (Asks r k) = ap (Asks r) (λ i x. over_same j (k x) i)
+  over_same j (Types k) = ap Types (λ i key. over_same j (k key) i)
   over_same j (Takes s m) = ap (Takes (low (in_storage.with_part j s))) (over_same j m)
 
   pub storage_same : {A : Type 0} (act : StorageAct A) (j : Job Position) → Same (stores_by act (low j)) (stores_by act j)
@@ -192,7 +197,7 @@ module _ (program : Program) where
 
   -- CHANNELS
 
-  -- what goes on by a column gives, and asks nothing
+  -- what follows a column gives, and asks nothing
   by_column : {A : Type 0} (r : Result ℤ ℕ) (f : ℤ → A) (j : Job Position) → Same (or_fault r (low j) then λ column j. Gives (f column) j) (or_fault r j then λ column j. Gives (f column) j)
   by_column (Ok n) f j = refl
   by_column (Err n) f j = refl
@@ -229,12 +234,12 @@ module _ (program : Program) where
   taken_same (Some one) j = refl
   taken_same None j = refl
 
-  line_same : (keys : List (List ℕ)) (j : Job Position) → Same (line_taken keys (low j)) (line_taken keys j)
-  line_same [] j = refl
-  line_same (line ∷ keys) j = if_same (bytes_eq line (codes "^Z")) _ _ _ _ refl refl
+  line_same : (key : Option (List ℕ)) (j : Job Position) → Same (line_taken key (low j)) (line_taken key j)
+  line_same None j = refl
+  line_same (Some line) j = if_same (bytes_eq line (codes "^Z")) _ _ _ _ refl refl
 
   pub asked_same : (prompt : List ℕ) (j : Job Position) → Same (line_asked prompt (low j)) (line_asked prompt j)
-  asked_same prompt j = line_same j.keys _
+  asked_same prompt j = ap Types (λ i key. line_same key (written (prompt ++ codes "? ") j) i)
 
   pub line_on_same : (channel : ℤ) (j : Job Position) → Same (line_on channel (low j)) (line_on channel j)
   line_on_same channel j = if_same (is_terminal channel) _ _ _ _ (asked_same [] j) (storage_same (line_act channel) j)
@@ -270,18 +275,14 @@ module _ (program : Program) where
   departed_same j = ap (λ rs. record (low (departed j)) { returns = rs }) (ap (λ n. drop (n - base_of j.frames) (map (spot_of program) j.returns)) (length-map j.returns (spot_of program)) ∙ drop_map (spot_of program) (length j.returns - base_of j.frames) j.returns)
 
   outside_same : (home : Home) (b : Break (Leaving Position)) → outside (low_home program home) (break_over (low_leaving program) b) ≡ break_over (low_leaving program) (outside home b)
-  outside_same home (Faulted n) = refl
-  outside_same home (Halted h) = refl
-  outside_same home Gone = refl
   outside_same home (Left Ended) = refl
-  outside_same home (Left (Stopped q)) = refl
-  outside_same home (Left (StoppedInside h)) = refl
-  outside_same home (Left Chained) = refl
+  outside_same home b = refl
 
   leaving_same : {A B : Type 0} (line : ℕ) (f : A → B) (m : Deed Position A) → leaving line (lowers program m (λ a j. Gives (f a) (low j))) ≡ lowers program (leaving line m) keeps
   leaving_same line f (Gives a j) = ap (λ (k : Job Spot). Gives (result_of j.frames) (record k { line = line })) (departed_same j)
   leaving_same line f (Breaks b j) = ap (λ k. Breaks (outside (low_home program j.home) (break_over (low_leaving program) b)) k) (departed_same j) ∙ ap (λ c. Breaks c (low (departed j))) (outside_same j.home b)
   leaving_same line f (Asks r k) = ap (Asks r) (λ i x. leaving_same line f (k x) i)
+  leaving_same line f (Types k) = ap Types (λ i key. leaving_same line f (k key) i)
   leaving_same line f (Takes j m) = ap (λ k. Takes k (leaving line (lowers program m (λ a j. Gives (f a) (low j))))) (departed_same j) ∙ ap (Takes (low (departed j))) (leaving_same line f m)
 
   pub called_same : {A B : Type 0} (f : Name) (xs : List Name) (vs : List Value) (g : A → B) (body : Job Position → Deed Position A) (body' : Job Spot → Walked B) → ((j : Job Position) → body' (low j) ≡ lowers program (body j) (λ a j. Gives (g a) (low j))) → (j : Job Position) → Same (called f xs body' vs (low j)) (called f xs body vs j)
@@ -299,7 +300,7 @@ module _ (program : Program) where
   abbrev pub low_trap : Trap → Trap
   low_trap t = record t { place = statement_place program t.place }
 
-  -- an error is caught alike, with the place of the statement in place of its number
+  -- an error is trapped in the same way, with the place of the statement in place of its number
   raised_same : {A B : Type 0} (go : ℕ → A) (to : ℕ → B) (f : A → B) → ((n : ℕ) → to n ≡ f (go n)) → (n line place : ℕ) (t : Trap) (j : Job Position) → handled to n (raised n line (statement_place program place) (low_trap t)) (low j) ≡ lowers program (handled go n (raised n line place t) j) (λ a j. Gives (f a) (low j))
   raised_same go to f h n line place t j = out (way_out t.handler t.active)
     where
@@ -318,4 +319,5 @@ module _ (program : Program) where
   trapped_same go to f h (Gives a j) = refl
   trapped_same go to f h (Breaks b j) = caught_same go to f h b j.frames j
   trapped_same go to f h (Asks r k) = ap (Asks r) (λ i x. trapped_same go to f h (k x) i)
+  trapped_same go to f h (Types k) = ap Types (λ i key. trapped_same go to f h (k key) i)
   trapped_same go to f h (Takes j m) = ap (Takes (low j)) (trapped_same go to f h m)

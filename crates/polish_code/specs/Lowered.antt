@@ -1,6 +1,7 @@
--- What the meaning's state is as the code's, and what it is that code keeps the meaning of a program.
+-- The state of the meaning as that of the code, and what it means that code keeps the meaning of a
+-- program.
 use Rattle.std.specs.Prelude.{◌≡◌, ℕ, map, Option, Some, None}
-use Rattle.job_model.specs.Act.{Gives, Breaks, Asks, Takes, break_over}
+use Rattle.job_model.specs.Act.{Gives, Breaks, Asks, Types, Takes, break_over}
 use Rattle.program_model.specs.Program.{Program, Position, items_of, line_start}
 use Rattle.program_model.specs.Job.{Job, Leaving, Ended, Stopped, StoppedInside, Chained, Deed}
 use Rattle.program_model.specs.Control.{Onward, At, Behind, Leave, home_of}
@@ -20,7 +21,6 @@ lowered program j = record {
   buffers = j.buffers;
   common = j.common;
   screen = j.screen;
-  keys = j.keys;
   trap = record j.trap { place = statement_place program j.trap.place };
   returns = map (spot_of program) j.returns;
   limits = j.limits;
@@ -37,24 +37,25 @@ low_leaving program (Stopped q) = Stopped (spot_of program q)
 low_leaving program (StoppedInside home) = StoppedInside (low_home program home)
 low_leaving program Chained = Chained
 
--- a tree of the meaning as one of the code, which goes on in another way where it gives
+-- a tree of the meaning as one of the code, with another continuation at its end
 abbrev pub lowers : {A B : Type 0} → Program → Deed Position A → (A → Job Position → Walked B) → Walked B
 lowers program (Gives value j) next = next value j
 lowers program (Breaks why j) next = Breaks (break_over (low_leaving program) why) (lowered program j)
 lowers program (Asks request by) next = Asks request (λ reply. lowers program (by reply) next)
+lowers program (Types by) next = Types (λ key. lowers program (by key) next)
 lowers program (Takes j rest) next = Takes (lowered program j) (lowers program rest next)
 
 -- the code of a program
 abbrev pub coded : Program → Code
 coded program = record { items = code_of program; words = items_of program; line = λ n. statement_place program (line_start n program) }
 
--- where code goes on as a statement leads; out of a body leads no place
+-- where code continues after a statement; no place leads out of a body
 abbrev pub place_onward : Program → Onward → Option ℕ
 place_onward program (At q) = Some (place_of program q)
 place_onward program (Behind q) = Some (place_behind program q)
 place_onward program Leave = None
 
--- the code does what the program means, with the same bound
+-- executing the code is what the program means, with the same bound
 abbrev pub KeepsMeaning : Program → Type 0
 KeepsMeaning program = (most : ℕ) (coming : Coming) (j : Job Position)
     → turns (coded program) most (place_for program coming) (lowered program j)
@@ -63,7 +64,7 @@ KeepsMeaning program = (most : ℕ) (coming : Coming) (j : Job Position)
 abbrev pub CodeKeepsMeaning : Type 0
 CodeKeepsMeaning = (program : Program) → KeepsMeaning program
 
--- and so it does from behind a statement on, as CONT goes on
+-- the same from the statement after a given one on, as CONT continues
 abbrev pub CodeGoesOn : Type 0
 CodeGoesOn = (program : Program) (most : ℕ) (o : Onward) (j : Job Position)
     → turns_from (coded program) most (place_onward program o) (lowered program j)

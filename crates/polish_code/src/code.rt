@@ -1,4 +1,4 @@
-//! Items, DATA items, and the places of lines.
+//! Bytecode: its instructions, its DATA items, and the places of lines.
 
 ghost use Rattle.std.specs.Prelude.{◌≡◌};
 ghost use Rattle.polish_code.specs.KeptCode.{code_kept};
@@ -8,7 +8,7 @@ use crate::lines::LinePlace;
 use basic_values::Text;
 use std::marker::Model;
 
-/// The code of a program.
+/// The bytecode of a program.
 #[derive(Drop)]
 pub struct Code {
     items: Vec<Item>,
@@ -29,7 +29,8 @@ impl Model for Code {
 }
 
 impl Code {
-    /// The code of these items and DATA items, whose lines stand in rising order.
+    /// Returns the code of these instructions and DATA items, with the places of the lines in
+    /// increasing order.
     pub fn new(items: Vec<Item>, words: Vec<Text>, lines: Vec<LinePlace>) -> Code
         ensures { result
             ≡ record { items = items.items; words = words.items; lines = lines.items } }
@@ -41,21 +42,21 @@ impl Code {
         }
     }
 
-    /// The items, the first one at place 0.
+    /// Returns the instructions; the first one is at place 0.
     pub fn items(&self) -> &[Item]
         ensures { result.now ≡ self.entry.now.items }
     {
         &self.items
     }
 
-    /// The DATA items, in the order of the text.
+    /// Returns the DATA items, in the order of the text.
     pub fn words(&self) -> &[Text]
         ensures { result.now ≡ self.entry.now.words }
     {
         &self.words
     }
 
-    /// The place at which the program goes on where it goes to a line.
+    /// Returns the place at which the program continues after a jump to a line.
     pub fn place_of(&self, number: u16) -> usize
         ensures { result ≡ (code_kept self.now).line number }
     {

@@ -1,4 +1,4 @@
-//! The items of a program's code. Places are numbers of items, from 0.
+//! The instructions of a program's bytecode. Places are numbers of instructions, from 0.
 
 use basic_tree::{Function, Name, Operator, Relation, Series};
 use basic_values::Text;
@@ -6,32 +6,33 @@ use program_model::{FileAct, Home, MatrixAct};
 use record_fields::Side;
 use virtual_arrays::VirtualShape;
 
-/// An item. Values lie on a stack, the last one on top.
+/// An instruction. Values are on a stack, with the last one on top.
 #[derive(Drop)]
 pub enum Item {
-    /// A statement begins, of a line or inside another.
+    /// A statement begins: one of a line, or one inside another.
     Start(Home),
-    /// The value of a function of one line is formed from here on.
+    /// The value of a function of one line is computed from here on.
     Arrive(Home),
     Number(u16),
     Quoted(Text),
     Load(Name),
-    /// An element, by so many subscripts.
+    /// Loads an array element, by this many subscripts.
     LoadElement {
         name: Name,
         count: u32,
     },
-    /// An element of an array in a file.
+    /// Loads an element of an array in a file.
     LoadFileElement {
         array: VirtualShape,
         count: u32,
     },
-    /// A function of the language, with so many arguments.
+    /// Applies a function of the language to this many arguments.
     Apply {
         function: Function,
         count: u32,
     },
-    /// A function of the program, with so many arguments. Its body has a place where it has a DEF.
+    /// Calls a function of the program with this many arguments. If it has a DEF, its body has a
+    /// place.
     Call {
         function: Name,
         parameters: Series<Name>,
@@ -42,7 +43,8 @@ pub enum Item {
     Complement,
     Operate(Operator),
     Compare(Relation),
-    /// A store of the value below the subscripts, which stays.
+    /// Stores a value: the one on top, or for an element the one below the subscripts. It stays on
+    /// the stack.
     Store(Name),
     StoreElement {
         name: Name,
@@ -53,47 +55,50 @@ pub enum Item {
         count: u32,
     },
     Discard,
-    /// The result of the running function.
+    /// Sets the result of the running function.
     Answer,
     PrintValue,
     PrintTab,
     Zone,
     EndLine,
-    /// The channel of PRINT # lies below its items: it is tested here, and each writing goes to it.
+    /// Tests the channel of PRINT #, which is on the stack below the items. Each item is then
+    /// written to it.
     TestOutput,
-    /// What moves to a column, or to the next zone.
+    /// Gives the bytes that move to a column, or to the next zone.
     TabText,
     ZoneText,
     WriteOn,
-    /// PRINT USING writes so many values, by the format below them.
+    /// Writes this many values by PRINT USING; the format is below them.
     WriteUsing {
         count: u32,
         ends_line: bool,
     },
-    /// A line of keys, whose items are then on the stack, the first one on top.
+    /// Takes a key line. Its items are then on the stack, the first one on top.
     AskItems {
         prompt: Text,
         count: u32,
     },
     AskLine,
-    /// A line of the channel that lies on the stack, and its items, the first one on top.
+    /// Reads a line of the channel that is on the stack. Its items are then on the stack, the first
+    /// one on top.
     LineOn,
     Split(u32),
     /// The next item of DATA.
     TakeItem,
-    /// An item becomes a value, a text or a number.
+    /// Makes a value of an item, a string (true) or a number.
     Judge(bool),
     Restore,
     Jump(u32),
     JumpIf(u32),
-    /// So many items further on, always, unless the value is true, or if it is.
+    /// Skips this many instructions: always, unless the value is true, or if it is true.
     Skip(u32),
     SkipUnless(u32),
     SkipIf(u32),
-    /// So many items back, if the value is true, or unless it is.
+    /// Goes this many instructions back: if the value is true, or unless it is true.
     BackIf(u32),
     BackUnless(u32),
-    /// A FOR and its place among all; where it has no turn it goes to an item, or over so many.
+    /// Begins a loop; the place is that of its FOR among all FORs. If the loop has no turn, goes to
+    /// a place, or skips instructions.
     Open {
         variable: Name,
         place: u32,
@@ -104,7 +109,7 @@ pub enum Item {
         place: u32,
         count: u32,
     },
-    /// The next turn, at an item, or so many items back.
+    /// Goes to the next turn: to a place, or this many instructions back.
     Step {
         variable: Name,
         place: u32,
@@ -130,9 +135,9 @@ pub enum Item {
     Resume(Option<u32>),
     Stop(Home),
     End,
-    /// To another program: its name lies below the number of a line, which is 0 for none.
+    /// Chains to another program: its name is below the line number, which is 0 if there is none.
     Chain,
-    /// LSET or RSET by the last value; and by what another variable holds.
+    /// LSET or RSET: of the last value, or of what another variable contains.
     Justify {
         side: Side,
         name: Name,
@@ -142,10 +147,10 @@ pub enum Item {
         name: Name,
         by: Name,
     },
-    /// What a statement on files does, by the values of its operands, which it takes off the stack.
+    /// Does a statement on files; it takes its operands off the stack.
     Ask(FileAct),
-    /// What a statement of MAT does; the number that an array is multiplied with it takes off the stack.
+    /// Does a statement of MAT; it takes the factor of an array off the stack, if there is one.
     Matrix(MatrixAct),
-    /// Out of the body of a function.
+    /// Leaves the body of a function.
     Leave,
 }

@@ -79,8 +79,8 @@ fn push_listing(
     push_titled(out, name, text.as_slice())
 }
 
-// The writes of a listing stand in functions of their own: with the text still to be dropped at each
-// early end, one long chain of them is dear to check.
+// The writes of a listing stand in functions of their own: with the text still to be dropped at
+// each early end, one long chain of them is dear to check.
 
 /// Writes a listing with the line in front of it.
 fn push_titled(out: &mut Vec<u8>, name: &TerminalName, text: &[u8]) -> Result<(), NoMemory>

@@ -1,9 +1,11 @@
 //! Who has the printer.
 
 ghost use Rattle.std.specs.Prelude.{◌≡◌, None, OnOk, OnErr};
-ghost use Rattle.monitor_model.specs.Printing.{has_printer, is_anothers, is_assigned, is_printing, assign, open_printer, close_printer, free_printer};
+ghost use Rattle.monitor_model.specs.Printing.{has_printer, is_anothers, is_assigned, is_printing};
+ghost use Rattle.monitor_model.specs.Printing.{assign, open_printer, close_printer, free_printer};
 ghost use Rattle.monitor_model.specs.Refusals.{RefusedBy};
-ghost use Rattle.print_spool.specs.Calls.{assign_refusals, deassign_refusals, open_refusals, print_refusals, close_refusals};
+ghost use Rattle.print_spool.specs.Calls.{assign_refusals, deassign_refusals, open_refusals};
+ghost use Rattle.print_spool.specs.Calls.{print_refusals, close_refusals};
 
 use basic_values::Fault;
 use basic_values::errors::{ILLEGAL_BYTE_COUNT, IN_USE, NO_DEVICE, NOT_OPEN};
@@ -33,8 +35,8 @@ impl Printer {
         Printer { entry: None }
     }
 
-    /// A job has the printer for itself, behind its listings too. Refused by 8 where another job has
-    /// it.
+    /// A job has the printer for itself, behind its listings too. Refused by 8 where another job
+    /// has it.
     pub fn assign(&mut self, job: u32) -> Result<(), Fault>
         ensures refused { RefusedBy (assign_refusals self.old job) result }
         ensures ok { OnOk result (self.new ≡ assign self.old job) }

@@ -1,4 +1,4 @@
--- The field in front that reading finds is the longest that stands there.
+-- The field that reading finds is the longest with which the format begins.
 use Rattle.std.proofs.Common.{◌≡◌, ℕ, zero, suc, ◌<◌, ◌≤◌, ◌+◌, ◌⊎◌, Bool, true, false, cond, eqb, List, [], ◌∷◌, ◌++◌, length, drop, Option, Some, None, refl, sym, ap, subst, ◌∙◌, arith, append_assoc, length-append, inl, inr}
 use Rattle.std.specs.Prelude.{replicate, nat_le, IfSome}
 use Rattle.std.proofs.lemmas.Bool.{eqb-true, le-leb, ne_eqb}
@@ -14,13 +14,13 @@ use Rattle.print_using.proofs.RunLemmas.{run_split, run_behind, at_behind, at_fi
 pub some_is : {A : Type 0} (x y : A) → Some x ≡ Some y → x ≡ y
 some_is x y e = cc
 
--- a byte and what stands behind it
+-- a byte and what follows it
 pub front_cons : (byte : ℕ) (rest : List ℕ) → front_field (byte ∷ rest) ≡ front_by byte (byte ∷ rest)
 front_cons byte rest = ap (λ b. cond b None (front_by byte (byte ∷ rest))) (ne_eqb (suc (length rest)) 0 (λ e. omega arith))
 
--- ---- what is found stands in front
+-- ---- the format begins with what is found
 
--- there is a rest behind it
+-- there is a rest after it
 abbrev pub Stands : Field → List ℕ → Type 0
 Stands field format = (rest : List ℕ) × StandsInFront field rest format
 
@@ -69,7 +69,7 @@ stands_at_bar rest field e =
     subst (λ (f : Field). Stands f (92 ∷ rest)) found.1
     (drop (suc n) rest, record { is = ap (λ t. 92 ∷ t) whole; placed = refl })
 
--- the byte that was tested is the one in front
+-- the byte that was tested is the first one
 byte_is : (wanted byte : ℕ) (rest : List ℕ) (field : Field) → eqb byte wanted ≡ true → Stands field (wanted ∷ rest) → Stands field (byte ∷ rest)
 byte_is wanted byte rest field e stands =
     subst (λ (b : ℕ). Stands field (b ∷ rest)) (sym (eqb-true byte wanted e)) stands
@@ -104,7 +104,7 @@ front_stands [] field e = absurd cc
 front_stands (byte ∷ rest) field e =
     stands_by byte rest field (eqb byte 33) (eqb byte 92) (eqb byte 42) (eqb byte 35) refl refl refl refl (sym (front_cons byte rest) ∙ e)
 
--- ---- what stands in front is found, or a longer one
+-- ---- a field with which the format begins is found, or a longer one
 
 pub spelling_length : (starred : Bool) (signs : ℕ) (trailing : Bool) → length (field_spelling (Digits starred signs trailing)) ≡ length (stars starred) + signs + length (minus_place trailing)
 spelling_length starred signs trailing =
@@ -114,7 +114,7 @@ spelling_length starred signs trailing =
 abbrev IsOrLonger : Field → Field → Type 0
 IsOrLonger found other = (found ≡ other) ⊎ (length (field_spelling other) < length (field_spelling found))
 
--- more signs, or a minus behind as many
+-- more signs, or a minus after the same number of signs
 longer : (starred : Bool) (signs more : ℕ) (trailing : Bool) → signs < more + length (minus_place trailing) → IsOrLonger (Digits starred more trailing) (Digits starred signs false)
 longer starred signs more trailing lt =
     let short = spelling_length starred signs false in
@@ -234,7 +234,7 @@ nothing_by format (Some field) e none =
 pub nothing_found : (format : List ℕ) → HasNoFieldInFront format → front_field format ≡ None
 nothing_found format none = nothing_by format (front_field format) refl none
 
--- what stands behind the one that is found
+-- what follows the field that is found
 pub behind_field : (field : Field) (rest format : List ℕ) → StandsInFront field rest format → drop (length (field_spelling field)) format ≡ rest
 behind_field field rest format stands =
     ap (λ t. drop (length (field_spelling field)) t) stands.is ∙ drop_at (field_spelling field) rest (length (field_spelling field)) refl

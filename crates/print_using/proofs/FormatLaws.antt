@@ -8,7 +8,7 @@ use Rattle.print_using.specs.FormatFronts.{front_field, part_then, parts_behind,
 use Rattle.print_using.specs.Laws.{FormatIsReadOneWay}
 use Rattle.print_using.proofs.FieldLaws.{spelling_length, front_stands, found_is_longest, longest_is_found, nothing_stands, nothing_found, behind_field}
 
--- ---- one part, and the parts behind it
+-- ---- one part, and the parts after it
 
 behind_count : (count : ℕ) (text : List ℕ) → parts_behind count text ≡ format_parts (drop count text)
 behind_count zero text = refl

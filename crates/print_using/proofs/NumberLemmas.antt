@@ -15,7 +15,7 @@ number_then old new more starred trailing places filler signs n wide filled grew
     ∙ append_assoc old (placed_right places filler (digits_written trailing n)) more
     ∙ (λ i. old ++ (placed_right (wide i) (filled i) (digits_written trailing n) ++ minus i))
 
--- with nothing behind the digits
+-- with nothing after the digits
 pub number_alone : (old new : List ℕ) (starred trailing : Bool) (places filler signs : ℕ) (n : ℤ) → places ≡ field_places starred signs → filler ≡ filler_of starred
     → new ≡ old ++ placed_right places filler (digits_written trailing n) → trailing ≡ false → new ≡ old ++ number_written starred signs trailing n
 number_alone old new starred trailing places filler signs n wide filled grew alone =

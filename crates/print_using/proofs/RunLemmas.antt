@@ -1,19 +1,19 @@
--- Runs of a byte in front of a text, and the byte at a place.
+-- Equal bytes at the front of a text, and the byte at a place.
 use Rattle.std.proofs.Common.{◌≡◌, ℕ, zero, suc, ◌+◌, Bool, true, false, cond, eqb, List, [], ◌∷◌, ◌++◌, drop, refl, sym, ap, ◌∙◌, arith, eq-eqb}
 use Rattle.std.specs.Prelude.{replicate}
 use Rattle.std.proofs.lemmas.Bool.{eqb-true}
 use Rattle.print_using.specs.FormatFronts.{run_of, has_at}
 
--- ---- runs
+-- ---- equal bytes at the front
 
--- a run is one longer than behind its first byte
+-- one more than after the first byte
 run_more : (byte x : ℕ) (xs : List ℕ) → eqb x byte ≡ true → run_of byte (x ∷ xs) ≡ suc (run_of byte xs)
 run_more byte x xs e = ap (λ b. cond b (1 + run_of byte xs) 0) e ∙ omega arith
 
 run_none : (byte x : ℕ) (xs : List ℕ) → eqb x byte ≡ false → run_of byte (x ∷ xs) ≡ 0
 run_none byte x xs e = ap (λ b. cond b (1 + run_of byte xs) 0) e
 
--- the text is its run and what stands behind it
+-- the text is its equal bytes and what follows them
 abbrev split_at : ℕ → ℕ → List ℕ → List ℕ
 split_at n byte text = replicate n byte ++ drop n text
 
@@ -26,7 +26,7 @@ pub run_split : (byte : ℕ) (text : List ℕ) → text ≡ replicate (run_of by
 run_split byte [] = refl
 run_split byte (x ∷ xs) = run_split_by byte x xs (eqb x byte) refl (run_split byte xs)
 
--- so many of the byte in front make the run so much longer
+-- with n more of the byte in front there are n more of them
 pub run_behind : (byte n : ℕ) (text : List ℕ) → run_of byte (replicate n byte ++ text) ≡ n + run_of byte text
 run_behind byte zero text = omega arith
 run_behind byte (suc n) text =
@@ -42,7 +42,7 @@ at_behind byte wanted (suc n) text place =
     let one : suc n + place ≡ suc (n + place) = omega arith in
     ap (λ k. has_at wanted k (replicate (suc n) byte ++ text)) one ∙ at_behind byte wanted n text place
 
--- what stands at a place is the first of what stands from there on
+-- the byte at a place is the first of the bytes from there on
 pub at_first : (byte place : ℕ) (text : List ℕ) → eqb 0 byte ≡ false → has_at byte place text ≡ true → drop place text ≡ byte ∷ drop (suc place) text
 at_first byte place [] nonzero e = absurd cc
 at_first byte zero (x ∷ xs) nonzero e = λ i. eqb-true x byte e i ∷ xs

@@ -1,4 +1,4 @@
--- Rows of PRINT USING, worked out.
+-- Rows of PRINT USING, computed.
 use Rattle.std.proofs.Common.{◌≡◌, [], ◌∷◌, Ok, Err, refl}
 use Rattle.std.specs.Prelude.{codes, pos, negsuc}
 use Rattle.std.specs.Fmt.{digits}
@@ -48,7 +48,7 @@ too_few_before_the_minus : using_bytes (codes "#-") (PrintedNumber (negsuc 41) �
 unfolding front_by digits
 too_few_before_the_minus = refl
 
--- ---- texts
+-- ---- strings
 
 cut_and_placed : using_bytes (codes "\\ \\ ##;") (PrintedText (codes "ABCD") ∷ PrintedNumber (pos 5) ∷ []) ≡ Ok (codes "ABC  5;")
 unfolding front_by digits

@@ -48,7 +48,8 @@ over_front : (P : List ℕ → Type 0) → IsHere P → Passes P → (byte : ℕ
 over_front P here passes byte rest true e again = here (byte ∷ rest) e
 over_front P here passes byte rest false e again = passes byte rest e again
 
--- what holds of nothing and of what begins with a field, and passes over a byte, holds of every text
+-- What holds for the empty text and for one that begins with a field, and still holds with one more
+-- byte in front, holds for every text.
 over_bytes : (P : List ℕ → Type 0) → P [] → IsHere P → Passes P → (text : List ℕ) → P text
 over_bytes P empty here passes [] = empty
 over_bytes P empty here passes (byte ∷ rest) =
@@ -74,7 +75,7 @@ parts_here text e =
     let found = some_of (front_field text) e in
     (found.0, format_parts (drop (length (field_spelling found.0)) text), field_first text found.0 found.1)
 
--- ---- what stands from the field on
+-- ---- the format from the field on
 
 abbrev IsReady : List ℕ → Type 0
 IsReady text = (from_field text ≡ []) ⊎ (is_some (front_field (from_field text)) ≡ true)
@@ -123,7 +124,7 @@ behind_both : (a b : List ℕ) (one : OneWritten) → behind_bytes a (behind_byt
 behind_both a b (Ok one) = ap (λ t. Ok (t, one.1)) (sym (append_assoc a b one.0))
 behind_both a b (Err fault) = refl
 
--- whatever parts stand behind those of the text
+-- whatever parts follow those of the text
 abbrev IsBehind : List ℕ → Type 0
 IsBehind text = (parts : List FormatPart) (value : PrintedValue) →
     by_next_field (format_parts text ++ parts) value
@@ -262,7 +263,7 @@ pub front_both : (a b : List ℕ) (written : Result (List ℕ) ℕ) → with_fro
 front_both a b (Ok bytes) = ap (λ t. Ok t) (sym (append_assoc a b bytes))
 front_both a b (Err fault) = refl
 
--- behind the last value
+-- after the last value
 pub all_written : (format left : List ℕ) (values : List PrintedValue) (written : Result (List ℕ) ℕ) (more old grown new : List ℕ) → values ≡ [] → written ≡ with_front more (using_from (format_parts format) (format_parts left) values) → grown ≡ old ++ more → new ≡ grown ++ before_field left → (all : List ℕ) × (written ≡ Ok all) × (new ≡ old ++ all)
 all_written format left values written more old grown new none so_far grew last = (
   more ++ before_field left,
@@ -277,7 +278,7 @@ pub none_yet : (format : List ℕ) (values : List PrintedValue) (written : Resul
     → (more : List ℕ) × (written ≡ with_front more (using_from (format_parts format) (format_parts format) values)) × (old ≡ old ++ more)
 none_yet format values written old is = ([], is ∙ front_none (using_from (format_parts format) (format_parts format) values), sym (append-nil old))
 
--- behind one value more
+-- after one more value
 pub one_more : (format left rest : List ℕ) (value : PrintedValue) (here values : List PrintedValue) (written : Result (List ℕ) ℕ) (more own old grown new : List ℕ) → here ≡ value ∷ values
     → written ≡ with_front more (using_from (format_parts format) (format_parts left) here) → grown ≡ old ++ more → one_of format left value ≡ Ok (own, format_parts rest) → new ≡ grown ++ own
     → (all : List ℕ) × (written ≡ with_front all (using_from (format_parts format) (format_parts rest) values)) × (new ≡ old ++ all)

@@ -15,14 +15,14 @@ stars starred = if starred then 42 ∷ 42 ∷ [] else []
 abbrev pub minus_place : Bool → List ℕ
 minus_place trailing = if trailing then 45 ∷ [] else []
 
--- `!`; or `\`, some spaces, `\`; or `**` or nothing, some `#`, `-` or nothing
+-- `!`; or `\`, spaces, `\`; or an optional `**`, one or more `#`, an optional `-`
 abbrev pub field_spelling : Field → List ℕ
 field_spelling Initial = 33 ∷ []
 field_spelling (Column spaces) = 92 ∷ replicate spaces space ++ 92 ∷ []
 field_spelling (Digits starred signs trailing) =
     stars starred ++ replicate signs 35 ++ minus_place trailing
 
--- a field for a number has a place for it
+-- a field for a number has at least one place
 abbrev pub has_place : Field → Bool
 has_place Initial = true
 has_place (Column spaces) = true
@@ -30,11 +30,12 @@ has_place (Digits starred signs trailing) = starred || nat_le 1 signs
 
 -- WHAT A FIELD WRITES
 
--- so many bytes of the text, with spaces behind a shorter one
+-- this many bytes of the string, padded with spaces
 abbrev pub cut_to : ℕ → List ℕ → List ℕ
 cut_to width text = padded width (take width text)
 
--- at the right end of so many places, filled up in front; in full behind a `%` where they are too few
+-- right-aligned in this many places, filled in front; or `%` and all digits, if there are too few
+-- places
 abbrev pub placed_right : ℕ → ℕ → List ℕ → List ℕ
 placed_right places filler digits =
     if nat_le (length digits) places
@@ -47,7 +48,7 @@ field_places starred signs = (if starred then 2 else 0) + signs
 abbrev pub filler_of : Bool → ℕ
 filler_of starred = if starred then 42 else space
 
--- a minus or nothing in front of the digits, where none is written behind them
+-- the digits, after a minus if the number is below 0 and the field has no minus at its end
 abbrev pub digits_written : Bool → ℤ → List ℕ
 digits_written trailing n = if trailing then decimal (unsigned_abs n) else signed_decimal n
 
@@ -60,7 +61,7 @@ number_written starred signs trailing n =
     placed_right (field_places starred signs) (filler_of starred) (digits_written trailing n)
     ++ minus_written trailing n
 
--- the bytes, or the error where the field is one for values of the other kind
+-- the bytes, or the error if the field is for values of the other kind
 abbrev pub field_bytes : Field → PrintedValue → Result (List ℕ) ℕ
 field_bytes Initial (PrintedText text) = Ok (cut_to 1 text)
 field_bytes (Column spaces) (PrintedText text) = Ok (cut_to (spaces + 2) text)

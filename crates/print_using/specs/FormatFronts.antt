@@ -1,5 +1,5 @@
--- The parts of a format as a function. `Laws` has it that it finds the parts of `Formats`, so who knows those need not
--- read this file.
+-- The parts of a format as a function. `Laws` says that it finds the parts of `Formats`, so if you
+-- know those, you need not read this file.
 use Rattle.std.specs.Prelude.{ℕ, zero, suc, ◌+◌, ◌-◌, ◌==◌, Bool, true, false, if◌then◌else◌, List, [], ◌∷◌, length, take, drop, slice_index_or, Option, Some, None, is_some}
 use Rattle.std.specs.List.{prefix_len}
 use Rattle.print_using.specs.declared.fields.Field.{Field}
@@ -9,7 +9,7 @@ use Rattle.print_using.specs.Formats.{FormatPart, OfByte, OfField}
 
 -- THE LONGEST FIELD IN FRONT
 
--- how many of this byte stand in front, and whether that byte stands behind them
+-- how many of this byte the text begins with, and whether that byte follows them
 abbrev pub run_of : ℕ → List ℕ → ℕ
 run_of byte text = prefix_len (λ b. b == byte) text
 
@@ -38,13 +38,13 @@ abbrev pub front_field : List ℕ → Option Field
 front_field format =
     if length format == 0 then None else front_by (slice_index_or format 0 0) format
 
--- how many bytes stand in front of the first field, or of the end
+-- how many bytes are before the first field, or before the end
 abbrev pub bytes_before_field : List ℕ → ℕ
 bytes_before_field [] = 0
 bytes_before_field (byte ∷ rest) =
     if is_some (front_field (byte ∷ rest)) then 0 else 1 + bytes_before_field rest
 
--- what stands in front of it, and the text from there on
+-- what is before it, and the text from there on
 abbrev pub before_field : List ℕ → List ℕ
 before_field text = take (bytes_before_field text) text
 
@@ -53,7 +53,7 @@ from_field text = drop (bytes_before_field text) text
 
 -- THE PARTS
 
--- the part in front, with what is read behind so many bytes more
+-- the first part, and the parts that are read after this many more bytes
 abbrev pub part_then : Option Field → ℕ → (ℕ → List FormatPart) → List FormatPart
 part_then None byte behind = OfByte byte ∷ behind 0
 part_then (Some field) byte behind = OfField field ∷ behind (length (field_spelling field) - 1)

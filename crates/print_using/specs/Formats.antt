@@ -7,7 +7,7 @@ pub data FormatPart : Type 0 where
   OfByte : ℕ → FormatPart
   OfField : Field → FormatPart
 
--- the field stands in front of the format, and the rest behind it
+-- the format is the field, followed by the rest
 pub record StandsInFront (field : Field) (rest format : List ℕ) : Type 0 where
   pub is : format ≡ field_spelling field ++ rest
   pub placed : has_place field ≡ true
@@ -15,13 +15,13 @@ pub record StandsInFront (field : Field) (rest format : List ℕ) : Type 0 where
 abbrev pub HasNoFieldInFront : List ℕ → Type 0
 HasNoFieldInFront format = (field : Field) (rest : List ℕ) → StandsInFront field rest format → ⊥
 
--- and no field that stands in front is longer
+-- and the format begins with no longer field
 pub record IsLongestField (field : Field) (rest format : List ℕ) : Type 0 where
   pub in_front : StandsInFront field rest format
   pub longest : (other : Field) (behind : List ℕ) → StandsInFront other behind format →
       length (field_spelling other) ≤ length (field_spelling field)
 
--- THE PARTS OF A FORMAT, from its left: the longest field is taken, and a byte where none stands
+-- THE PARTS OF A FORMAT, from the left: the longest field, or a byte if it begins with no field
 abbrev pub IsFormatOf : List FormatPart → List ℕ → Type 0
 IsFormatOf [] format = format ≡ []
 IsFormatOf (OfByte byte ∷ parts) format =

@@ -7,7 +7,7 @@ pub data PrintedValue : Type 0 where
   PrintedNumber : ℤ → PrintedValue
   PrintedText : List ℕ → PrintedValue
 
--- a value without where the bytes of a text lie in memory
+-- a value, without pointers
 abbrev pub printed_value : Using → PrintedValue
 printed_value (Number n) = PrintedNumber n
 printed_value (Text text) = PrintedText text.now

@@ -1,7 +1,9 @@
 //! The fields of a format, and what each writes.
 
 ghost use Rattle.std.specs.Prelude.{◌≡◌, ◌<◌, ◌^◌, ◌++◌, ◌∷◌, [], length, replicate, OnOk};
-ghost use Rattle.print_using.specs.Fields.{field_spelling, cut_to, placed_right, field_places, filler_of, digits_written, minus_written, number_written, field_bytes};
+ghost use Rattle.print_using.specs.Fields.{field_spelling, cut_to, placed_right, field_places};
+ghost use Rattle.print_using.specs.Fields.{filler_of, digits_written, minus_written};
+ghost use Rattle.print_using.specs.Fields.{number_written, field_bytes};
 ghost use Rattle.print_using.specs.Adding.{AddsWritten};
 ghost use Rattle.print_using.specs.Values.{printed_value};
 
@@ -13,14 +15,14 @@ use itoa::Buffer;
 /// A field of a format.
 #[derive(Clone, Copy)]
 pub enum Field {
-    /// `!`, the first byte of a text.
+    /// `!`: the first byte of a string.
     Initial,
-    /// `\`, some spaces and `\`: as many bytes of a text as the field has.
+    /// `\`, any number of spaces and `\`: as many bytes of a string as the field has.
     Column {
         spaces: usize,
     },
-    /// Some `#`, a place each, for a number at their right end. With `**` in front it has two places more and is filled
-    /// by `*`. With `-` behind, a minus stands there.
+    /// One or more `#`, one place each, for a number, right-aligned. With `**` in front it has two
+    /// more places and is filled with `*`. With `-` at the end, the minus is written there.
     Digits {
         starred: bool,
         signs: usize,
@@ -29,7 +31,7 @@ pub enum Field {
 }
 
 impl Field {
-    /// How many bytes spell it.
+    /// Returns how many bytes spell the field.
     pub(crate) fn width(self) -> usize
         requires { length (field_spelling self) < 2 ^ 63 }
         ensures { result ≡ length (field_spelling self) }
@@ -46,7 +48,7 @@ impl Field {
     }
 }
 
-/// Writes what the field writes of the value. Error 50 is "Data format error": the field is one for values of the
+/// Writes the value in the field. Error 50 is "Data format error": the field is for values of the
 /// other kind, and nothing is written.
 pub(crate) fn write_field(
     bytes: &mut Vec<u8>,
@@ -73,7 +75,7 @@ pub(crate) fn write_field(
     Ok(())
 }
 
-/// Writes so many bytes of the text, with spaces behind a shorter one.
+/// Writes this many bytes of the string, padded with spaces.
 fn write_cut(bytes: &mut Vec<u8>, width: usize, text: &[u8]) -> Result<(), NoMemory>
     ensures { OnOk result (bytes.new.items ≡ bytes.old.items ++ cut_to width text.now) }
 {
@@ -82,7 +84,7 @@ fn write_cut(bytes: &mut Vec<u8>, width: usize, text: &[u8]) -> Result<(), NoMem
     write_times(bytes, width - count, b' ')
 }
 
-/// Writes a byte so many times.
+/// Writes a byte this many times.
 fn write_times(bytes: &mut Vec<u8>, count: usize, byte: u8) -> Result<(), NoMemory>
     ensures { OnOk result (bytes.new.items ≡ bytes.old.items ++ replicate count byte) }
 {
@@ -92,7 +94,7 @@ fn write_times(bytes: &mut Vec<u8>, count: usize, byte: u8) -> Result<(), NoMemo
     Ok(())
 }
 
-/// Writes the number in such a field.
+/// Writes the number in a field for numbers.
 fn write_number(
     bytes: &mut Vec<u8>,
     starred: bool,
@@ -113,7 +115,7 @@ fn write_number(
     Ok(())
 }
 
-/// Writes the digits of the number, with its minus where none stands behind them.
+/// Writes the digits of the number, after its minus, unless the field has the minus at its end.
 fn write_digits(
     bytes: &mut Vec<u8>,
     places: usize,
@@ -122,7 +124,8 @@ fn write_digits(
     n: i16,
 ) -> Result<(), NoMemory>
     ensures { OnOk result
-        (bytes.new.items ≡ bytes.old.items ++ placed_right places filler (digits_written trailing n)) }
+        (bytes.new.items
+        ≡ bytes.old.items ++ placed_right places filler (digits_written trailing n)) }
 {
     let mut buffer = Buffer::new();
     let digits = if trailing {
@@ -133,7 +136,8 @@ fn write_digits(
     write_right(bytes, places, filler, digits.as_bytes())
 }
 
-/// Writes digits at the right end of so many places, or all of them behind a `%` where they are too few.
+/// Writes digits right-aligned in this many places, or, if they need more places, a `%` and all of
+/// them.
 fn write_right(
     bytes: &mut Vec<u8>,
     places: usize,

@@ -1,13 +1,15 @@
-//! Reads a format from its left.
+//! Reads a format from the left.
 
 ghost use Rattle.std.specs.Prelude.{◌≡◌, ◌≤◌, ◌==◌, length, IfSome};
 ghost use Rattle.std.specs.List.{prefix_len};
 ghost use Rattle.print_using.specs.Fields.{field_spelling};
-ghost use Rattle.print_using.specs.FormatFronts.{run_of, has_at, digits_front, column_front, starred_front, front_by, front_field, bytes_before_field};
+ghost use Rattle.print_using.specs.FormatFronts.{run_of, has_at, digits_front, column_front};
+ghost use Rattle.print_using.specs.FormatFronts.{starred_front, front_by, front_field};
+ghost use Rattle.print_using.specs.FormatFronts.{bytes_before_field};
 
 use crate::fields::Field;
 
-/// The longest field that stands in front of the format.
+/// Returns the longest field with which the format begins, if there is one.
 pub(crate) fn front_field(format: &[u8]) -> Option<Field>
     ensures field { result ≡ front_field format.now }
     ensures within { IfSome result (λ field. length (field_spelling field) ≤ length format.now) }
@@ -18,7 +20,7 @@ pub(crate) fn front_field(format: &[u8]) -> Option<Field>
     front_by(format[0], format)
 }
 
-/// The field that begins with this byte, the first of the format.
+/// Returns the field that begins with this byte, the first of the format.
 #[tactic(auto, unfolding(crate::specs::FormatFronts::front_by))]
 fn front_by(byte: u8, format: &[u8]) -> Option<Field>
     requires { 1 ≤ length format.now }
@@ -33,7 +35,7 @@ fn front_by(byte: u8, format: &[u8]) -> Option<Field>
     }
 }
 
-/// The field for a text, behind its first `\`.
+/// Returns the field for a string, from the bytes after its first `\`.
 fn column_front(rest: &[u8]) -> Option<Field>
     ensures { result ≡ column_front rest.now }
 {
@@ -45,7 +47,7 @@ fn column_front(rest: &[u8]) -> Option<Field>
     }
 }
 
-/// The field for a number, behind its first `*`.
+/// Returns the field for a number, from the bytes after its first `*`.
 fn starred_front(rest: &[u8]) -> Option<Field>
     ensures { result ≡ starred_front rest.now }
 {
@@ -56,7 +58,7 @@ fn starred_front(rest: &[u8]) -> Option<Field>
     }
 }
 
-/// The field for a number, from its first `#` on.
+/// Returns the field for a number, from its first `#` on.
 fn digits_front(starred: bool, text: &[u8]) -> Field
     ensures { result ≡ digits_front starred text.now }
 {
@@ -68,21 +70,21 @@ fn digits_front(starred: bool, text: &[u8]) -> Field
     }
 }
 
-/// How many of this byte stand in front.
+/// Returns how many of this byte the text begins with.
 fn run_of(byte: u8, text: &[u8]) -> usize
     ensures { result ≡ run_of byte text.now }
 {
     text.iter().take_while(|b| **b == byte).count()
 }
 
-/// Whether the byte stands at the place.
+/// Returns whether the byte is at the place.
 fn has_at(byte: u8, place: usize, text: &[u8]) -> bool
     ensures { result ≡ has_at byte place text.now }
 {
     text.get(place).copied().unwrap_or(0) == byte
 }
 
-/// How many bytes stand in front of the first field, or of the end.
+/// Returns how many bytes are before the first field, or before the end.
 pub(crate) fn bytes_before_field(format: &[u8]) -> usize
     ensures count { result ≡ bytes_before_field format.now }
     ensures within { result ≤ length format.now }

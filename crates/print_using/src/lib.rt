@@ -1,9 +1,10 @@
-//! PRINT USING: what a format writes of values.
+//! PRINT USING: what is written of values by a format.
 //!
-//! It stands on `basic_values`. `specs/Formats` says which list of fields and bytes a format is, `specs/Fields` how each
-//! field is spelled and what it writes, `specs/Using` how the fields take the values one behind the other.
-//! `format_values` carries that it answers those bytes, or error 50 exactly where no field takes a value;
-//! `format_line`, the same with the end of a line behind them; `laws`, that a format is read in one way.
+//! `specs/Formats` says which list of fields and bytes a format is, `specs/Fields` how each field
+//! is spelled and what it writes, and `specs/Using` how the fields take the values in order.
+//! `format_values` promises exactly these bytes, or error 50 exactly if no field takes a value.
+//! `format_line` promises the same, and the end of a line. `laws` says that a format is read in one
+//! way only.
 #![tactic(auto)]
 
 mod fields;

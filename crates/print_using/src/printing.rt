@@ -13,8 +13,8 @@ use basic_values::errors::DATA_FORMAT_ERROR;
 use basic_values::{Fault, NoMemory, Text2, Trouble};
 use std::alloc::Global;
 
-/// What the format writes of the values. Error 50 is "Data format error": a value meets a field for values of the
-/// other kind, or there is no field for it.
+/// Returns what is written of the values by the format. Error 50 is "Data format error": a value
+/// comes to a field for values of the other kind, or there is no field for it.
 pub fn format_values(
     alloc: Global,
     format: &[u8],
@@ -27,7 +27,7 @@ pub fn format_values(
     Ok(Text2::from_vec(bytes))
 }
 
-/// The same with the end of a line behind it, as PRINT USING without a last separator writes it.
+/// Returns the same and the end of a line, as PRINT USING without a separator at its end writes it.
 pub fn format_line(
     alloc: Global,
     format: &[u8],
@@ -50,7 +50,7 @@ fn write_line_end(bytes: &mut Vec<u8>) -> Result<(), NoMemory>
     Ok(())
 }
 
-/// Writes the values one behind the other.
+/// Writes the values one after the other.
 fn write_values(
     bytes: &mut Vec<u8>,
     format: &[u8],
@@ -67,7 +67,7 @@ fn write_values(
     Ok(())
 }
 
-/// Writes one value, and gives what is left of the format behind its field.
+/// Writes one value, and returns the format after its field.
 fn write_value<'a>(
     bytes: &mut Vec<u8>,
     format: &'a [u8],
@@ -87,8 +87,8 @@ fn write_value<'a>(
     }
 }
 
-/// Writes the bytes that stand before the next field, and gives the format from there on. Where no field is left the
-/// format begins again.
+/// Writes the bytes before the next field, and returns the format from that field on. If no field
+/// is left, the format begins again.
 #[tactic(auto, using(crate::proofs::WritingLemmas::reaches_left, crate::proofs::WritingLemmas::reaches_again))]
 fn write_to_next<'a>(
     bytes: &mut Vec<u8>,
@@ -106,7 +106,7 @@ fn write_to_next<'a>(
     }
 }
 
-/// Writes the bytes that stand before the next field, and gives what stands from there on.
+/// Writes the bytes before the next field, and returns the format from that field on.
 fn write_to_field<'a>(bytes: &mut Vec<u8>, left: &'a [u8]) -> Result<&'a [u8], NoMemory>
     ensures written { OnOk result (bytes.new.items ≡ bytes.old.items ++ before_field left.now) }
     ensures rest { IfOk result (λ rest. rest.now ≡ from_field left.now) }

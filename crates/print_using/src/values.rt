@@ -1,6 +1,6 @@
 //! The values of PRINT USING.
 
-/// What PRINT USING writes: a whole number of 16 bits, or the bytes of a text.
+/// A value of PRINT USING: a 16-bit integer, or the bytes of a string.
 #[derive(Clone, Copy)]
 pub enum Using<'a> {
     Number(i16),

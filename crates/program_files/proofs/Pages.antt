@@ -3,7 +3,7 @@ use Rattle.std.proofs.Common.{◌≡◌, ℕ, suc, List, [], ◌∷◌, ◌++◌
 use Rattle.std.specs.Prelude.{Result, Err}
 use Rattle.std.specs.Result.{IsErrAnd}
 use Rattle.basic_values.specs.declared.failures.Stop.{Stop}
-use Rattle.monitor_calls.specs.Pairs.{Pair}
+use Rattle.monitor_calls.specs.declared.events.Event.{Event}
 use Rattle.job_model.specs.Act.{Gives, ◌then◌}
 use Rattle.job_model.specs.Play.{Clock}
 use Rattle.job_model.specs.Follow.{Follows, answered_by}
@@ -12,7 +12,7 @@ use Rattle.program_files.specs.Channels.{FileAct, gets, puts}
 use Rattle.program_files.specs.Programs.{gets_from, puts_from}
 use Rattle.job_model.proofs.Thens.{then_assoc, then_gives}
 
--- what is left of the reading behind these pages
+-- what is left to read after these pages
 abbrev pub left_to_get : List (List ℕ) → ℕ → ℕ → FileAct (List (List ℕ))
 left_to_get got block more = gets_from block more then λ pages _. Gives (got ++ pages) tt
 
@@ -32,7 +32,7 @@ one_more got block more =
         then_assoc (gets_from (suc block) more) (λ pages _. Gives (page ∷ pages) tt) (λ pages _. Gives (got ++ pages) tt)
         ∙ ap (λ (next : List (List ℕ) → Unit {0} → FileAct (List (List ℕ))). gets_from (suc block) more then next) (λ i pages u. Gives (sym (append_assoc got (page ∷ []) pages) i) tt)
 
-module _ {P W : Type 0} {who : P → W} {log : P → List Pair} where
+module _ {P W : Type 0} {who : P → W} {log : P → List Event} where
   -- one more page was read
   pub got_one : {start p q : P} {c : Clock} {whole : FileAct (List (List ℕ))} (got : List (List ℕ)) (block n more next : ℕ) (page : List ℕ) → n ≡ suc more → next ≡ suc block
       → Follows who log start p c c whole (Some (left_to_get got block n)) → Follows who log p q c c (gets block) (Some (Gives page tt)) → Follows who log start q c c whole (Some (left_to_get (got ++ page ∷ []) next more))
@@ -41,7 +41,7 @@ module _ {P W : Type 0} {who : P → W} {log : P → List Pair} where
       (follows_on (follows_to (ap (λ (k : ℕ). Some (left_to_get got block k)) is ∙ ap Some (one_more got block more)) f)
       (follows_with (λ page _. left_to_get (got ++ page ∷ []) (suc block) more) g follows_stay))
 
-  -- a page was refused
+  -- reading a page failed
   pub got_stopped : {start p q : P} {c : Clock} {whole : FileAct (List (List ℕ))} (got : List (List ℕ)) (block n more : ℕ) (e : Stop) (result : Result (List (List ℕ)) Stop) → n ≡ suc more → IsErrAnd result (λ x. x ≡ e)
       → Follows who log start p c c whole (Some (left_to_get got block n)) → Follows who log p q c c (gets block) (answered_by (Err e) tt) → Follows who log start q c c whole (answered_by result tt)
   got_stopped got block n more e result is lost f g =

@@ -1,8 +1,8 @@
--- The blocks of a file printed one after another.
+-- The blocks of a file, printed one after another.
 use Rattle.std.proofs.Common.{◌≡◌, ℕ, suc, List, Some, Result, Err, sym, ap}
 use Rattle.std.specs.Result.{IsErrAnd}
 use Rattle.basic_values.specs.declared.failures.Stop.{Stop}
-use Rattle.monitor_calls.specs.Pairs.{Pair}
+use Rattle.monitor_calls.specs.declared.events.Event.{Event}
 use Rattle.job_model.specs.Act.{Gives}
 use Rattle.job_model.specs.Play.{Clock}
 use Rattle.job_model.specs.Follow.{Follows, answered_by}
@@ -10,7 +10,7 @@ use Rattle.job_model.proofs.Follows.{follows_to, follows_with, follows_on, follo
 use Rattle.program_files.specs.Channels.{FileAct}
 use Rattle.program_files.specs.Listings.{prints_block, prints_from}
 
-module _ {P W : Type 0} {who : P → W} {log : P → List Pair} where
+module _ {P W : Type 0} {who : P → W} {log : P → List Event} where
   at_block : {start p : P} {c : Clock} {whole : FileAct (Unit {0})} (block n more : ℕ) → n ≡ suc more
       → Follows who log start p c c whole (Some (prints_from block n)) → Follows who log start p c c whole (Some (prints_from block (suc more)))
   at_block block n more is so_far = follows_to (ap (λ (k : ℕ). Some (prints_from block k)) is) so_far

@@ -10,7 +10,8 @@ use Rattle.basic_values.specs.Texts.{space}
 use Rattle.job_model.specs.Act.{Act, Gives, Breaks, Gone, ◌then◌}
 use Rattle.job_model.specs.Asking.{ask}
 
--- A LINE: the stem in 6 places, a point, the extension in 3, the blocks in 6 on the right, the code
+-- A LINE: the stem in 6 columns, a point, the extension in 3, the blocks in 6 right-aligned, the
+-- code
 
 abbrev pub at_left : ℕ → List ℕ → List ℕ
 at_left width text = text ++ replicate (width - length text) space
@@ -18,7 +19,7 @@ at_left width text = text ++ replicate (width - length text) space
 abbrev pub at_right : ℕ → List ℕ → List ℕ
 at_right width text = replicate (width - length text) space ++ text
 
--- a dash where they are not told
+-- a dash if they are not known
 abbrev pub blocks_text : Option ℕ → List ℕ
 blocks_text None = codes "-"
 blocks_text (Some blocks) = decimal blocks
@@ -33,7 +34,7 @@ file_line name code blocks =
 abbrev pub ScreenAct : Type 0 → Type 0
 ScreenAct A = Act ⊥ (List ℕ) A
 
--- whether there was a file, whose line is written
+-- whether there was a file; its line is written
 abbrev pub shown_by : Reply → List ℕ → ScreenAct Bool
 shown_by (Name name code blocks) screen = Gives true (screen ++ file_line name code blocks)
 shown_by (Failed number) screen = Gives false screen
@@ -42,7 +43,7 @@ shown_by reply screen = Breaks Gone screen
 abbrev pub shows_file : Account → ℕ → List ℕ → ScreenAct Bool
 shows_file owner index screen = ask (Directory owner index) screen then shown_by
 
--- from this index on, up to the first at which there is none, and so many at the most
+-- from this index on, up to the first at which there is no file, and at most this many
 unfoldable pub catalog_from : Account → ℕ → ℕ → List ℕ → ScreenAct Unit
 catalog_from owner index zero screen = Gives tt screen
 catalog_from owner index (suc more) screen =

@@ -1,4 +1,4 @@
--- What is done on a file through the channel of the command level. Nothing is kept meanwhile.
+-- What is done on a file through the command level's channel, as interaction trees without a state.
 use Rattle.std.specs.Prelude.{ℕ, false, List, Option}
 use Rattle.monitor_calls.specs.declared.files.FileName.{FileName}
 use Rattle.monitor_calls.specs.declared.files.OpenKind.{OpenKind}
@@ -15,11 +15,11 @@ FileAct A = ReplyAct A
 
 -- THE REQUESTS
 
--- it gives how many blocks the file has; the code is for a file that is made
+-- it gives the file's number of blocks; the code is for a new file
 abbrev pub opens : FileName → OpenKind → Option ℕ → FileAct ℕ
 opens name kind code = asks_for opened_by (request.OpenFile CHANNEL name kind false code)
 
--- what is asked to close it
+-- the request that closes it
 abbrev pub closes : Opened → FileAct Unit
 closes opened.Channel = asks_for done_by (request.CloseFile CHANNEL)
 closes opened.Printer = asks_for done_by request.ClosePrinter
@@ -33,14 +33,14 @@ puts block page = asks_for done_by (request.Put CHANNEL block page)
 abbrev pub kills : FileName → FileAct Unit
 kills name = asks_for done_by (request.Kill name)
 
--- WHAT WAS OPENED IS CLOSED BEHIND WHAT WAS DONE, behind a fault too. The first fault is the one that is told.
+-- WHAT WAS OPENED IS CLOSED AFTER ITS USE, also after an error. The first error is the result.
 
--- another fault comes too late
+-- a later error is ignored
 abbrev pub first_told : {A : Type 0} → ℕ → Break ⊥ → FileAct A
 first_told first (Faulted number) = Breaks (Faulted first) tt
 first_told first why = Breaks why tt
 
--- a fault stands, whatever fault comes behind it
+-- an error stays the result, whatever error follows it
 abbrev pub still_faulted : {A B : Type 0} → ℕ → FileAct A → FileAct B
 still_faulted first act =
     at_ends (λ u. u) (λ _ _. Breaks (Faulted first) tt) (λ why _. first_told first why) act

@@ -1,4 +1,5 @@
--- How a file is printed: all its blocks in order, as one listing. The printer can be kept for later listings.
+-- How a file is printed: all its blocks in order, as one print job. The printer can be reserved for
+-- several.
 use Rattle.std.specs.Prelude.{ℕ, zero, suc, not, ◌==◌, List, filter, Option}
 use Rattle.monitor_calls.specs.declared.files.FileName.{FileName}
 use Rattle.monitor_calls.specs.declared.files.OpenKind.TheVariants.{Input}
@@ -26,21 +27,21 @@ text_on page = filter (λ byte. not (byte == 0)) page
 abbrev pub prints : List ℕ → FileAct Unit
 prints page = asks_for done_by (request.Print (text_on page))
 
--- A LISTING
+-- A PRINT JOB
 
 abbrev pub prints_block : ℕ → FileAct Unit
 prints_block block = gets block then λ page _. prints page
 
--- so many blocks from this one on; the first fault ends them
+-- this many blocks, from this one on; the first error ends it
 abbrev pub prints_from : ℕ → ℕ → FileAct Unit
 prints_from block zero = Gives tt tt
 prints_from block (suc more) = prints_block block then λ _ _. prints_from (suc block) more
 
--- a listing of so many blocks
+-- a print job of this many blocks
 abbrev pub prints_blocks : ℕ → FileAct Unit
 prints_blocks blocks = begins_listing then λ _ _. closed_behind Printer (prints_from 1 blocks)
 
--- a file that is there
+-- an existing file
 abbrev pub prints_file : FileName → Option ℕ → FileAct Unit
 prints_file name code =
     opens name Input code then λ blocks _. closed_behind Channel (prints_blocks blocks)

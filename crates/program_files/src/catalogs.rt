@@ -1,4 +1,4 @@
-//! The catalog of an account on a screen.
+//! Shows the catalog of an account on a screen.
 
 ghost use Rattle.std.specs.Prelude.{ℕ, ◌≡◌, ◌≤◌, ◌++◌, replicate, IfOk, OnOk};
 ghost use Rattle.basic_values.specs.Texts.{space};
@@ -9,7 +9,8 @@ ghost use Rattle.job_model.specs.Follow.{Follows, answered_by};
 ghost use Rattle.job_model.specs.Play as play;
 ghost use Rattle.monitor_calls.specs.declared.names.Account.{Account as TheAccount};
 ghost use Rattle.program_files.specs.Taken.{IsTold};
-ghost use Rattle.program_files.specs.Catalogs.{shown_by, at_left, at_right, blocks_text, file_line, catalog_from, shows_file};
+ghost use Rattle.program_files.specs.Catalogs.{shown_by, at_left, at_right, blocks_text, file_line};
+ghost use Rattle.program_files.specs.Catalogs.{catalog_from, shows_file};
 
 use basic_values::limits::MOST_FILES;
 use basic_values::{NoMemory, Stop};
@@ -19,13 +20,13 @@ use monitor_calls::{Account, FileName, Port, Reply, Request};
 use std::alloc::Global;
 use terminal_line::Screen;
 
-/// So many places of a directory are looked at, at the most: as many as a monitor has files.
+/// The most places of a directory that are looked at: as many as there can be files.
 const MOST_PLACES: u16 = MOST_FILES as u16;
 
-/// The places of a stem, and those of a number of blocks.
+/// The columns of a stem, and those of a number of blocks.
 const WIDE: usize = 6;
 
-/// The places of an extension.
+/// The columns of an extension.
 const NARROW: usize = 3;
 
 /// Writes a line for each file of an account, in the order of the monitor's directory.
@@ -46,7 +47,7 @@ pub fn show_catalog<P: Port>(
     Ok(())
 }
 
-/// Writes the line of the file at an index, and tells whether there is one.
+/// Writes the line of the file at an index, and returns whether there is one.
 fn show_file<P: Port>(
     alloc: Global,
     port: &mut P,
@@ -61,7 +62,7 @@ fn show_file<P: Port>(
     show_by(alloc, &reply, screen)
 }
 
-/// Writes what the reply tells of a file, and tells whether there is one.
+/// Writes the line of the file in the reply, and returns whether there is one.
 fn show_by(alloc: Global, reply: &Reply, screen: &mut Screen) -> Result<bool, Stop>
     ensures { (owner : TheAccount) (index : ℕ) → IsTold result
         (shown_by (counts_as (request.Directory owner index) reply.now) screen.old) screen.new }
@@ -77,7 +78,7 @@ fn show_by(alloc: Global, reply: &Reply, screen: &mut Screen) -> Result<bool, St
     }
 }
 
-/// The line of a file.
+/// Returns the line of a file.
 fn file_line(
     alloc: Global,
     name: &FileName,
@@ -97,7 +98,7 @@ fn file_line(
     Ok(line)
 }
 
-/// The number of blocks, or a dash where it is not told.
+/// Appends the number of blocks, or a dash if it is not known.
 fn push_blocks(line: &mut Vec<u8>, blocks: Option<u16>) -> Result<(), NoMemory>
     ensures { OnOk result (line.new.items ≡ line.old.items ++ at_right 6 (blocks_text blocks)) }
 {
@@ -107,7 +108,7 @@ fn push_blocks(line: &mut Vec<u8>, blocks: Option<u16>) -> Result<(), NoMemory>
     }
 }
 
-/// A text, with spaces behind it up to the width.
+/// Appends a text, with spaces after it up to the width.
 fn push_at_left(line: &mut Vec<u8>, text: &[u8], width: usize) -> Result<(), NoMemory>
     requires { width ≤ WIDE }
     ensures { OnOk result (line.new.items ≡ line.old.items ++ at_left width text.now) }
@@ -116,7 +117,7 @@ fn push_at_left(line: &mut Vec<u8>, text: &[u8], width: usize) -> Result<(), NoM
     push_spaces(line, width.saturating_sub(text.len()))
 }
 
-/// A text in the places of a number of blocks, with spaces in front.
+/// Appends a text, with spaces before it up to the width of a number of blocks.
 fn push_at_right(line: &mut Vec<u8>, text: &[u8]) -> Result<(), NoMemory>
     ensures { OnOk result (line.new.items ≡ line.old.items ++ at_right 6 text.now) }
 {

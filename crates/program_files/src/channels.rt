@@ -1,11 +1,12 @@
-//! One request each through the channel of the command level, and what its reply comes to; how the
-//! channel and the printer are closed behind what was done.
+//! Single requests on the command level's channel, with the meaning of their replies; and how the
+//! channel and the printer are closed after their use.
 
 ghost use Rattle.std.specs.Prelude.{◌≡◌, true, Err, OnOk};
 ghost use Rattle.job_model.specs.Asking.{can_be_block};
 ghost use Rattle.job_model.specs.Follow.{Follows, answered_by};
 ghost use Rattle.job_model.specs.Play as play;
-ghost use Rattle.program_files.specs.Channels.{FileAct, opens, closes, gets, puts, kills, closed_behind};
+ghost use Rattle.program_files.specs.Channels.{FileAct, opens, closes, gets, puts, kills};
+ghost use Rattle.program_files.specs.Channels.{closed_behind};
 ghost use Rattle.program_files.specs.Taken.{first_stop};
 
 use basic_values::{Fault, Stop};
@@ -16,16 +17,16 @@ use std::alloc::Global;
 /// The channel of the command level.
 pub const CHANNEL: u8 = 0;
 
-/// What was opened, and has to be closed.
+/// What was opened and has to be closed.
 #[derive(Clone, Copy)]
 pub(crate) enum Opened {
     /// The channel of the command level.
     Channel,
-    /// The printer, for a listing.
+    /// The printer, for a print job.
     Printer,
 }
 
-/// Opens a file, and gives how many blocks it has. The code is for a file that is made.
+/// Opens a file, and returns its number of blocks. The code is for a new file.
 pub(crate) fn open<P: Port>(
     alloc: Global,
     port: &mut P,
@@ -72,7 +73,7 @@ pub(crate) fn put<P: Port>(alloc: Global, port: &mut P, block: u16, page: Page) 
     ask_done(alloc, port, request, can_be_block(block))
 }
 
-/// Takes a file away.
+/// Deletes a file.
 pub fn kill_file<P: Port>(alloc: Global, port: &mut P, name: FileName) -> Result<(), Stop>
     ensures { (clock : play.Clock) → Follows P.who P.log port.old port.new clock clock
         (kills name) (answered_by result tt) }
@@ -80,15 +81,14 @@ pub fn kill_file<P: Port>(alloc: Global, port: &mut P, name: FileName) -> Result
     ask_done(alloc, port, Request::Kill { name }, true)
 }
 
-/// Closes what was opened behind what was done with it, behind a fault too. The first fault is the
-/// one that is told.
+/// Closes what was opened, after its use and also after an error. The first error is returned.
 pub(crate) fn close_behind<P: Port, T: Drop>(
     alloc: Global,
     port: &mut P,
     opened: Opened,
     outcome: Result<T, Stop>,
 ) -> Result<T, Stop>
-    // Whatever had this outcome, it is now what is closed behind it that was done.
+    // For every tree with this outcome, this is the outcome of that tree followed by the closing.
     ensures { (start : P) (clock : play.Clock) (act : FileAct T)
         → Follows P.who P.log start port.old clock clock act (answered_by outcome tt)
         → Follows P.who P.log start port.new clock clock (closed_behind opened act)
@@ -103,7 +103,7 @@ pub(crate) fn close_behind<P: Port, T: Drop>(
     }
 }
 
-/// Closes what was opened behind a fault. What ends the job leaves nothing to close.
+/// Closes what was opened, after an error. If the job has ended, there is nothing to close.
 fn close_after<P: Port, T: Drop>(
     alloc: Global,
     port: &mut P,
@@ -124,7 +124,7 @@ fn close_after<P: Port, T: Drop>(
     }
 }
 
-/// A fault stands, whatever fault comes behind it.
+/// Returns the first error, whatever error follows it.
 fn first_told(first: Fault, stop: Stop) -> Stop
     ensures { result ≡ first_stop first stop }
 {

@@ -1,10 +1,9 @@
-//! Files of programs over a port: what the commands of the command level ask of the monitor.
+//! Files of programs, over a port: the requests that the commands of a session make for them.
 //!
-//! `read_pages` and `write_pages` carry how the pages of a file are read and written through the
-//! channel of the command level, `kill_file` how one is taken away, `show_catalog` what CAT writes,
-//! `print_file` how a file is printed, and `assign_printer` and `deassign_printer` how the printer is
-//! kept and given back.
-//! It stands on `Port` for asking, and on `terminal_line` for the screen.
+//! `read_pages` and `write_pages` promise how the pages of a file are read and written on the
+//! command level's channel. `kill_file` deletes a file, `show_catalog` writes what CAT shows,
+//! `print_file` prints a file, and `assign_printer` and `deassign_printer` reserve the printer and
+//! give it back. Each follows an interaction tree of `specs`, over any `Port`.
 #![tactic(auto)]
 
 mod catalogs;

@@ -1,10 +1,11 @@
-//! A file that is printed, block by block, as one listing; the printer kept for later listings.
+//! Printing a file, block by block, as one print job; reserving the printer for several.
 
 ghost use Rattle.std.specs.Prelude.{◌≡◌, IfOk};
 ghost use Rattle.job_model.specs.Follow.{Follows, answered_by};
 ghost use Rattle.job_model.specs.Play as play;
 ghost use Rattle.program_files.specs.Listings.{assigns, deassigns, begins_listing, text_on, prints};
-ghost use Rattle.program_files.specs.Listings.{prints_block, prints_from, prints_blocks, prints_file};
+ghost use Rattle.program_files.specs.Listings.{prints_block, prints_from, prints_blocks};
+ghost use Rattle.program_files.specs.Listings.{prints_file};
 
 use crate::channels::{Opened, close_behind, get, open};
 use basic_values::{NoMemory, Stop, Text};
@@ -12,7 +13,7 @@ use job_model::ask_done;
 use monitor_calls::{FileName, OpenKind, Page, Port, Request};
 use std::alloc::Global;
 
-/// Keeps the printer for the listings of the job.
+/// Reserves the printer for the job.
 pub fn assign_printer<P: Port>(alloc: Global, port: &mut P) -> Result<(), Stop>
     ensures { (clock : play.Clock) → Follows P.who P.log port.old port.new clock clock
         assigns (answered_by result tt) }
@@ -28,7 +29,7 @@ pub fn deassign_printer<P: Port>(alloc: Global, port: &mut P) -> Result<(), Stop
     ask_done(alloc, port, Request::Deassign, true)
 }
 
-/// Prints a file that is there. The code is what its specification has, which opens nothing.
+/// Prints an existing file. The code is that of its specification, and has no effect.
 pub fn print_file<P: Port>(
     alloc: Global,
     port: &mut P,
@@ -43,7 +44,7 @@ pub fn print_file<P: Port>(
     close_behind(alloc, port, Opened::Channel, printed)
 }
 
-/// A listing of so many blocks.
+/// Prints this many blocks as one print job.
 fn print_listing<P: Port>(alloc: Global, port: &mut P, blocks: u16) -> Result<(), Stop>
     ensures { (clock : play.Clock) → Follows P.who P.log port.old port.new clock clock
         (prints_blocks blocks) (answered_by result tt) }
@@ -61,7 +62,7 @@ fn begin_listing<P: Port>(alloc: Global, port: &mut P) -> Result<(), Stop>
     ask_done(alloc, port, Request::OpenPrinter, true)
 }
 
-/// So many blocks from the first on; the first fault ends them.
+/// Prints this many blocks, from the first on. The first error ends it.
 fn print_blocks<P: Port>(alloc: Global, port: &mut P, blocks: u16) -> Result<(), Stop>
     ensures { (clock : play.Clock) → Follows P.who P.log port.old port.new clock clock
         (prints_from 1 blocks) (answered_by result tt) }
@@ -81,7 +82,7 @@ fn print_block<P: Port>(alloc: Global, port: &mut P, block: u16) -> Result<(), S
     print(alloc, port, &page)
 }
 
-/// Prints what stands on a page.
+/// Prints the bytes of a page.
 fn print<P: Port>(alloc: Global, port: &mut P, page: &Page) -> Result<(), Stop>
     ensures { (clock : play.Clock) → Follows P.who P.log port.old port.new clock clock
         (prints page.now) (answered_by result tt) }
@@ -90,8 +91,8 @@ fn print<P: Port>(alloc: Global, port: &mut P, page: &Page) -> Result<(), Stop>
     ask_done(alloc, port, Request::Print { text }, true)
 }
 
-/// The bytes of a page without its zeros. A page is no longer than a text may be: only memory may
-/// run out.
+/// Returns the bytes of a page without its zeros. A page is shorter than the longest string, so
+/// only memory can run out.
 fn text_on(alloc: Global, page: &Page) -> Result<Text, NoMemory>
     ensures { IfOk result (λ text. text ≡ text_on page.now) }
 {

@@ -1,4 +1,4 @@
-//! The pages of a file, read and written in order.
+//! Reads and writes the pages of a file, in order.
 
 ghost use Rattle.std.specs.Prelude.{◌≡◌};
 ghost use Rattle.job_model.specs.Follow.{Follows, answered_by};
@@ -10,7 +10,7 @@ use basic_values::{Series, Stop};
 use monitor_calls::{FileName, OpenKind, Page, Port};
 use std::alloc::Global;
 
-/// The pages of a file that is there. The code is what its specification has, which opens nothing.
+/// Returns the pages of an existing file. The code is that of its specification, and has no effect.
 pub fn read_pages<P: Port>(
     alloc: Global,
     port: &mut P,
@@ -25,7 +25,7 @@ pub fn read_pages<P: Port>(
     close_behind(alloc, port, Opened::Channel, pages)
 }
 
-/// Writes the pages of a file that is made.
+/// Writes the pages of a new file.
 pub fn write_pages<P: Port>(
     alloc: Global,
     port: &mut P,
@@ -42,7 +42,7 @@ pub fn write_pages<P: Port>(
     close_behind(alloc, port, Opened::Channel, written)
 }
 
-/// So many blocks from the first on; the first fault ends them.
+/// Reads this many blocks, from the first on. The first error ends it.
 fn get_pages<P: Port>(alloc: Global, port: &mut P, blocks: u16) -> Result<Series<Page>, Stop>
     ensures { (clock : play.Clock) → Follows P.who P.log port.old port.new clock clock
         (gets_from 1 blocks) (answered_by result tt) }
@@ -57,7 +57,7 @@ fn get_pages<P: Port>(alloc: Global, port: &mut P, blocks: u16) -> Result<Series
     Ok(Series::from_vec(pages))
 }
 
-/// The pages from the first block on; the first fault ends them.
+/// Writes the pages, from the first block on. The first error ends it.
 fn put_pages<P: Port>(alloc: Global, port: &mut P, pages: Vec<Page>) -> Result<(), Stop>
     ensures { (clock : play.Clock) → Follows P.who P.log port.old port.new clock clock
         (puts_from 1 pages.items) (answered_by result tt) }

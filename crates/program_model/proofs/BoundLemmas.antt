@@ -4,7 +4,7 @@ use Rattle.std.specs.Prelude.{nat_lt, Bool, true, false, map, ◌++◌, ℤ, is_
 use Rattle.basic_values.specs.declared.failures.Halt.TheVariants.{TooDeep}
 use Rattle.basic_tree.specs.declared.names.Name.{Name}
 use Rattle.basic_tree.specs.Trees.{Tree, Literal, Quoted, Variable, Element, FunctionOf, Call, Parenthesized, Negative, Positive, Not, Operation, Comparison, Trees, NoTrees, AndTrees, PrintedTree, Value as ValueOf, Tab, PrintItemTree, ModifierTree, If, Unless, While, Until, ForModifier, StatementTree, IfThen, IfGoto, Modified, For, Def, Let, Result as ResultOf, Print, PrintUsing, Input, InputLine, Read, OnGoto, OnGosub, Chain, Field, Lset, Rset, UsingItemTree, Sleep, Open, Close, Get, Put, Unlock, Kill, Rename, MatLet, CloseChannelTree}
-use Rattle.job_model.specs.Act.{Act, Gives, Breaks, Asks, Takes, ◌then◌, Faulted, Halted}
+use Rattle.job_model.specs.Act.{Act, Gives, Breaks, Asks, Types, Takes, ◌then◌, Faulted, Halted}
 use Rattle.program_model.specs.Program.{Program, Position, Way, whole, statement_at, inner_at, line_start, parameters_of, def_of, items_of}
 use Rattle.record_fields.specs.declared.writing.Side.{Side}
 use Rattle.record_fields.specs.declared.writing.Side.TheVariants.{Left, Right}
@@ -19,8 +19,8 @@ use Rattle.program_model.specs.Items.{items_in_line, item_value}
 use Rattle.program_model.specs.Control.{Onward, At, Behind, Leave, at_line, home_of, runs_at}
 use Rattle.program_model.specs.Loops.{step_of, begins_loop, again, behind}
 use Rattle.program_model.specs.DataItems.{item_taken, read_all}
-use Rattle.program_model.specs.Printing.{value_bytes, print_one, print_items, print_end, separated}
-use Rattle.program_model.specs.PrintingOnChannels.{writes_on, tab_on, output_tested, print_one_on, separated_on, print_items_on, print_end_on, print_all_on, or_terminal, used_values, writes_used, print_using_on}
+use Rattle.program_model.specs.Printing.{value_bytes}
+use Rattle.program_model.specs.PrintingOnChannels.{writes_on, tab_on, output_tested, print_one_on, separated_on, print_items_on, print_end_on, print_all_on, printed_to, or_terminal, used_values, writes_used, print_using_on}
 use Rattle.program_model.specs.Input.{line_asked, prompt_text, enough, items_stored, line_on, input_on, input_line_on}
 use Rattle.program_model.specs.Calls.{entered, arguments_stored, leaving, called, most_calls}
 use Rattle.program_model.specs.Traps.{trapped}
@@ -33,7 +33,7 @@ use Rattle.program_model.specs.Chaining.{line_operand}
 use Rattle.program_model.specs.Parts.{matrix_expressions}
 use Rattle.program_model.specs.Statements.{modified, file_act, does}
 use Rattle.program_model.specs.Running.{Coming, Begin, Value_of, Out, reached_behind, reached, begun, one_line, out_or_at, body_at_def, calls_of, handler, ends_closed, runs, dimension_program, begins_with, runs_open, runs_cleared, raises_open, raises}
-use Rattle.program_model.specs.Bounds.{Alike, gives, breaks, asks, spent, takes, BoundsAreEnough, BoundsAreEnoughFrom}
+use Rattle.program_model.specs.Bounds.{Alike, gives, breaks, asks, types, spent, takes, BoundsAreEnough, BoundsAreEnoughFrom}
 
 module _ {L S A : Type 0} where
   -- a tree is alike to itself
@@ -41,6 +41,7 @@ module _ {L S A : Type 0} where
   same n (Gives a s) = gives
   same n (Breaks b s) = breaks
   same n (Asks r k) = asks (λ x. same n (k x))
+  same n (Types k) = types (λ key. same n (k key))
   same zero (Takes s m) = spent
   same (suc n) (Takes s m) = takes (same n m)
 
@@ -48,6 +49,7 @@ module _ {L S A : Type 0} where
   and_then n m m' f f' (gives {n = i} {a = a} {s = s}) h = h n a s (omega arith)
   and_then n m m' f f' breaks h = breaks
   and_then n m m' f f' (asks {n = i} {r = r} {k = k} {k' = k'} e) h = asks (λ x. and_then n (k x) (k' x) f f' (e x) h)
+  and_then n m m' f f' (types {n = i} {k = k} {k' = k'} e) h = types (λ key. and_then n (k key) (k' key) f f' (e key) h)
   and_then n m m' f f' spent h = spent
   and_then n m m' f f' (takes {n = i} {s = s} {m = k} {m' = k'} e) h = takes (and_then i k k' f f' e (λ l a s le. h l a s (omega (arith, le))))
 
@@ -56,6 +58,7 @@ module _ {L S A : Type 0} where
   and_more n m m' f f' g g' (gives {n = i} {a = a} {s = s}) h = h n a s (omega arith)
   and_more n m m' f f' g g' breaks h = breaks
   and_more n m m' f f' g g' (asks {n = i} {r = r} {k = k} {k' = k'} e) h = asks (λ x. and_more n (k x) (k' x) f f' g g' (e x) h)
+  and_more n m m' f f' g g' (types {n = i} {k = k} {k' = k'} e) h = types (λ key. and_more n (k key) (k' key) f f' g g' (e key) h)
   and_more n m m' f f' g g' spent h = spent
   and_more n m m' f f' g g' (takes {n = i} {s = s} {m = k} {m' = k'} e) h = takes (and_more i k k' f f' g g' e (λ l a s le. h l a s (omega (arith, le))))
 
@@ -64,6 +67,7 @@ module _ {R A : Type 0} where
   trapped_alike n go m m' gives = gives
   trapped_alike n go m m' (breaks {n = i} {b = b} {s = s}) = same n (trapped go (Breaks b s))
   trapped_alike n go m m' (asks {n = i} {r = r} {k = k} {k' = k'} e) = asks (λ x. trapped_alike n go (k x) (k' x) (e x))
+  trapped_alike n go m m' (types {n = i} {k = k} {k' = k'} e) = types (λ key. trapped_alike n go (k key) (k' key) (e key))
   trapped_alike n go m m' spent = spent
   trapped_alike n go m m' (takes {n = i} {s = s} {m = k} {m' = k'} e) = takes (trapped_alike i go k k' e)
 
@@ -71,6 +75,7 @@ module _ {R A : Type 0} where
   leaving_alike n line m m' gives = gives
   leaving_alike n line m m' breaks = breaks
   leaving_alike n line m m' (asks {n = i} {r = r} {k = k} {k' = k'} e) = asks (λ x. leaving_alike n line (k x) (k' x) (e x))
+  leaving_alike n line m m' (types {n = i} {k = k} {k' = k'} e) = types (λ key. leaving_alike n line (k key) (k' key) (e key))
   leaving_alike n line m m' spent = spent
   leaving_alike n line m m' (takes {n = i} {s = s} {m = k} {m' = k'} e) = takes (leaving_alike i line k k' e)
 
@@ -78,6 +83,7 @@ module _ {R A : Type 0} where
   ends_closed_alike n m m' gives = gives
   ends_closed_alike n m m' (breaks {n = i} {b = b} {s = s}) = same n (ends_closed (Breaks b s))
   ends_closed_alike n m m' (asks {n = i} {r = r} {k = k} {k' = k'} e) = asks (λ x. ends_closed_alike n (k x) (k' x) (e x))
+  ends_closed_alike n m m' (types {n = i} {k = k} {k' = k'} e) = types (λ key. ends_closed_alike n (k key) (k' key) (e key))
   ends_closed_alike n m m' spent = spent
   ends_closed_alike n m m' (takes {n = i} {s = s} {m = k} {m' = k'} e) = takes (ends_closed_alike i k k' e)
 
@@ -138,19 +144,6 @@ module _ (program : Program) (n : ℕ) (call call' : Name → List Value → Job
   items_alike k le (t ∷ ts) [] j = breaks
   items_alike k le (t ∷ ts) (one ∷ items) j = and_then k _ _ _ _ (same k (or_fault (item_value (wants_text t) one) j)) (λ i v j less2. and_then i _ _ _ _ (target_alike i (omega (arith, le, less2)) t v j) (λ o _ j less3. items_alike o (omega (arith, le, less2, less3)) ts items j))
 
-  printed_alike : (k : ℕ) → k ≤ n → (p : PrintedTree) (j : Job Position) → Alike k (print_one c p j) (print_one c' p j)
-  printed_alike k le (ValueOf e) j = and_then k _ _ _ _ (value_alike k le e j) (λ l v j less. gives)
-  printed_alike k le (Tab e) j = and_then k _ _ _ _ (value_alike k le e j) (λ l v j less. gives)
-
-  prints_alike : (k : ℕ) → k ≤ n → (ones : List PrintItemTree) (j : Job Position) → Alike k (print_items c ones j) (print_items c' ones j)
-  prints_alike k le [] j = gives
-  prints_alike k le (one ∷ ones) j = and_then k _ _ _ _ (printed_alike k le one.printed j) (λ l _ j less. prints_alike l (omega (arith, le, less)) ones (separated one.separator j))
-
-  end_alike : (k : ℕ) → k ≤ n → (ones : List PrintItemTree) (last : Option PrintedTree) (j : Job Position) → Alike k (print_end c ones last j) (print_end c' ones last j)
-  end_alike k le ones (Some p) j = and_then k _ _ _ _ (printed_alike k le p j) (λ l _ j less. gives)
-  end_alike k le [] None j = gives
-  end_alike k le (one ∷ ones) None j = gives
-
   loop_alike : (k : ℕ) → k ≤ n → (x : Name) (place : ℕ) (a b : Tree) (step : Option Tree) (j : Job Position) → Alike k (begins_loop c x place a b step j) (begins_loop c' x place a b step j)
   loop_alike k le x place a b step j = and_then k _ _ _ _ (value_alike k le a j) (λ l u j less. and_then l _ _ _ _ (value_alike l (omega (arith, le, less)) b j) (λ i v j less2. and_then i _ _ _ _ (stepped i (omega (arith, le, less, less2)) step j) (λ o w j _. same o _)))
     where
@@ -171,7 +164,7 @@ module _ (program : Program) (n : ℕ) (call call' : Name → List Value → Job
   justifies_alike : (k : ℕ) → k ≤ n → (side : Side) (x : Name) (e : Tree) (j : Job Position) → Alike k (justifies_by c side x e j) (justifies_by c' side x e j)
   justifies_alike k le side x e j = and_then k _ _ _ _ (value_alike k le e j) (λ l v j less. same l (justifies side x v j))
 
-  -- on a channel
+  -- PRINT
   printed_on_alike : (k : ℕ) → k ≤ n → (channel : ℤ) (p : PrintedTree) (j : Job Position) → Alike k (print_one_on c channel p j) (print_one_on c' channel p j)
   printed_on_alike k le channel (ValueOf e) j = and_then k _ _ _ _ (value_alike k le e j) (λ l v j less. same l (writes_on channel (value_bytes v) j))
   printed_on_alike k le channel (Tab e) j = and_then k _ _ _ _ (value_alike k le e j) (λ l v j less. same l (tab_on channel (number v) j then λ spaces j. writes_on channel spaces j))
@@ -225,9 +218,8 @@ module _ (program : Program) (n : ℕ) (call call' : Name → List Value → Job
   does_alike k le q (For x a b step) j = and_then k _ _ _ _ (loop_alike k le x _ a b step j) (λ l v j less. gives)
   does_alike k le q (Let word ts e) j = and_then k _ _ _ _ (value_alike k le e j) (λ l v j less. and_then l _ _ _ _ (targets_alike l (omega (arith, le, less)) ts v j) (λ i _ j _. gives))
   does_alike k le q (ResultOf f e) j = and_then k _ _ _ _ (value_alike k le e j) (λ l v j less. gives)
-  does_alike k le q (Print None items last) j = and_then k _ _ _ _ (and_then k _ _ _ _ (prints_alike k le items j) (λ l _ j less. end_alike l (omega (arith, le, less)) items last j)) (λ l _ j less. gives)
+  does_alike k le q (Print channel items last) j = and_then k _ _ _ _ (print_on_alike k le (printed_to channel) items last j) (λ l _ j less. gives)
   does_alike k le q (Input None p ts) j = and_then k _ _ _ _ (and_then k _ _ _ _ (same k (line_asked (prompt_text p) j)) (λ l line j less. and_then l _ _ _ _ (same l (enough (length ts) (items_in_line line) j)) (λ i items j less2. items_alike i (omega (arith, le, less, less2)) ts items j))) (λ l _ j less. gives)
-  does_alike k le q (Print (Some channel) items last) j = and_then k _ _ _ _ (print_on_alike k le channel.number items last j) (λ l _ j less. gives)
   does_alike k le q (PrintUsing channel format items last) j = and_then k _ _ _ _ (using_alike k le channel format items last j) (λ l _ j less. gives)
   does_alike k le q (Input (Some channel) p ts) j = and_then k _ _ _ _ (input_on_alike k le channel ts j) (λ l _ j less. gives)
   does_alike k le q (InputLine (Some channel) x) j = and_then k _ _ _ _ (line_on_alike k le channel x j) (λ l _ j less. gives)

@@ -10,7 +10,7 @@ use Rattle.error_trap.specs.declared.trap.Raised.TheVariants.{Handle, Report}
 use Rattle.error_trap.specs.Trapping.{raised}
 use Rattle.job_memory.specs.declared.contents.TheConstants.{MOST_ROOM}
 use Rattle.job_memory.specs.Memory.{room_of, made}
-use Rattle.job_model.specs.Act.{Act, Gives, Breaks, Asks, Takes, ◌then◌, Faulted, Halted, Gone, Left, over, no_way}
+use Rattle.job_model.specs.Act.{Act, Gives, Breaks, Asks, Types, Takes, ◌then◌, Faulted, Halted, Gone, Left, over, no_way}
 use Rattle.monitor_calls.specs.declared.calls.Reply.{Reply}
 use Rattle.program_model.specs.declared.values.Frame.{Frame}
 use Rattle.program_model.specs.Program.{Program, Position, whole, statement_at, line_start, shapes_in}
@@ -28,6 +28,7 @@ SpendsFirst (Gives value j) = Unit {0}
 SpendsFirst (Breaks (Left Chained) j) = ⊥
 SpendsFirst (Breaks why j) = Unit {0}
 SpendsFirst (Asks request by) = (reply : Reply) → SpendsFirst (by reply)
+SpendsFirst (Types by) = (key : Option (List ℕ)) → SpendsFirst (by key)
 SpendsFirst (Takes j rest) = Unit {0}
 
 module _ {R : Type 0} where
@@ -38,6 +39,7 @@ module _ {R : Type 0} where
   spends_then (Breaks (Halted halt) j) next h f = tt
   spends_then (Breaks Gone j) next h f = tt
   spends_then (Asks r by) next h f = λ x. spends_then (by x) next (h x) f
+  spends_then (Types by) next h f = λ key. spends_then (by key) next (h key) f
   spends_then (Takes j rest) next h f = tt
 
   -- a part that leaves in no way of its own
@@ -48,6 +50,7 @@ module _ {R : Type 0} where
   part_spends put (Breaks Gone p) = tt
   part_spends put (Breaks (Left none) p) = absurd none
   part_spends put (Asks r by) = λ x. part_spends put (by x)
+  part_spends put (Types by) = λ key. part_spends put (by key)
   part_spends put (Takes p rest) = tt
 
   -- what is closed at its end
@@ -61,6 +64,7 @@ module _ {R : Type 0} where
   closed_spends (Breaks (Halted halt) j) h = tt
   closed_spends (Breaks Gone j) h = tt
   closed_spends (Asks r by) h = λ x. closed_spends (by x) (h x)
+  closed_spends (Types by) h = λ key. closed_spends (by key) (h key)
   closed_spends (Takes j rest) h = tt
 
   -- DIM

@@ -37,9 +37,8 @@ pub record Job (R : Type 0) : Type 0 where
   pub buffers : List (List ℕ)
   -- core common
   pub common : List ℕ
-  -- all bytes that were written, and the key lines that are left
+  -- all bytes that were written to the terminal
   pub screen : List ℕ
-  pub keys : List (List ℕ)
   -- its place is the number of a statement
   pub trap : Trap
   -- the statements behind which RETURN goes on, the newest first

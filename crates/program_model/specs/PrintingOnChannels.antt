@@ -1,8 +1,8 @@
--- PRINT # and PRINT USING: each writing goes to the channel whose number stands in front, and 0 is the terminal.
+-- PRINT and PRINT USING write to a channel. Channel 0 is the terminal, and is meant if none is named.
 use Rattle.std.specs.Prelude.{ℕ, Bool, if◌then◌else◌, List, [], ◌∷◌, map, Option, Some, None, Result, ℤ, is_some}
 use Rattle.basic_tree.specs.declared.parts.Separator.{Separator}
 use Rattle.basic_tree.specs.declared.parts.Separator.TheVariants.{Comma, Semicolon}
-use Rattle.basic_tree.specs.Trees.{Tree, Literal, PrintedTree, Value, Tab, PrintItemTree, UsingItemTree}
+use Rattle.basic_tree.specs.Trees.{Tree, Literal, PrintedTree, Value, Tab, PrintItemTree, PrintChannelTree, UsingItemTree}
 use Rattle.channels.specs.TextOut.{writes_text}
 use Rattle.job_model.specs.Act.{Gives, ◌then◌, on}
 use Rattle.job_model.specs.Texts.{line_end}
@@ -38,7 +38,12 @@ zone_on channel j = or_fault (column_on channel j) j then λ column j. Gives (zo
 abbrev pub output_tested : {R : Type 0} → ℤ → Job R → Deed R (Unit {0})
 output_tested channel j = or_fault (column_on channel j) j then λ _ j. Gives tt j
 
--- PRINT #
+-- PRINT
+
+-- Without a channel it is the terminal's.
+abbrev pub printed_to : Option PrintChannelTree → Tree
+printed_to None = Literal 0
+printed_to (Some channel) = channel.number
 
 abbrev pub print_one_on : {R : Type 0} → Around R → ℤ → PrintedTree → Job R → Deed R (Unit {0})
 print_one_on around channel (Value e) j = value_of around e j then λ v j. writes_on channel (value_bytes v) j

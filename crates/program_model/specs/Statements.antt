@@ -12,8 +12,7 @@ use Rattle.program_model.specs.Targets.{stored_to_all}
 use Rattle.program_model.specs.Control.{Onward, At, Behind, Leave, Doing, goes_on, at_line, at_else, chosen, on_chosen, home_of, runs_at, kept, returned}
 use Rattle.program_model.specs.Loops.{begins_loop, next_turn}
 use Rattle.program_model.specs.DataItems.{read_all}
-use Rattle.program_model.specs.Printing.{print_all}
-use Rattle.program_model.specs.PrintingOnChannels.{print_all_on, print_using_on}
+use Rattle.program_model.specs.PrintingOnChannels.{printed_to, print_all_on, print_using_on}
 use Rattle.program_model.specs.Input.{input, input_line, input_on, input_line_on}
 use Rattle.program_model.specs.Justified.{justifies_by}
 use Rattle.program_model.specs.Calls.{answered}
@@ -91,7 +90,8 @@ does around program q (Def f parameters value) j = Gives (past_def program q val
 does around program q (Let word targets e) j =
     value_of around e j then λ v j. stored_to_all around targets v j then λ _ j. goes_on q j
 does around program q (ResultOf f e) j = value_of around e j then λ v j. goes_on q (answered v j)
-does around program q (Print None items last) j = print_all around items last j then λ _ j. goes_on q j
+does around program q (Print channel items last) j =
+    print_all_on around (printed_to channel) items last j then λ _ j. goes_on q j
 does around program q (Input None prompt targets) j = input around prompt targets j then λ _ j. goes_on q j
 does around program q (InputLine None variable) j = input_line variable j then λ _ j. goes_on q j
 does around program q (Read targets) j = read_all around (items_of program) targets j then λ _ j. goes_on q j
@@ -107,8 +107,6 @@ does around program q (OnErrorGoto n) j = sets_handler n (goes_on q) j
 does around program q (Resume n) j = resumes (λ m. At (whole m)) (at_line program) n j
 does around program q Stop j = Breaks (act.Left (Stopped q)) j
 does around program q End j = stores_by shut_act j then λ _ j. Breaks (act.Left Ended) j
-does around program q (Print (Some channel) items last) j =
-    print_all_on around channel.number items last j then λ _ j. goes_on q j
 does around program q (PrintUsing channel format values last) j =
     print_using_on around channel format values last j then λ _ j. goes_on q j
 does around program q (Input (Some channel) prompt targets) j = input_on around channel targets j then λ _ j. goes_on q j

@@ -24,7 +24,7 @@ found_before arrays n a entries new e low high is before x =
     ap (lookup (at_name x)) is ∙ lookup-insert_entry name_total x a.name a entries ∙ ap (cond (at_name x a.name) (Some a)) (before x)
     ∙ sym (ap (find (λ (array : VirtualShape). at_name x array.name)) (drop_before arrays n a e low high))
 
--- an array that is added stands where the one before it ends
+-- an array that is added begins where the one before it ends
 pub shape_added : (channel behind next : ℕ) (shapes : List FileShape) (i : ℕ) (d : FileShape) (array : VirtualShape) (old new whole : List VirtualShape)
     → i < length shapes → array ≡ array_from channel behind (get_or shapes i d) → next ≡ end_of array → new ≡ old ++ array ∷ []
     → old ++ arrays_from channel behind (drop i shapes) ≡ whole → new ++ arrays_from channel next (drop (i + 1) shapes) ≡ whole

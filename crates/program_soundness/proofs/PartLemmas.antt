@@ -1,4 +1,4 @@
--- What is collected part by part is what is said of the whole statement.
+-- What is collected part by part is what is defined for the whole statement.
 use Rattle.std.proofs.Common.{◌≡◌, Bool, true, false, ◌||◌, List, [], ◌∷◌, ◌++◌, refl, sym, ap, ◌∙◌}
 use Rattle.std.specs.List.{flat_map, list_any}
 use Rattle.basic_tree.specs.Trees.{Tree, StatementTree}
@@ -47,7 +47,7 @@ matrices_are s =
     ∙ by_statements matrices_by matrices_at (λ s. refl) (λ e. refl) refl (parts_in s)
     ∙ ap (λ ss. flat_map matrices_by ss) (simple_parts s)
 
--- SORTS
+-- KINDS
 
 abbrev sorting : Sorts → StatementPart → Sorts
 sorting sorts part = record {

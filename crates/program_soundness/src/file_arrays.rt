@@ -1,7 +1,7 @@
-//! The arrays in files of a program. The manual's DIM #.
+//! The arrays in files of a program: the manual's DIM #.
 //!
-//! `arrays_in` gives them in the order of the text, each with the place in its file behind those of
-//! its statement before it; `by_name` is the table in which one is found by its name.
+//! `arrays_in` returns them in the order of the text, each with its place in its file, after those
+//! of its statement before it. `by_name` is the table in which one is found by its name.
 
 ghost use Rattle.std.specs.Prelude.{◌≡◌, ◌≤◌, ◌++◌, ◌^◌, map, find, pos, IfOk, OnOk};
 ghost use Rattle.std.specs.List.{flat_map};
@@ -10,7 +10,8 @@ ghost use Rattle.basic_values.specs.Numbers.{wrap};
 ghost use Rattle.basic_tree.specs.declared.names.Name.{Name};
 ghost use Rattle.basic_tree.specs.StatementViews.{statement_of};
 ghost use Rattle.job_memory.specs.Names.{at_name};
-ghost use Rattle.program_model.specs.FileArrays.{element_size, most_file_bytes, begins_at, array_from, end_of, arrays_from, arrays_by};
+ghost use Rattle.program_model.specs.FileArrays.{element_size, most_file_bytes, begins_at};
+ghost use Rattle.program_model.specs.FileArrays.{array_from, end_of, arrays_from, arrays_by};
 
 use basic_tree::{FileShape, Name, Statement};
 use basic_values::limits::{BLOCK_BYTES, MOST_BLOCKS};
@@ -21,10 +22,10 @@ use std::alloc::Global;
 use std::collections::BTreeMap;
 use virtual_arrays::VirtualShape;
 
-/// The bytes of the greatest file.
+/// The bytes of the largest file.
 const MOST_FILE_BYTES: u64 = MOST_BLOCKS as u64 * BLOCK_BYTES as u64;
 
-/// The arrays in files that these statements declare.
+/// Returns the arrays in files that these statements declare.
 pub fn arrays_in(alloc: Global, all: &[&Statement]) -> Result<Vec<VirtualShape>, NoMemory>
     ensures { IfOk result (λ arrays. arrays.items
         ≡ flat_map arrays_by (map (λ r. statement_of r.now) all.now)) }
@@ -47,7 +48,7 @@ fn add_declared(arrays: &mut Vec<VirtualShape>, statement: &Statement) -> Result
     }
 }
 
-/// Adds arrays that stand one behind the other in the file of a channel.
+/// Adds arrays that follow one another in the file of a channel.
 fn add_shapes(
     arrays: &mut Vec<VirtualShape>,
     channel: u16,
@@ -65,7 +66,7 @@ fn add_shapes(
     Ok(())
 }
 
-/// An array behind so many bytes of its file.
+/// Returns an array that comes after this many bytes of its file.
 fn array_from(channel: u16, behind: u64, array: &FileShape) -> VirtualShape
     requires { behind ≤ 2 ^ 49 }
     ensures { result ≡ array_from channel behind array.now }
@@ -81,7 +82,7 @@ fn array_from(channel: u16, behind: u64, array: &FileShape) -> VirtualShape
     }
 }
 
-/// The bytes of an element.
+/// Returns the bytes of an element.
 fn element_size(array: &FileShape) -> u16
     ensures { result ≡ element_size array.now }
 {
@@ -92,15 +93,15 @@ fn element_size(array: &FileShape) -> u16
     }
 }
 
-/// The low 16 bits of a number.
+/// Returns the low 16 bits of a number.
 fn wrapped(number: u16) -> Int
     ensures { result ≡ wrap (pos number) }
 {
     Int::new(i16::from_be_bytes(number.to_be_bytes()))
 }
 
-/// The next multiple of an element's size, and the end of the greatest file where it lies past it.
-/// An element without bytes stands at the beginning.
+/// Returns the next multiple of an element's size, or the end of the largest file if the multiple
+/// is past that. An array whose elements have no bytes begins at 0.
 fn begins_at(size: u16, behind: u64) -> u64
     requires { behind ≤ 2 ^ 49 }
     ensures { result ≡ begins_at size behind }
@@ -113,7 +114,7 @@ fn begins_at(size: u16, behind: u64) -> u64
     next.min(MOST_FILE_BYTES)
 }
 
-/// How many bytes of its file stand up to the end of an array.
+/// Returns the number of bytes of its file up to the end of an array.
 fn end_of(array: &VirtualShape) -> u64
     requires { array.now.start ≤ most_file_bytes }
     ensures value { result ≡ end_of array.now }
@@ -122,7 +123,7 @@ fn end_of(array: &VirtualShape) -> u64
     array.start + count(array.first, array.second) as u64 * u64::from(array.size)
 }
 
-/// By its name, the first of these arrays that has it.
+/// Returns, for each name, the first of these arrays that has it.
 pub fn by_name(
     alloc: Global,
     arrays: &[VirtualShape],

@@ -1,13 +1,12 @@
-//! Whether a program is sound, and else why it is refused: its least line at which a cause stands,
-//! and the first cause there.
+//! Whether a program is sound, and otherwise why it is rejected: the least line with a cause, and
+//! the first cause there.
 //!
-//! `refusal_of` carries it for a program, and `any_refused_now` for a line of immediate mode: each
-//! answers as `program_model` defines it, on whose definitions and on the trees of `basic_tree` this
-//! crate stands. `Listing` is a program as it is listed, and `Tables` a listing with its FORs and
-//! NEXTs, which `loop_pairs` pairs, and its arrays in files: the clause of each of their calls is the
-//! definition of what it looks up, which `lowering` needs too, to make the code. `lines_in` and
-//! `line_in` give the lines of a program and of immediate mode, `parts` and `calls` are shown the
-//! parts of statements by `statement_walk`, and collect what they name and call.
+//! `refusal_of` promises what `program_model` defines for a program, and `any_refused_now` for a
+//! line of immediate mode. `Listing` is a program as it is listed. `Tables` is a listing with its
+//! FORs and NEXTs, which `loop_pairs` pairs, and its arrays in files. The contract of each of their
+//! calls is the definition of what it looks up; `lowering` needs these too. `lines_in` and
+//! `line_in` return the lines of a program and of immediate mode. `parts` and `calls` are visitors
+//! of `statement_walk`, and collect what statements name and call.
 #![tactic(auto)]
 
 mod bodies;

@@ -1,10 +1,16 @@
-//! Why a program is refused: its least line at which a cause stands, and the first cause there.
+//! Why a program is rejected: the least line with a cause, and the first cause there.
 
 ghost use Rattle.std.specs.Prelude.{◌≡◌, ◌&&◌, not, is_some, map, take, None, IfOk};
 ghost use Rattle.std.specs.List.{flat_map, list_any};
 ghost use Rattle.basic_tree.specs.StatementViews.{statement_of};
 ghost use Rattle.program_model.specs.Program.{body_at, statements_of};
-ghost use Rattle.program_model.specs.Soundness.{can_begin, has_line, handles_errors, is_in_body, goes_across, is_open_for, is_stray_next, is_open_def, is_stray_fnend, is_second_def, is_body_of, results_by, has_stray_result, is_undefined, is_unfit, arrays_in, any_again, is_file_array, stands, stands_in, first_cause, refusal_of, is_refused_now};
+ghost use Rattle.program_model.specs.Soundness.{can_begin, has_line, handles_errors, is_in_body};
+ghost use Rattle.program_model.specs.Soundness.{goes_across, is_open_for, is_stray_next};
+ghost use Rattle.program_model.specs.Soundness.{is_open_def, is_stray_fnend, is_second_def};
+ghost use Rattle.program_model.specs.Soundness.{is_body_of, results_by, has_stray_result};
+ghost use Rattle.program_model.specs.Soundness.{is_undefined, is_unfit, arrays_in, any_again};
+ghost use Rattle.program_model.specs.Soundness.{is_file_array, stands, stands_in, first_cause};
+ghost use Rattle.program_model.specs.Soundness.{refusal_of, is_refused_now};
 ghost use Rattle.program_model.specs.MatrixStatements.{matrices_by};
 ghost use Rattle.program_model.specs.Parts.{simple_in, lines_named_in, calls_made_in};
 ghost use Rattle.program_soundness.specs.Listings.{text_of};
@@ -24,7 +30,7 @@ use loop_pairs::same_body;
 use program_model::{LowerCause, LowerRefusal};
 use std::alloc::Global;
 
-/// In the order in which those of one line are told.
+/// The causes, in the order in which those of one line are reported.
 const CAUSES: [LowerCause; 12] = [
     LowerCause::NoLine,
     LowerCause::OpenFor,
@@ -40,7 +46,7 @@ const CAUSES: [LowerCause; 12] = [
     LowerCause::MatFile,
 ];
 
-/// The least line that is refused, and its first cause.
+/// Returns the least line that is rejected, and its first cause.
 pub fn refusal_of(
     alloc: Global,
     program: &Program,
@@ -62,7 +68,7 @@ pub fn refusal_of(
     Ok(None)
 }
 
-/// The first cause that stands at one of these statements, the first of which is the m-th.
+/// Returns the first cause that applies at one of these statements, the first of which is the m-th.
 fn first_cause(
     alloc: Global,
     program: &Program,
@@ -104,7 +110,7 @@ fn stands_in(
     Ok(false)
 }
 
-/// Whether a cause stands at the m-th statement.
+/// Returns whether a cause applies at the m-th statement.
 fn stands(
     alloc: Global,
     program: &Program,
@@ -137,7 +143,7 @@ fn stands(
 
 // Lines
 
-/// Whether a line is named that is not there.
+/// Returns whether a line is named that does not exist.
 fn lacks_line(alloc: Global, program: &Program, statement: &Statement) -> Result<bool, NoMemory>
     ensures { IfOk result (λ answer. answer
         ≡ list_any (λ n. not (has_line (program_of program.now.lines.entries) n))
@@ -165,8 +171,8 @@ fn has_line(program: &Program, number: u16) -> bool
     program.lines.contains_key(&number)
 }
 
-/// Whether a program can begin at a line, where one is wanted: it is there, and stands for a
-/// statement at main level.
+/// Returns whether a program can begin at this line, if one is given: the line exists, and begins
+/// at main level.
 pub fn can_begin(alloc: Global, program: &Program, line: Option<u16>) -> Result<bool, NoMemory>
     ensures { IfOk result (λ can. can
         ≡ can_begin (program_of program.now.lines.entries) line) }
@@ -180,7 +186,7 @@ pub fn can_begin(alloc: Global, program: &Program, line: Option<u16>) -> Result<
     }
 }
 
-/// Whether the statement for which a line stands is at main level.
+/// Returns whether the statement at which a line begins is at main level.
 fn stands_outside(alloc: Global, program: &Program, number: u16) -> Result<bool, NoMemory>
     ensures { IfOk result (λ outside. outside
         ≡ is_in_body (program_of program.now.lines.entries) None number) }
@@ -189,7 +195,8 @@ fn stands_outside(alloc: Global, program: &Program, number: u16) -> Result<bool,
     Ok(is_in_body(&listing, None, number))
 }
 
-/// The listing of a program. Apart, since each `?` is dear to check where a listing is alive.
+/// Returns the listing of a program. A function of its own, since each `?` is slow to prove while a
+/// listing is alive.
 fn listing_of<'a>(alloc: Global, program: &'a Program) -> Result<Listing<'a>, NoMemory>
     ensures { IfOk result (λ listing. text_of listing
         ≡ program_of program.now.lines.entries) }
@@ -199,7 +206,7 @@ fn listing_of<'a>(alloc: Global, program: &'a Program) -> Result<Listing<'a>, No
 
 // Bodies
 
-/// Whether a line is named that stands in another body, or errors are handled in a body.
+/// Returns whether a line in another body is named, or errors are handled in a body.
 fn goes_across(
     alloc: Global,
     listing: &Listing<'_>,
@@ -308,7 +315,7 @@ fn is_second_def(listing: &Listing<'_>, m: usize, statement: &Statement) -> bool
     }
 }
 
-/// Whether a result is given outside the body of its function.
+/// Returns whether a result is set outside the body of its function.
 fn has_stray_result(
     alloc: Global,
     listing: &Listing<'_>,
@@ -403,7 +410,7 @@ fn is_unfit(listing: &Listing<'_>, call: &Called) -> bool
 
 // DIM
 
-/// Whether an array is dimensioned that was so before.
+/// Returns whether an array has a DIM before.
 fn dimensions_again(
     alloc: Global,
     listing: &Listing<'_>,
@@ -425,7 +432,7 @@ fn dimensions_again(
 
 // MAT
 
-/// Whether a statement of MAT names an array in a file.
+/// Returns whether a statement of MAT names an array in a file.
 fn names_file_array(
     alloc: Global,
     tables: &Tables<'_>,
@@ -453,7 +460,7 @@ fn is_file_array(tables: &Tables<'_>, name: Name) -> bool
 
 // Immediate mode
 
-/// Whether one of these statements stands in no line of immediate mode.
+/// Returns whether one of these statements is not allowed in immediate mode.
 pub fn any_refused_now(alloc: Global, statements: &[Statement]) -> Result<bool, NoMemory>
     ensures { IfOk result (λ answer. answer
         ≡ list_any is_refused_now (map statement_of statements.now)) }

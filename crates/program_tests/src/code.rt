@@ -79,7 +79,8 @@ fn code_has_its_items(rt: HostRuntime) -> Result<(), Fail> {
     expect_none(rt.alloc(), first_wrong(rt.alloc())?)
 }
 
-/// Whether these are the bytes of their files at which the arrays begin from which elements are loaded.
+/// Whether these are the bytes of their files at which the arrays begin from which elements are
+/// loaded.
 fn has_starts(code: &Code, starts: &[u64]) -> bool {
     let mut wanted = starts.iter();
     for item in code.items() {

@@ -285,8 +285,8 @@ fn lines_may_be_entered_in_falling_order(rt: HostRuntime) -> Result<(), Fail> {
     expect_same(&risen, &fallen)
 }
 
-/// Fails unless 1,000 lines of 255 bytes with their numbers, from 1000 on, are listed whole, and the
-/// first and the last are lent.
+/// Fails unless 1,000 lines of 255 bytes with their numbers, from 1000 on, are listed whole, and
+/// the first and the last are lent.
 fn expect_long(text: &mut ProgramText, rest: &[u8]) -> Result<(), Fail> {
     expect(puts(text, 1000, 1000, rest), "all lines are put")?;
     expect(text.list(1, 32767).len() == 257_000, "all lines")?;

@@ -8,7 +8,7 @@ use program_model::{Destination, Home};
 use record_fields::Buffers;
 use std::alloc::Global;
 use std::test::Fail;
-use terminal_line::{Keys, Screen};
+use terminal_line::Screen;
 
 /// Whose files a job names where it names no account.
 const ACCOUNT: Account = Account {
@@ -18,17 +18,15 @@ const ACCOUNT: Account = Account {
 
 /// The state of a job before its program runs.
 pub(crate) fn at_rest(alloc: Global) -> Result<Running, Fail> {
-    let keys = Keys::new(Vec::new(alloc));
     let buffers = Buffers::new(alloc)?;
-    Ok(resting(alloc, keys, buffers))
+    Ok(resting(alloc, buffers))
 }
 
-fn resting(alloc: Global, keys: Keys, buffers: Buffers) -> Running {
+fn resting(alloc: Global, buffers: Buffers) -> Running {
     Running {
         alloc,
         storage: Storage::new(alloc, ACCOUNT, buffers),
         screen: Screen::new(alloc),
-        keys,
         trap: Trap::new(),
         returns: Stack::new(alloc),
         limits: Vec::new(alloc),

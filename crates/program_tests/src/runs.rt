@@ -3,7 +3,7 @@
 use crate::jobs::{at_rest, home};
 use basic_interpreter::{Clock, Exit, Running, run};
 use basic_tree::{Function, Name, Operator, Series};
-use basic_values::{Halt, Text, Trouble};
+use basic_values::{Halt, KeyLine, Text, Trouble};
 use monitor_calls::{Reply, ScriptPort};
 use polish_code::{Code, Item};
 use std::alloc::Global;
@@ -57,6 +57,7 @@ enum Small {
     TestOutput,
     WriteOn,
     Discard,
+    AskLine,
     /// The text of SYS that ends a receiver.
     Remove,
     Sys,
@@ -96,6 +97,7 @@ fn plain(small: Small) -> Item {
         Small::TestOutput => Item::TestOutput,
         Small::WriteOn => Item::WriteOn,
         Small::Discard => Item::Discard,
+        Small::AskLine => Item::AskLine,
         Small::Sys => Item::Apply {
             function: Function::Sys,
             count: 1,
@@ -362,4 +364,35 @@ fn items_ask(rt: HostRuntime) -> Result<(), Fail> {
     expect(rt.alloc(), &ON_THE_TERMINAL)?;
     expect(rt.alloc(), &NOT_OPEN)?;
     expect(rt.alloc(), &SYS_DONE)
+}
+
+/// INPUT LINE of a key line, which is printed.
+static TYPED: Row = (
+    &[Small::Start(0, 3, 10), Small::AskLine, Small::PrintValue],
+    0,
+    "ended",
+    b"? ABC\r\nABC\r\n",
+    1,
+    10,
+);
+
+/// The same at the end of the keys.
+static NOT_TYPED: Row = (
+    &[Small::Start(0, 3, 10), Small::AskLine, Small::PrintValue],
+    0,
+    "fault",
+    b"? ",
+    1,
+    10,
+);
+
+#[test]
+fn a_line_is_typed(rt: HostRuntime) -> Result<(), Fail> {
+    let alloc = rt.alloc();
+    let mut keys = Vec::new(alloc);
+    keys.push(KeyLine::of(alloc, b"ABC")?)?;
+    let mut port = ScriptPort::typed(alloc, keys, Vec::new(alloc));
+    let code = code_of(alloc, TYPED.0)?;
+    expect_over(alloc, &mut port, &code, &TYPED)?;
+    expect(alloc, &NOT_TYPED)
 }

@@ -13,7 +13,7 @@ in_table a b i j low high =
     let P : ℕ → Type 0 = λ n. i * (b + 1) + j < n in
     subst P (mul_comm (b + 1) (a + 1)) (mul-add-lt i (b + 1) j (a + 1) (omega arith) (omega arith))
 
--- SUBSCRIPTS THAT A PLACE TELLS
+-- THE SUBSCRIPTS OF A PLACE
 
 up_to_is_by : (bound m n : ℕ) (b : Bool) → nat_le m bound ≡ b → up_to bound (Some m) ≡ Some n → (m ≡ n) × (n ≤ bound)
 up_to_is_by bound m n true is found =

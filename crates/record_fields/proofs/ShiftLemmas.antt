@@ -1,4 +1,4 @@
--- A field that is moved to the right of another one.
+-- A field that is copied to the right of another one.
 use Rattle.std.proofs.Common.{◌≡◌, ◌≤◌, ◌+◌, ◌-◌, ℕ, List, ◌++◌, length, take, drop, replicate, sym, ap, ◌∙◌, arith}
 use Rattle.std.specs.Prelude.{min}
 use Rattle.std.proofs.Math.Seq.{paste}
@@ -9,7 +9,7 @@ use Rattle.record_fields.specs.Parts.{LiesIn, part_of, with_part}
 use Rattle.record_fields.specs.Writing.{right_justified}
 use borrow.Rule.Slice.PartMut.{put_mid}
 
--- bytes that are written in front of a run that was pasted in
+-- bytes that are written before bytes that were pasted in
 in_front_of : (a k n : ℕ) (xs s ys : List ℕ) → a + k ≤ length xs → put_mid a k (paste xs (a + k) s n) ys ≡ take a xs ++ (ys ++ take n s) ++ drop (a + k + n) xs
 in_front_of a k n xs s ys inside =
     let run : List ℕ = take n s in

@@ -1,10 +1,10 @@
--- A write to a part leaves what stands apart from it.
+-- A write to a part does not change what is apart from it.
 use Rattle.std.proofs.Common.{◌≡◌, ◌≤◌, ◌+◌, ℕ, List, ◌++◌, length, take, drop, sym, ap, ◌∙◌, inl, inr, arith}
 use Rattle.std.proofs.lemmas.List.{append_assoc, length-take-le, take-append-le, drop-append-le, take-append-drop, length-append, length-drop}
 use Rattle.std.proofs.lemmas.Slice.{drop-append-drop}
 use Rattle.record_fields.specs.Laws.{OthersStay}
 
--- bytes within the front hang on nothing behind it
+-- bytes within the front do not depend on what follows it
 within_front : (front rest : List ℕ) (from count : ℕ) → from + count ≤ length front → take count (drop from (front ++ rest)) ≡ take count (drop from front)
 within_front front rest from count within =
     let left : count ≤ length (drop from front) = omega (arith, length-drop from front, within) in

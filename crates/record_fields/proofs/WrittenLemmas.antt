@@ -15,7 +15,7 @@ length_written place bytes buffer =
 pub written_none : (place : ℕ) (buffer : List ℕ) → written_from place [] buffer ≡ buffer
 written_none place buffer = same_lists _ _ (length_written place [] buffer) (λ k d h. grind (arith, places))
 
--- one byte in front of the others
+-- one byte before the others
 one_byte_more : (place byte : ℕ) (bytes buffer : List ℕ) → written_from place (replicate 1 byte ++ bytes) buffer ≡ written_from (place + 1) bytes (slice_set buffer place byte)
 one_byte_more place byte bytes buffer =
     let same : length (written_from place (replicate 1 byte ++ bytes) buffer) ≡ length (written_from (place + 1) bytes (slice_set buffer place byte)) =
@@ -25,7 +25,7 @@ one_byte_more place byte bytes buffer =
 pub written_more : (place byte : ℕ) (bytes buffer : List ℕ) → written_from place (byte ∷ bytes) buffer ≡ written_from (place + 1) bytes (slice_set buffer place byte)
 written_more place byte bytes buffer = one_byte_more place byte bytes buffer
 
--- written over a part of the buffer alone
+-- a write that changes only a part of the buffer
 pub written_in_place : (start kept place : ℕ) (bytes buffer part : List ℕ) → start ≡ min place (length buffer) → kept ≡ min (length bytes) (length buffer - start) → part ≡ take kept bytes
     → put_mid start kept buffer part ≡ written_from place bytes buffer
 written_in_place start kept place bytes buffer part begins long is = same_lists _ _ (grind (arith, places)) (λ k d h. grind (arith, places))

@@ -23,18 +23,19 @@ with_buffer channel bytes buffers = slice_set buffers (channel - 1) bytes
 abbrev pub blank : RecordSize → List ℕ
 blank size = replicate (bytes_of size) 0
 
--- the first bytes of these, with zeros behind fewer ones
+-- the first of these bytes, with zeros after fewer ones
 abbrev pub zero_filled : ℕ → List ℕ → List ℕ
 zero_filled width bytes = take width bytes ++ replicate (width - length bytes) 0
 
--- a buffer with these bytes in front and zeros behind them; it keeps its size
+-- a buffer with these bytes at its front and zeros after them; it keeps its size
 abbrev pub filled : List ℕ → List ℕ → List ℕ
 filled bytes buffer = zero_filled (length buffer) bytes
 
--- a buffer in which a part has these bytes in front and zeros behind them; a part that does not lie in it takes none
+-- a buffer in which a part has these bytes at its front and zeros after them; a part that is not in
+-- the buffer is ignored
 abbrev pub fill_part : Part → List ℕ → List ℕ → List ℕ
 fill_part part bytes buffer = if lies_in (length buffer) part then with_part part (zero_filled part.length bytes) buffer else buffer
 
--- a buffer with these bytes from a place on; what passes its end is dropped
+-- a buffer with these bytes from a place on; bytes past its end are dropped
 abbrev pub written_from : ℕ → List ℕ → List ℕ → List ℕ
 written_from place bytes buffer = take (length buffer) (take place buffer ++ bytes ++ drop (place + length bytes) buffer)

@@ -1,4 +1,4 @@
--- How many bytes the buffer of a channel has, whatever the size of its records.
+-- The bytes of a channel's buffer, for any size of its records.
 use Rattle.std.specs.Prelude.{ℕ, ◌*◌, ◌≤◌, List, length}
 use Rattle.basic_values.specs.declared.limits.TheConstants.{MOST_RECORD_BLOCKS}
 use Rattle.record_fields.specs.declared.buffers.TheConstants.{BUFFER_BYTES}

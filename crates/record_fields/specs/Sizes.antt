@@ -1,4 +1,4 @@
--- How large the records of a channel are.
+-- The size of a channel's records.
 use Rattle.std.specs.Prelude.{ℕ, ◌*◌, Bool, true, false}
 use Rattle.record_fields.specs.declared.buffers.TheConstants.{BUFFER_BYTES}
 use Rattle.record_fields.specs.declared.sizes.RecordSize.{RecordSize}

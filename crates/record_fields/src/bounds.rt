@@ -1,5 +1,5 @@
-//! Arrays under their bounds, in memory as in a file: how many elements there are, and where each
-//! of them stands.
+//! Arrays under their bounds, in memory or in a file: how many elements there are, and the place of
+//! each.
 
 ghost use Rattle.std.specs.Prelude.{◌≡◌, ◌≤◌, ◌<◌, ◌*◌, IfSome};
 ghost use Rattle.record_fields.specs.Bounds.{count, within, place_under};
@@ -7,7 +7,7 @@ ghost use Rattle.record_fields.specs.Bounds.{count, within, place_under};
 use crate::layouts::natural;
 use basic_values::Int;
 
-/// How many elements an array with these greatest subscripts has.
+/// Returns the number of elements of an array with these bounds.
 pub fn count(first: u16, second: Option<u16>) -> usize
     ensures count { result ≡ count first second }
     ensures small { result ≤ 65536 * 65536 }
@@ -19,7 +19,7 @@ pub fn count(first: u16, second: Option<u16>) -> usize
     }
 }
 
-/// A subscript that is not outside its bound.
+/// Returns the subscript, if it is from 0 to its bound.
 fn within(bound: u16, subscript: Int) -> Option<u16>
     ensures value { result ≡ within bound subscript }
     ensures small { IfSome result (λ n. n ≤ bound) }
@@ -30,8 +30,8 @@ fn within(bound: u16, subscript: Int) -> Option<u16>
     }
 }
 
-/// The place of an element, where there are as many subscripts as bounds and none is outside. Rows
-/// stand one behind the other: the last subscript runs fastest.
+/// Returns the place of an element, if there is a subscript for each bound and none is out of
+/// range. The elements are in rows: the last subscript varies fastest.
 #[tactic(auto, using(crate::proofs::PlaceLemmas::in_table))]
 pub fn place_under(first: u16, second: Option<u16>, i: Int, j: Option<Int>) -> Option<usize>
     ensures value { result ≡ place_under first second i j }

@@ -3,7 +3,8 @@
 ghost use Rattle.std.specs.Prelude.{◌≡◌, ◌*◌, ◌-◌, ◌≤◌, length, replicate, IfOk, OnOk, OnErr};
 ghost use Rattle.basic_values.specs.declared.limits.TheConstants.{MOST_RECORD_BLOCKS};
 ghost use Rattle.record_fields.specs.declared.sizes.RecordSize.TheVariants.{One};
-ghost use Rattle.record_fields.specs.Buffers.{blank, buffer_of, filled, fill_part, with_buffer, written_from, IsChannel};
+ghost use Rattle.record_fields.specs.Buffers.{blank, buffer_of, filled, fill_part, with_buffer};
+ghost use Rattle.record_fields.specs.Buffers.{written_from, IsChannel};
 ghost use Rattle.record_fields.specs.Parts.{part_of};
 ghost use Rattle.record_fields.specs.Writing.{set_part, shifted};
 
@@ -15,13 +16,13 @@ use basic_values::limits::{BLOCK_BYTES, LAST_CHANNEL};
 use std::alloc::Global;
 use std::marker::Model;
 
-/// The channels of a job that have a buffer, which are numbered from 1.
+/// The number of channels that have a buffer. They are numbered from 1.
 pub const BUFFER_COUNT: usize = LAST_CHANNEL as usize;
 
 /// The bytes of a buffer for records of one block, and of a block of a file.
 pub const BUFFER_BYTES: usize = BLOCK_BYTES;
 
-/// The buffer of one channel: from one block to as many as a record may have.
+/// The buffer of one channel: from one block to as many blocks as a record can have.
 #[derive(Drop)]
 struct Buffer {
     bytes: Vec<u8>,
@@ -39,7 +40,7 @@ impl Model for Buffer {
 }
 
 impl Buffer {
-    /// A buffer of zeros for records of this size.
+    /// Returns a buffer of zeros for records of this size.
     fn new(alloc: Global, size: RecordSize) -> Result<Buffer, NoMemory>
         ensures { IfOk result (λ buffer. buffer ≡ blank size) }
     {
@@ -47,7 +48,7 @@ impl Buffer {
         Ok(Buffer { bytes })
     }
 
-    /// Its bytes.
+    /// Returns its bytes.
     fn as_bytes(&self) -> &[u8]
         ensures bytes { result.now ≡ self.now }
         ensures least { BUFFER_BYTES ≤ length self.now }
@@ -56,7 +57,7 @@ impl Buffer {
         self.bytes.as_slice()
     }
 
-    /// Leaves one block, of zeros.
+    /// Makes it one block of zeros.
     fn shrink(&mut self)
         ensures { self.new ≡ blank One }
     {
@@ -64,35 +65,35 @@ impl Buffer {
         self.bytes.fill(0);
     }
 
-    /// Takes these bytes in front, with zeros behind them.
+    /// Writes these bytes at the front, with zeros after them.
     fn fill(&mut self, bytes: &[u8])
         ensures { self.new ≡ filled bytes.now self.old }
     {
         fill(self.bytes.as_mut_slice(), bytes);
     }
 
-    /// Takes these bytes from a place on; what passes the end is dropped.
+    /// Writes these bytes from a place on; bytes past the end are dropped.
     fn write_from(&mut self, place: u16, bytes: &[u8])
         ensures { self.new ≡ written_from place bytes.now self.old }
     {
         write_from(self.bytes.as_mut_slice(), place as usize, bytes);
     }
 
-    /// LSET or RSET of a part.
+    /// Does LSET or RSET of a part.
     fn set_part(&mut self, part: Part, value: &[u8], side: Side)
         ensures { self.new ≡ set_part side part value.now self.old }
     {
         set_part(self.bytes.as_mut_slice(), part, value, side);
     }
 
-    /// Moves what one part holds to another.
+    /// Copies one part to another, as LSET or RSET does.
     fn shift(&mut self, from: Part, to: Part, side: Side)
         ensures { self.new ≡ shifted from to side self.old }
     {
         shift_within(self.bytes.as_mut_slice(), from, to, side);
     }
 
-    /// Fills a part: these bytes in front, and zeros behind them.
+    /// Fills a part with these bytes, and zeros after them.
     fn fill_part(&mut self, part: Part, bytes: &[u8])
         ensures { self.new ≡ fill_part part bytes.now self.old }
     {
@@ -100,7 +101,7 @@ impl Buffer {
     }
 }
 
-/// A buffer for each of the twelve channels: of 512 bytes for each block of its records.
+/// A buffer for each of the twelve channels, with 512 bytes for each block of its records.
 #[derive(Drop)]
 pub struct Buffers {
     buffers: Vec<Buffer>,
@@ -118,7 +119,7 @@ impl Model for Buffers {
 }
 
 impl Buffers {
-    /// Buffers of one block of zeros.
+    /// Returns buffers of one block of zeros.
     pub fn new(alloc: Global) -> Result<Buffers, NoMemory>
         ensures { IfOk result (λ buffers. buffers ≡ replicate BUFFER_COUNT (blank One)) }
     {
@@ -129,7 +130,7 @@ impl Buffers {
         Ok(Buffers { buffers })
     }
 
-    /// The buffer of a channel.
+    /// Returns the buffer of a channel.
     pub fn buffer(&self, channel: u8) -> &[u8]
         requires { IsChannel channel }
         ensures bytes { result.now ≡ buffer_of channel self.now }
@@ -139,8 +140,8 @@ impl Buffers {
         self.buffers[(channel - 1) as usize].as_bytes()
     }
 
-    /// Makes the channel's buffer one of zeros, for records of this size. Without memory the buffer
-    /// stays.
+    /// Makes the channel's buffer one of zeros, for records of this size. If memory runs out, the
+    /// buffer stays.
     pub fn set_size(&mut self, alloc: Global, channel: u8, size: RecordSize) -> Result<(), NoMemory>
         requires { IsChannel channel }
         ensures ok { OnOk result (self.new ≡ with_buffer channel (blank size) self.old) }
@@ -151,7 +152,7 @@ impl Buffers {
         Ok(())
     }
 
-    /// Leaves the channel a buffer of one block of zeros. It takes no memory.
+    /// Makes the channel's buffer one block of zeros. It takes no memory.
     pub fn shrink(&mut self, channel: u8)
         requires { IsChannel channel }
         ensures { self.new ≡ with_buffer channel (blank One) self.old }
@@ -159,7 +160,7 @@ impl Buffers {
         self.buffers[(channel - 1) as usize].shrink();
     }
 
-    /// Fills the channel's buffer: these bytes in front, and zeros behind them.
+    /// Fills the channel's buffer with these bytes, and zeros after them.
     pub fn fill(&mut self, channel: u8, bytes: &[u8])
         requires { IsChannel channel }
         ensures { self.new
@@ -168,7 +169,7 @@ impl Buffers {
         self.buffers[(channel - 1) as usize].fill(bytes);
     }
 
-    /// Writes these bytes into the channel's buffer, from a place on; what passes its end is
+    /// Writes these bytes into the channel's buffer, from a place on; bytes past its end are
     /// dropped.
     pub fn write_from(&mut self, channel: u8, place: u16, bytes: &[u8])
         requires { IsChannel channel }
@@ -178,7 +179,7 @@ impl Buffers {
         self.buffers[(channel - 1) as usize].write_from(place, bytes);
     }
 
-    /// The bytes of a part of the channel's buffer, as far as they are there.
+    /// Returns the bytes of a part of the channel's buffer, as far as they exist.
     pub fn part(&self, channel: u8, part: Part) -> &[u8]
         ensures { result.now ≡ part_of part (buffer_of channel self.entry.now) }
     {
@@ -188,8 +189,8 @@ impl Buffers {
         }
     }
 
-    /// Fills a part of the channel's buffer: these bytes in front, and zeros behind them. A part that
-    /// does not lie in it takes nothing.
+    /// Fills a part of the channel's buffer with these bytes, and zeros after them. A part that is
+    /// not in the buffer is ignored.
     pub fn fill_part(&mut self, channel: u8, part: Part, bytes: &[u8])
         ensures { self.new ≡ with_buffer channel
             (fill_part part bytes.now (buffer_of channel self.old)) self.old }
@@ -200,7 +201,8 @@ impl Buffers {
         }
     }
 
-    /// LSET or RSET of a part of the channel's buffer. A part that does not lie in it takes nothing.
+    /// Does LSET or RSET of a part of the channel's buffer. A part that is not in the buffer is
+    /// ignored.
     pub fn set_part(&mut self, channel: u8, part: Part, value: &[u8], side: Side)
         ensures { self.new ≡ with_buffer channel
             (set_part side part value.now (buffer_of channel self.old)) self.old }
@@ -211,8 +213,8 @@ impl Buffers {
         }
     }
 
-    /// LSET or RSET of a part of the channel's buffer with what another part of it holds. It takes
-    /// no memory, and the parts may overlap.
+    /// Does LSET or RSET of a part of the channel's buffer, with another part of it as the value.
+    /// It takes no memory, and the parts may overlap.
     pub fn shift(&mut self, channel: u8, from: Part, to: Part, side: Side)
         ensures { self.new
             ≡ with_buffer channel (shifted from to side (buffer_of channel self.old)) self.old }
@@ -224,7 +226,7 @@ impl Buffers {
     }
 }
 
-/// Where the buffer of a channel stands in the list of them.
+/// Returns the index of a channel's buffer in the list.
 fn index(channel: u8) -> usize
     ensures { result ≡ channel - 1 }
 {

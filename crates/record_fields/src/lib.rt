@@ -1,10 +1,10 @@
 //! Record fields: the buffers of a job's channels, the parts of them that FIELD names, and what
 //! LSET and RSET write there.
 //!
-//! `Buffers` carries which bytes each channel's buffer has, and of how many blocks; `layout` which
-//! parts some widths give; `lend`, `write_part`, `lset_part` and `rset_part` that a part is a range
-//! of its buffer, and that a write replaces that range and no more; `shift_within` that a field is
-//! moved onto another one in its place; `place_under` where an element of an array stands; `laws`
+//! `Buffers` promises which bytes each channel's buffer has, and how many blocks. `layout` says
+//! which parts some widths give. `lend`, `write_part`, `lset_part` and `rset_part` say that a part
+//! is a range of its buffer, and that a write replaces just that range. `shift_within` moves one
+//! field onto another in place, and `place_under` gives the place of an array element. `laws` says
 //! that what was written is read, that other parts stay, and that no two elements share a place.
 #![tactic(auto)]
 

@@ -1,4 +1,4 @@
-//! How large the records of a channel are.
+//! The size of a channel's records.
 
 ghost use Rattle.std.specs.Prelude.{◌≡◌, ◌*◌, ◌≤◌};
 ghost use Rattle.basic_values.specs.declared.limits.TheConstants.{MOST_RECORD_BLOCKS};
@@ -7,7 +7,7 @@ ghost use Rattle.record_fields.specs.declared.buffers.TheConstants.{BUFFER_BYTES
 
 use crate::buffers::BUFFER_BYTES;
 
-/// How many blocks a record of a channel has.
+/// The number of blocks of a channel's records.
 #[derive(Clone, Copy)]
 pub enum RecordSize {
     One,
@@ -16,7 +16,7 @@ pub enum RecordSize {
 }
 
 impl RecordSize {
-    /// The blocks of a record.
+    /// Returns the blocks of a record.
     pub fn blocks(self) -> u8
         ensures is { result ≡ blocks_of self }
         ensures least { 1 ≤ result }
@@ -29,14 +29,14 @@ impl RecordSize {
         }
     }
 
-    /// Whether a record is one block.
+    /// Returns whether a record is one block.
     pub fn is_single(self) -> bool
         ensures { result ≡ is_single self }
     {
         matches!(self, RecordSize::One)
     }
 
-    /// The bytes of a record.
+    /// Returns the bytes of a record.
     pub fn bytes(self) -> u16
         ensures is { result ≡ bytes_of self }
         ensures least { BUFFER_BYTES ≤ result }

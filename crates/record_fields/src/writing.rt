@@ -1,4 +1,4 @@
-//! What LSET and RSET write, also where a field is moved onto another one, and what fills a buffer.
+//! What LSET and RSET write, also from one field to another, and what fills a buffer.
 
 ghost use Rattle.std.specs.Prelude.{◌≡◌, length};
 ghost use Rattle.record_fields.specs.Buffers.{filled, fill_part, written_from};
@@ -7,16 +7,16 @@ ghost use Rattle.record_fields.specs.Writing.{left_justified, right_justified, s
 
 use crate::parts::{Part, inside};
 
-/// The side of a field at which a value stands.
+/// The side of a field at which a value is written.
 #[derive(Clone, Copy)]
 pub enum Side {
-    /// That of LSET.
+    /// The left side, for LSET.
     Left,
-    /// That of RSET.
+    /// The right side, for RSET.
     Right,
 }
 
-/// Writes the first bytes of a value, with spaces behind a shorter one. The manual's LSET.
+/// Writes the first bytes of a value, with spaces after a shorter one: the manual's LSET.
 pub fn lset(target: &mut [u8], value: &[u8])
     ensures { target.new ≡ left_justified (length target.old) value.now }
 {
@@ -25,7 +25,7 @@ pub fn lset(target: &mut [u8], value: &[u8])
     target[kept..].fill(b' ');
 }
 
-/// Writes the last bytes of a value, with spaces in front of a shorter one. The manual's RSET.
+/// Writes the last bytes of a value, with spaces before a shorter one: the manual's RSET.
 pub fn rset(target: &mut [u8], value: &[u8])
     ensures { target.new ≡ right_justified (length target.old) value.now }
 {
@@ -35,7 +35,7 @@ pub fn rset(target: &mut [u8], value: &[u8])
     target[spaces..].copy_from_slice(&value[value.len() - kept..]);
 }
 
-/// Writes the first bytes of these, with zeros behind fewer ones.
+/// Writes the first of these bytes, with zeros after fewer ones.
 pub fn fill(target: &mut [u8], bytes: &[u8])
     ensures { target.new ≡ filled bytes.now target.old }
 {
@@ -44,7 +44,7 @@ pub fn fill(target: &mut [u8], bytes: &[u8])
     target[kept..].fill(0);
 }
 
-/// Writes these bytes from a place on; what passes the end is dropped. The rest stays.
+/// Writes these bytes from a place on; bytes past the end are dropped. The rest stays.
 pub fn write_from(target: &mut [u8], place: usize, bytes: &[u8])
     ensures { target.new ≡ written_from place bytes.now target.old }
 {
@@ -53,7 +53,7 @@ pub fn write_from(target: &mut [u8], place: usize, bytes: &[u8])
     target[start..start + kept].copy_from_slice(&bytes[..kept]);
 }
 
-/// LSET of a part. The rest of the buffer stays.
+/// Does LSET of a part. The rest of the buffer stays.
 pub fn lset_part(buffer: &mut [u8], part: Part, value: &[u8])
     requires { LiesIn (length buffer.old) part }
     ensures { buffer.new ≡ with_part part (left_justified part.length value.now) buffer.old }
@@ -62,7 +62,7 @@ pub fn lset_part(buffer: &mut [u8], part: Part, value: &[u8])
     lset(&mut buffer[start..start + part.length as usize], value);
 }
 
-/// RSET of a part. The rest of the buffer stays.
+/// Does RSET of a part. The rest of the buffer stays.
 pub fn rset_part(buffer: &mut [u8], part: Part, value: &[u8])
     requires { LiesIn (length buffer.old) part }
     ensures { buffer.new ≡ with_part part (right_justified part.length value.now) buffer.old }
@@ -71,8 +71,8 @@ pub fn rset_part(buffer: &mut [u8], part: Part, value: &[u8])
     rset(&mut buffer[start..start + part.length as usize], value);
 }
 
-/// Writes the first bytes of these into a part, with zeros behind fewer ones. A part that does not
-/// lie in the buffer takes nothing.
+/// Writes the first of these bytes into a part, with zeros after fewer ones. A part that is not in
+/// the buffer is ignored.
 pub fn fill_part(buffer: &mut [u8], part: Part, bytes: &[u8])
     ensures { buffer.new ≡ fill_part part bytes.now buffer.old }
 {
@@ -83,7 +83,7 @@ pub fn fill_part(buffer: &mut [u8], part: Part, bytes: &[u8])
     }
 }
 
-/// LSET or RSET of a part. A part that does not lie in the buffer takes nothing.
+/// Does LSET or RSET of a part. A part that is not in the buffer is ignored.
 pub fn set_part(buffer: &mut [u8], part: Part, value: &[u8], side: Side)
     ensures { buffer.new ≡ set_part side part value.now buffer.old }
 {
@@ -96,8 +96,8 @@ pub fn set_part(buffer: &mut [u8], part: Part, value: &[u8], side: Side)
     }
 }
 
-/// Moves what one part holds to another, to the left or to the right of it, as LSET or RSET with
-/// these bytes as value would. The parts may overlap, and no copy of them is made.
+/// Copies the bytes of one part to another, as LSET or RSET with these bytes as the value does. The
+/// parts may overlap, and no copy of them is made.
 pub fn shift_within(buffer: &mut [u8], from: Part, to: Part, side: Side)
     ensures { buffer.new ≡ shifted from to side buffer.old }
 {

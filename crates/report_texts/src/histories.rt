@@ -3,16 +3,19 @@
 ghost use Rattle.std.specs.Prelude.{◌≡◌, ◌<◌, [], ◌∷◌, ◌++◌, codes, OnOk, OnErr};
 ghost use Rattle.std.specs.List.{flat_map};
 ghost use Rattle.std.specs.Fmt.{decimal};
-ghost use Rattle.deck_model.specs.Histories.{hex_sign, hex_text, hex_or_dash, pages_text, account_digits, truth_text, number_or_dash, letters_or_dash, printed_name, kind_text, fields, request_text, reply_text, entry_line, entry_lines, history_text};
+ghost use Rattle.deck_model.specs.Histories.{count_text, hex_sign, hex_text, hex_or_dash};
+ghost use Rattle.deck_model.specs.Histories.{pages_text, account_digits, truth_text};
+ghost use Rattle.deck_model.specs.Histories.{number_or_dash, letters_or_dash, printed_name};
+ghost use Rattle.deck_model.specs.Histories.{kind_text, fields, request_text, reply_text};
+ghost use Rattle.deck_model.specs.Histories.{entry_line, entry_lines, history_text};
 
 use basic_values::NoMemory;
 use file_names::print;
 use itoa::Buffer;
 use monitor_calls::{Account, Entry, FileName, OpenKind, Page, Reply, Request, Short};
 
-/// Writes the text of a history behind what is there: `HISTORY` and the number of its entries, and
-/// a line for each. Each history has one text. Where memory runs out nothing is left, of what was
-/// there neither.
+/// Appends the text of a history: `HISTORY` and the number of its entries, and a line for each.
+/// Each history has one text. If memory runs out, nothing is left, not even what was there before.
 pub fn push_history(out: &mut Vec<u8>, history: &[Entry]) -> Result<(), NoMemory>
     ensures text { OnOk result (out.new.items ≡ out.old.items ++ history_text history.now) }
     ensures memory { OnErr result (out.new.items ≡ []) }
@@ -27,11 +30,24 @@ pub fn push_history(out: &mut Vec<u8>, history: &[Entry]) -> Result<(), NoMemory
 fn push_text(out: &mut Vec<u8>, history: &[Entry]) -> Result<(), NoMemory>
     ensures { OnOk result (out.new.items ≡ out.old.items ++ history_text history.now) }
 {
-    let mut buffer = Buffer::new();
     out.extend_from_slice(b"HISTORY ")?;
-    out.extend_from_slice(buffer.format(history.len()).as_bytes())?;
+    push_count(out, history.len())?;
     out.push(b'\n')?;
     push_entries(out, history)
+}
+
+/// Appends all digits of a number.
+fn push_count(out: &mut Vec<u8>, count: usize) -> Result<(), NoMemory>
+    ensures { OnOk result (out.new.items ≡ out.old.items ++ count_text count) }
+{
+    push_digits(out, count)
+}
+
+fn push_digits(out: &mut Vec<u8>, number: usize) -> Result<(), NoMemory>
+    ensures { OnOk result (out.new.items ≡ out.old.items ++ decimal number) }
+{
+    let mut buffer = Buffer::new();
+    Ok(out.extend_from_slice(buffer.format(number).as_bytes())?)
 }
 
 fn push_entries(out: &mut Vec<u8>, entries: &[Entry]) -> Result<(), NoMemory>
@@ -43,7 +59,7 @@ fn push_entries(out: &mut Vec<u8>, entries: &[Entry]) -> Result<(), NoMemory>
     Ok(())
 }
 
-/// The job, the request and the reply of a call.
+/// Appends the job, the request and the reply of a call.
 fn push_entry(out: &mut Vec<u8>, entry: &Entry) -> Result<(), NoMemory>
     ensures { OnOk result (out.new.items ≡ out.old.items ++ entry_line entry.now) }
 {
@@ -56,7 +72,9 @@ fn push_entry(out: &mut Vec<u8>, entry: &Entry) -> Result<(), NoMemory>
     Ok(out.push(b'\n')?)
 }
 
-fn push_request(out: &mut Vec<u8>, request: &Request) -> Result<(), NoMemory>
+/// Appends the text of a request in a history. If memory runs out, a part of it may have been
+/// appended.
+pub fn push_request(out: &mut Vec<u8>, request: &Request) -> Result<(), NoMemory>
     ensures { OnOk result (out.new.items ≡ out.old.items ++ request_text request.now) }
 {
     match request {
@@ -146,7 +164,9 @@ fn push_request(out: &mut Vec<u8>, request: &Request) -> Result<(), NoMemory>
     }
 }
 
-fn push_reply(out: &mut Vec<u8>, reply: &Reply) -> Result<(), NoMemory>
+/// Appends the text of a reply in a history. If memory runs out, a part of it may have been
+/// appended.
+pub fn push_reply(out: &mut Vec<u8>, reply: &Reply) -> Result<(), NoMemory>
     ensures { OnOk result (out.new.items ≡ out.old.items ++ reply_text reply.now) }
 {
     match reply {
@@ -199,7 +219,7 @@ fn push_reply(out: &mut Vec<u8>, reply: &Reply) -> Result<(), NoMemory>
     }
 }
 
-/// A word, and the channel that it speaks of.
+/// Appends a word, and a channel.
 fn push_channel(out: &mut Vec<u8>, word: &[u8], channel: u8) -> Result<(), NoMemory>
     ensures { OnOk result
         (out.new.items ≡ out.old.items ++ word.now ++ fields (decimal channel ∷ [])) }
@@ -208,7 +228,7 @@ fn push_channel(out: &mut Vec<u8>, word: &[u8], channel: u8) -> Result<(), NoMem
     push_number(out, u32::from(channel))
 }
 
-/// A word, and the block of a channel that it speaks of.
+/// Appends a word, a channel and a block.
 fn push_place(out: &mut Vec<u8>, word: &[u8], channel: u8, block: u16) -> Result<(), NoMemory>
     ensures { OnOk result (out.new.items
         ≡ out.old.items ++ word.now ++ fields (decimal channel ∷ decimal block ∷ [])) }
@@ -217,7 +237,7 @@ fn push_place(out: &mut Vec<u8>, word: &[u8], channel: u8, block: u16) -> Result
     push_number(out, u32::from(block))
 }
 
-/// What is opened, on which channel, and how.
+/// Appends an OPEN: its channel, its file, and how it is opened.
 fn push_opened(
     out: &mut Vec<u8>,
     channel: u8,
@@ -241,7 +261,7 @@ fn push_renamed(out: &mut Vec<u8>, old: &FileName, new: &FileName) -> Result<(),
     push_name(out, new)
 }
 
-/// A field, with a space in front.
+/// Appends a field, after a space.
 fn push_field(out: &mut Vec<u8>, field: &[u8]) -> Result<(), NoMemory>
     ensures { OnOk result (out.new.items ≡ out.old.items ++ codes " " ++ field.now) }
 {
@@ -256,7 +276,7 @@ fn push_number(out: &mut Vec<u8>, number: u32) -> Result<(), NoMemory>
     push_field(out, buffer.format(number).as_bytes())
 }
 
-/// A code; a dash where there is none.
+/// Appends a protection code, or a dash if there is none.
 fn push_code(out: &mut Vec<u8>, code: Option<u8>) -> Result<(), NoMemory>
     ensures { OnOk result (out.new.items ≡ out.old.items ++ codes " " ++ number_or_dash code) }
 {
@@ -266,7 +286,7 @@ fn push_code(out: &mut Vec<u8>, code: Option<u8>) -> Result<(), NoMemory>
     }
 }
 
-/// How many blocks a file has; a dash where that is not told.
+/// Appends a number of blocks, or a dash if it is not known.
 fn push_blocks(out: &mut Vec<u8>, blocks: Option<u16>) -> Result<(), NoMemory>
     ensures { OnOk result (out.new.items ≡ out.old.items ++ codes " " ++ number_or_dash blocks) }
 {
@@ -289,7 +309,7 @@ fn push_name(out: &mut Vec<u8>, name: &FileName) -> Result<(), NoMemory>
     push_field(out, print(name).as_slice())
 }
 
-/// The letters of a short name; a dash where it has none.
+/// Appends the letters of a short name, or a dash if it has none.
 fn push_letters(out: &mut Vec<u8>, name: &Short) -> Result<(), NoMemory>
     ensures { OnOk result (out.new.items ≡ out.old.items ++ codes " " ++ letters_or_dash name.now) }
 {
@@ -319,7 +339,7 @@ fn push_account(out: &mut Vec<u8>, account: Account) -> Result<(), NoMemory>
     Ok(out.extend_from_slice(buffer.format(account.programmer).as_bytes())?)
 }
 
-/// Each byte as two hexadecimal signs; no bytes as a dash.
+/// Appends each byte as two hexadecimal digits, or a dash if there are none.
 fn push_hex_or_dash(out: &mut Vec<u8>, bytes: &[u8]) -> Result<(), NoMemory>
     ensures { OnOk result (out.new.items ≡ out.old.items ++ codes " " ++ hex_or_dash bytes.now) }
 {
@@ -330,7 +350,7 @@ fn push_hex_or_dash(out: &mut Vec<u8>, bytes: &[u8]) -> Result<(), NoMemory>
     }
 }
 
-/// The blocks of a record in one run; no blocks as a dash.
+/// Appends the blocks of a record without spaces, or a dash if there are none.
 fn push_pages(out: &mut Vec<u8>, pages: &[Page]) -> Result<(), NoMemory>
     ensures { OnOk result (out.new.items ≡ out.old.items ++ codes " " ++ pages_text pages.now) }
 {
@@ -350,7 +370,8 @@ fn push_run(out: &mut Vec<u8>, pages: &[Page]) -> Result<(), NoMemory>
     Ok(())
 }
 
-fn push_hex(out: &mut Vec<u8>, bytes: &[u8]) -> Result<(), NoMemory>
+/// Writes the bytes as hexadecimal digits, two for each, in small letters.
+pub fn push_hex(out: &mut Vec<u8>, bytes: &[u8]) -> Result<(), NoMemory>
     ensures { OnOk result (out.new.items ≡ out.old.items ++ hex_text bytes.now) }
 {
     for byte in bytes {
@@ -360,7 +381,7 @@ fn push_hex(out: &mut Vec<u8>, bytes: &[u8]) -> Result<(), NoMemory>
     Ok(())
 }
 
-/// The sign of a number below 16, in small letters.
+/// Returns the hexadecimal digit of a number below 16, a small letter from 10 on.
 fn hex_sign(number: u8) -> u8
     requires { number < 16 }
     ensures { result ≡ hex_sign number }

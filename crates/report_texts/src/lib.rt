@@ -6,5 +6,5 @@
 mod histories;
 mod reports;
 
-pub use histories::push_history;
+pub use histories::{push_hex, push_history, push_reply, push_request};
 pub use reports::{good_line, report};

@@ -10,7 +10,8 @@ use itoa::Buffer;
 use monitor_calls::{Screen2, TerminalName};
 use std::alloc::Global;
 
-/// The report of a run: each terminal's name, how many bytes its screen has, and the screen.
+/// Returns the report of a run: each terminal's name, the number of bytes on its screen, and the
+/// screen.
 pub fn report(
     alloc: Global,
     terminals: &[Terminal],
@@ -40,7 +41,7 @@ fn push_report(out: &mut Vec<u8>, name: &TerminalName, screen: &Screen2) -> Resu
     Ok(out.push(b'\n')?)
 }
 
-/// What a check of a good deck writes.
+/// Returns what a check of a good deck writes.
 pub fn good_line(
     alloc: Global,
     accounts: usize,

@@ -1,6 +1,7 @@
 //! Sources and sinks in memory that fail the calls that they are told.
 
-ghost use Rattle.std.specs.Prelude.{◌≡◌, ℕ, ◌-◌, ◌<◌, ◌≤◌, ◌⊎◌, ◌↔◌, true, [], min, length, Some, IfOk};
+ghost use Rattle.std.specs.Prelude.{◌≡◌, ℕ, ◌-◌, ◌<◌, ◌≤◌, ◌⊎◌, ◌↔◌, true, [], min, length, Some};
+ghost use Rattle.std.specs.Prelude.{IfOk};
 ghost use Rattle.rsts_io.specs.Ends.{raised, IsTaken, Accepts};
 ghost use Rattle.rsts_io.specs.Memory.{sink_room, is_listed, feed_state, store_state};
 

@@ -121,7 +121,7 @@ fn ends_that_move_few_bytes_a_call_change_nothing(rt: HostRuntime) -> Result<(),
 /// do not follow, the line that is refused, and its cause.
 type Row<'a> = (usize, &'a [u8], usize, u32, &'static str);
 
-const VERSION: &str = "not a version 1 or 2 deck";
+const VERSION: &str = "not a version 1, 2 or 3 deck";
 
 const SHAPE: &str = "wrong form";
 

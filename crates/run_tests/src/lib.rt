@@ -1,7 +1,9 @@
-//! Tests of the program through its top call alone: runs, checks, drills and replays of decks between
-//! ends in memory, at terminals in threads.
+//! Tests of the program through its top call alone: runs, checks, drills and replays of decks
+//! between ends in memory, at terminals in threads.
 #![tactic(auto)]
 
+#[cfg(test)]
+mod alone;
 #[cfg(test)]
 mod calls;
 #[cfg(test)]

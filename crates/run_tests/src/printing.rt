@@ -79,7 +79,8 @@ const PRINTED_FILES: &[Row<'static>] = &[
 static OF_ONE_TERMINAL: Printing = Printing {
     system: (FILES, &[PRINTED_FILES]),
     holds: &[],
-    printed: b"PRINTED 3\nLISTING T0 15\n10 PRINT \"HI\"\r\n\nLISTING T0 0\n\nLISTING T0 6\nLINE\r\n\n",
+    printed: b"PRINTED 3\nLISTING T0 15\n10 PRINT \"HI\"\r\n\n\
+     LISTING T0 0\n\nLISTING T0 6\nLINE\r\n\n",
 };
 
 #[test]

@@ -151,8 +151,8 @@ fn a_disputed_history_is_told_its_line_and_cause(rt: HostRuntime) -> Result<(), 
     expect_disputed(&rt, rt.alloc(), FIRST_SUM, &DISPUTED)
 }
 
-/// Texts behind the eleven lines of a deck of two terminals: one left out of the middle and one of the
-/// end, a history of another deck, and two terminals that both depart.
+/// Texts behind the eleven lines of a deck of two terminals: one left out of the middle and one of
+/// the end, a history of another deck, and two terminals that both depart.
 static DISPUTED_OF_TWO: [Disputed; 4] = [
     (
         "HISTORY 3\n0 LOGIN 100,5 44454d4f = DONE\n0 LOGOUT = DONE\n1 LOGOUT = DONE\n",
@@ -241,8 +241,8 @@ const COUNTS: &[u8] = b">HELLO 100,5;DEMO\n>10 ON ERROR GOTO 100\n\
 
 /// The deck of a drill of two terminals.
 fn drill_of_two(alloc: Global) -> Result<Vec<u8>, Fail> {
-    let front =
-        b"RSTS-DECK 1\nDISK 8\nACCOUNT 100,5 DEMO 16384\nFILE [100,5]COUNT.DAT<60> 1\nTERMINAL T1\n";
+    let front = b"RSTS-DECK 1\nDISK 8\nACCOUNT 100,5 DEMO 16384\n\
+         FILE [100,5]COUNT.DAT<60> 1\nTERMINAL T1\n";
     joined(alloc, &[front, COUNTS, b"TERMINAL T2\n", COUNTS, b"END\n"])
 }
 

@@ -31,7 +31,7 @@ fn a_program_that_always_wants_memory_fails_these_rows(rt: HostRuntime) -> Resul
     expect_all(&rt, rt.alloc(), &RUN_OR_CHECKED)
 }
 
-const USAGE: &str = "usage: rsts run [--history] | check | drill N";
+const USAGE: &str = "usage: rsts run [--history] [--printer] | check | drill N | replay";
 
 static OTHER_WORDS: [&[&str]; 21] = [
     &[""],
@@ -99,8 +99,8 @@ TERMINAL T1\n>HELLO 100,5;DEMO\n>BYE\nTERMINAL T2\n>HELLO 1,2;SYS\n>BYE\nEND\n";
 const TWO_REPORT: &[u8] = b"TERMINAL T1 35\nHELLO 100,5;DEMO\r\nReady\r\nBYE\r\nBye\r\n\n\
 TERMINAL T2 32\nHELLO 1,2;SYS\r\nReady\r\nBYE\r\nBye\r\n\n";
 
-/// Runs a deck with each job's second call held until each has made its first, and fails unless this
-/// was written.
+/// Runs a deck with each job's second call held until each has made its first, and fails unless
+/// this was written.
 fn run_together<R: Threads + Wait + Clock + Sync>(
     rt: &R,
     alloc: Global,
@@ -244,8 +244,8 @@ fn deepest_line(alloc: Global, opening: &str) -> Result<String, Fail> {
     Ok(line)
 }
 
-/// A program of these calls, each made in that line, shows this at each of two terminals, of which one
-/// at least has a thread that was made for it.
+/// A program of these calls, each made in that line, shows this at each of two terminals, of which
+/// one at least has a thread that was made for it.
 fn expect_calls<'a, R: Threads + Wait + Sync>(
     rt: &R,
     alloc: Global,

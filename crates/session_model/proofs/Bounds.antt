@@ -4,10 +4,11 @@ use Rattle.std.specs.Prelude.{Bool, true, false, if◌then◌else◌, Result, Ok
 use Rattle.monitor_calls.specs.declared.calls.Request.TheVariants.{Tick}
 use Rattle.monitor_calls.specs.declared.calls.Reply.{Reply}
 use Rattle.monitor_calls.specs.declared.names.Account.{Account}
+use Rattle.monitor_calls.specs.Typing.{Typing, Line, Over, Open}
 use Rattle.basic_tree.specs.LineVerdicts.{Verdict, HasTree, RefusedFor, Judge}
 use Rattle.basic_tree.specs.SpellingStatements.{line_statements}
 use Rattle.basic_tree.specs.Trees.{StatementTree}
-use Rattle.job_model.specs.Act.{Act, Gives, Breaks, Asks, Takes, Break, Faulted, Halted, Gone, Left, ◌then◌, over}
+use Rattle.job_model.specs.Act.{Act, Gives, Breaks, Asks, Types, Takes, Break, Faulted, Halted, Gone, Left, ◌then◌, over}
 use Rattle.job_model.specs.Play.{Clock, counted, ticked, is_quiet, lets_on, play, play_tick, Broke, Finished, behind_ask}
 use Rattle.job_model.specs.Ends.{at_ends}
 use Rattle.job_model.specs.Texts.{line_end}
@@ -18,7 +19,7 @@ use Rattle.program_model.specs.Job.{Job}
 use Rattle.program_model.specs.Storage.{in_storage}
 use Rattle.program_model.specs.FileActs.{shut_act}
 use Rattle.program_model.specs.Control.{At, Behind, home_of, runs_at}
-use Rattle.program_model.specs.Bounds.{Alike, gives, breaks, asks, spent, takes}
+use Rattle.program_model.specs.Bounds.{Alike, gives, breaks, asks, types, spent, takes}
 use Rattle.program_model.specs.Running.{Coming, runs_cleared, raises, continues_open, continues, line_alone, apart, together}
 use Rattle.program_model.specs.Soundness.{can_begin, refusal_of, refusal_now}
 use Rattle.program_model.proofs.BoundLemmas.{same, and_then, ends_closed_alike, bounds_enough_from, cleared_enough, raises_enough}
@@ -29,12 +30,13 @@ use Rattle.program_files.specs.Programs.{reads_pages}
 use Rattle.session_model.specs.ProgramFiles.{spec_read, is_blank_text, program_on}
 use Rattle.session_model.specs.Commands.{Command, Run, RunFile, Continue, Immediate, command_of}
 use Rattle.session_model.specs.Texts.{illegal_command}
-use Rattle.session_model.specs.Talk.{Session, Step, answered, says, keys_are, outlived, with_job, reported, run_is_over, Runner, in_session, runs_there, runs_unless, begun, runs, with_storage, chains_to, unread, reads_program, follows_chain, behind_end, run_to, ends_run, runs_chained, runs_all, goes_on, line_ended, line_unless, immediate, program_by, headed, tried, by_name, loaded, runs_loaded, reads_and_runs, user_acts, acts, line_acts, with_next, session}
+use Rattle.session_model.specs.Talk.{Session, Step, Ending, ProgramRun, answered, says, outlived, with_job, reported, run_is_over, Runner, in_session, runs_there, runs_unless, begun, runs, with_storage, chains_to, unread, reads_program, follows_chain, behind_end, run_to, ends_run, runs_chained, runs_all, goes_on, line_ended, line_unless, immediate, program_by, headed, tried, by_name, loaded, runs_loaded, reads_and_runs, user_acts, acts, key_acts, session}
 
 in_session_alike : {R A : Type 0} (n : ℕ) (ended other : Break (program.Leaving R) → Job R → Step R) (s : Session R) (m m' : program.Deed R A) → ((k : ℕ) (why : Break (program.Leaving R)) (j : Job R) → k ≤ n → Alike k (ended why j) (other why j)) → Alike n m m' → Alike n (in_session ended s m) (in_session other s m')
 in_session_alike n ended other s m m' f (gives {n = i} {s = j}) = f n (Left program.Ended) j (omega arith)
 in_session_alike n ended other s m m' f (breaks {n = i} {b = b} {s = j}) = f n b j (omega arith)
 in_session_alike n ended other s m m' f (asks {n = i} {r = r} {k = k} {k' = k'} e) = asks (λ x. in_session_alike n ended other s (k x) (k' x) f (e x))
+in_session_alike n ended other s m m' f (types {n = i} {k = k} {k' = k'} e) = types (λ key. in_session_alike n ended other s (k key) (k' key) f (e key))
 in_session_alike n ended other s m m' f spent = spent
 in_session_alike n ended other s m m' f (takes {n = i} {s = j} {m = k} {m' = k'} e) = takes (in_session_alike i ended other s k k' (λ l why j le. f l why j (omega (arith, le))) e)
 
@@ -54,6 +56,7 @@ spends_alike n ended other s m m' f g spends (breaks {n = i} {b = Faulted fault}
 spends_alike n ended other s m m' f g spends (breaks {n = i} {b = Halted halt} {s = j}) = f n _ j (λ no. no)
 spends_alike n ended other s m m' f g spends (breaks {n = i} {b = Gone} {s = j}) = f n _ j (λ no. no)
 spends_alike n ended other s m m' f g spends (asks {n = i} {r = r} {k = k} {k' = k'} e) = asks (λ x. spends_alike n ended other s (k x) (k' x) f g (spends x) (e x))
+spends_alike n ended other s m m' f g spends (types {n = i} {k = k} {k' = k'} e) = types (λ key. spends_alike n ended other s (k key) (k' key) f g (spends key) (e key))
 spends_alike n ended other s m m' f g spends spent = spent
 spends_alike n ended other s m m' f g spends (takes {n = i} {s = j} {m = k} {m' = k'} e) = takes (in_session_alike i ended other s k k' (λ l why j le. g l why j (omega (arith, le))) e)
 
@@ -61,6 +64,7 @@ over_alike : {K L P S A : Type 0} (n : ℕ) (ways : K → L) (put : P → S) (m 
 over_alike n ways put m m' gives = gives
 over_alike n ways put m m' breaks = breaks
 over_alike n ways put m m' (asks {n = i} {r = r} {k = k} {k' = k'} e) = asks (λ x. over_alike n ways put (k x) (k' x) (e x))
+over_alike n ways put m m' (types {n = i} {k = k} {k' = k'} e) = types (λ key. over_alike n ways put (k key) (k' key) (e key))
 over_alike n ways put m m' spent = spent
 over_alike n ways put m m' (takes {n = i} {s = j} {m = k} {m' = k'} e) = takes (over_alike i ways put k k' e)
 
@@ -69,6 +73,7 @@ tried_alike : {R P A : Type 0} (n : ℕ) (whole : P → Session R) (next next' :
 tried_alike n whole next next' (Gives a p) f = f n a (whole p) (omega arith)
 tried_alike n whole next next' (Breaks why p) f = same n _
 tried_alike n whole next next' (Asks r by) f = asks (λ x. tried_alike n whole next next' (by x) f)
+tried_alike n whole next next' (Types by) f = types (λ key. tried_alike n whole next next' (by key) f)
 tried_alike zero whole next next' (Takes p rest) f = spent
 tried_alike (suc n) whole next next' (Takes p rest) f = takes (tried_alike n whole next next' rest (λ k a s le. f k a s (omega (arith, le))))
 
@@ -78,6 +83,7 @@ at_ends_alike : {K P R A : Type 0} (n : ℕ) (put : P → Session R) (given give
 at_ends_alike n put given given' broken broken' (Gives a p) f g = f n a p (omega arith)
 at_ends_alike n put given given' broken broken' (Breaks why p) f g = g n why p (omega arith)
 at_ends_alike n put given given' broken broken' (Asks r by) f g = asks (λ x. at_ends_alike n put given given' broken broken' (by x) f g)
+at_ends_alike n put given given' broken broken' (Types by) f g = types (λ key. at_ends_alike n put given given' broken broken' (by key) f g)
 at_ends_alike zero put given given' broken broken' (Takes p rest) f g = spent
 at_ends_alike (suc n) put given given' broken broken' (Takes p rest) f g = takes (at_ends_alike n put given given' broken broken' rest (λ k a s le. f k a s (omega (arith, le))) (λ k a s le. g k a s (omega (arith, le))))
 
@@ -98,38 +104,47 @@ module _ (n most more : ℕ) (run other : Runner)
   runs_alike k p line s le =
       tried_alike k (with_storage s) _ _ (shut_act (in_storage.part s.job)) (λ l a s below. unless_alike l (refusal_of p) p line (begun p s) (omega (arith, le, below)))
 
-  module _ (judge : Judge) (faulted faulted' : ℕ → Job Position → Step Position) (over : Break (program.Leaving Position) → Job Position → Session Position)
+  module _ (judge : Judge) (faulted faulted' : ℕ → Job Position → Step Position) (over : Break (program.Leaving Position) → Job Position → Session Position) (s : Session Position)
       (faulted_alike : (k number : ℕ) (j : Job Position) → k ≤ n → Alike k (faulted number j) (faulted' number j)) where
+    abbrev end : Ending
+    end = record { judge = judge; run = run; most = most; faulted = faulted; over = over; session = s }
+
+    abbrev end' : Ending
+    end' = record { judge = judge; run = other; most = more; faulted = faulted'; over = over; session = s }
+
     chain_alike : (k : ℕ) (read : List ℕ × Lines) (s : Session Position) → k ≤ n → Alike k (chains_to judge run most read s) (chains_to judge other more read s)
     chain_alike k (name, lines) s le = runs_alike k (program_by judge lines) s.job.destination.line (loaded name lines s) le
 
-    unread_alike : (k : ℕ) (why : Break ⊥) (s : Session Position) (j : Job Position) → k ≤ n → Alike k (unread faulted over why s j) (unread faulted' over why s j)
-    unread_alike k (Faulted number) s j le = faulted_alike k number j le
-    unread_alike k (Halted halt) s j le = same k _
-    unread_alike k Gone s j le = same k _
-    unread_alike k (Left none) s j le = absurd none
+    unread_alike : (k : ℕ) (why : Break ⊥) (j : Job Position) → k ≤ n → Alike k (unread end why j) (unread end' why j)
+    unread_alike k (Faulted number) j le = faulted_alike k number j le
+    unread_alike k (Halted halt) j le = same k _
+    unread_alike k Gone j le = same k _
+    unread_alike k (Left none) j le = absurd none
 
-    follows_alike : (s : Session Position) (j : Job Position) (k : ℕ) → k ≤ n → Alike k (follows_chain judge run faulted most over s j) (follows_chain judge other faulted' more over s j)
-    follows_alike s j k le =
-        at_ends_alike k (λ _. with_job j s) _ _ _ _ (reads_program judge j.account j.destination.name) (λ l read p below. chain_alike l read (with_job j s) (omega (arith, le, below))) (λ l why p below. unread_alike l why s j (omega (arith, le, below)))
+    follows_alike : (j : Job Position) (k : ℕ) → k ≤ n → Alike k (follows_chain end j) (follows_chain end' j)
+    follows_alike j k le =
+        at_ends_alike k (λ _. with_job j s) _ _ _ _ (reads_program judge j.account j.destination.name) (λ l read p below. chain_alike l read (with_job j s) (omega (arith, le, below))) (λ l why p below. unread_alike l why j (omega (arith, le, below)))
 
-    behind_alike : (k : ℕ) (s : Session Position) (why : Break (program.Leaving Position)) (j : Job Position) → k ≤ n → Alike k (behind_end judge run faulted most over s why j) (behind_end judge other faulted' more over s why j)
-    behind_alike k s (Left program.Chained) j le = follows_alike s j k le
-    behind_alike k s (Left program.Ended) j le = same k _
-    behind_alike k s (Left (program.Stopped q)) j le = same k _
-    behind_alike k s (Left (program.StoppedInside home)) j le = same k _
-    behind_alike k s (Faulted fault) j le = same k _
-    behind_alike k s (Halted halt) j le = same k _
-    behind_alike k s Gone j le = same k _
+    behind_alike : (k : ℕ) (why : Break (program.Leaving Position)) (j : Job Position) → k ≤ n → Alike k (behind_end end why j) (behind_end end' why j)
+    behind_alike k (Left program.Chained) j le = follows_alike j k le
+    behind_alike k (Left program.Ended) j le = same k _
+    behind_alike k (Left (program.Stopped q)) j le = same k _
+    behind_alike k (Left (program.StoppedInside home)) j le = same k _
+    behind_alike k (Faulted fault) j le = same k _
+    behind_alike k (Halted halt) j le = same k _
+    behind_alike k Gone j le = same k _
 
 module _ (judge : Judge) (most more : ℕ) where
+  abbrev in_run : ℕ → Program → Session Position → ProgramRun
+  in_run bound p s = record { judge = judge; most = bound; program = p; session = s }
+
   -- an end that is no chain
-  last_alike : (count count' k : ℕ) (p : Program) (s : Session Position) (why : Break (program.Leaving Position)) (j : Job Position) → ¬ (IsChain why) → Alike k (ends_run judge most count p s why j) (ends_run judge more count' p s why j)
+  last_alike : (count count' k : ℕ) (p : Program) (s : Session Position) (why : Break (program.Leaving Position)) (j : Job Position) → ¬ (IsChain why) → Alike k (ends_run count (in_run most p s) why j) (ends_run count' (in_run more p s) why j)
   last_alike count count' k p s why j nay =
-      subst (λ (m : Step Position). Alike k m (ends_run judge more count' p s why j)) (sym (is_last most count why nay))
+      subst (λ (m : Step Position). Alike k m (ends_run count' (in_run more p s) why j)) (sym (is_last most count why nay))
       (subst (λ (m : Step Position). Alike k (outlived (run_is_over s) s why j) m) (sym (is_last more count' why nay)) (same k _))
     where
-      is_last : (most count : ℕ) (why : Break (program.Leaving Position)) → ¬ (IsChain why) → ends_run judge most count p s why j ≡ outlived (run_is_over s) s why j
+      is_last : (most count : ℕ) (why : Break (program.Leaving Position)) → ¬ (IsChain why) → ends_run count (in_run most p s) why j ≡ outlived (run_is_over s) s why j
       is_last most zero why nay = refl
       is_last most (suc count) (Left program.Chained) nay = absurd (nay tt)
       is_last most (suc count) (Left program.Ended) nay = refl
@@ -140,26 +155,26 @@ module _ (judge : Judge) (most more : ℕ) where
       is_last most (suc count) Gone nay = refl
 
   -- a run that takes a unit before it chains
-  after_alike : (count count' n : ℕ) (p : Program) (s : Session Position) (m m' : program.Deed Position Coming) → ((k : ℕ) (why : Break (program.Leaving Position)) (j : Job Position) → k < n → Alike k (ends_run judge most count p s why j) (ends_run judge more count' p s why j)) → SpendsFirst m → Alike n m m'
-      → Alike n (run_to (ends_run judge most count) p s m) (run_to (ends_run judge more count') p s m')
+  after_alike : (count count' n : ℕ) (p : Program) (s : Session Position) (m m' : program.Deed Position Coming) → ((k : ℕ) (why : Break (program.Leaving Position)) (j : Job Position) → k < n → Alike k (ends_run count (in_run most p s) why j) (ends_run count' (in_run more p s) why j)) → SpendsFirst m → Alike n m m'
+      → Alike n (run_to (ends_run count) judge most p s m) (run_to (ends_run count') judge more p s m')
   after_alike count count' n p s m m' f spends e =
-      spends_alike n (ends_run judge most count p s) (ends_run judge more count' p s) s m m' (λ k why j nay. last_alike count count' k p s why j nay) f spends e
+      spends_alike n (ends_run count (in_run most p s)) (ends_run count' (in_run more p s)) s m m' (λ k why j nay. last_alike count count' k p s why j nay) f spends e
 
   -- as long as chains and statements are more than units
-  ended_alike : (count count' k : ℕ) (p : Program) (s : Session Position) (why : Break (program.Leaving Position)) (j : Job Position) → k < most → k < more → k < count → k < count' → Alike k (ends_run judge most count p s why j) (ends_run judge more count' p s why j)
+  ended_alike : (count count' k : ℕ) (p : Program) (s : Session Position) (why : Break (program.Leaving Position)) (j : Job Position) → k < most → k < more → k < count → k < count' → Alike k (ends_run count (in_run most p s) why j) (ends_run count' (in_run more p s) why j)
   ended_alike zero count' k p s why j lt lt' few few' = absurd (omega (arith, few))
   ended_alike (suc count) zero k p s why j lt lt' few few' = absurd (omega (arith, few'))
   ended_alike (suc count) (suc count') k p s why j lt lt' few few' =
-      behind_alike k most more (run_to (ends_run judge most count)) (run_to (ends_run judge more count'))
+      behind_alike k most more (run_to (ends_run count) judge most) (run_to (ends_run count') judge more)
       (λ l p line s le. after_alike count count' l p s _ _ (λ i why j less. ended_alike count count' i p s why j (omega (arith, lt, le, less)) (omega (arith, lt', le, less)) (omega (arith, few, le, less)) (omega (arith, few', le, less)))
       (cleared_spends p most line s.job) (cleared_enough p most more l line s.job (omega (arith, lt, le)) (omega (arith, lt', le))))
-      judge (λ number j. run_to (ends_run judge most count) p s (raises p most number j)) (λ number j. run_to (ends_run judge more count') p s (raises p more number j)) (run_is_over s)
+      judge (λ number j. run_to (ends_run count) judge most p s (raises p most number j)) (λ number j. run_to (ends_run count') judge more p s (raises p more number j)) (run_is_over s) s
       (λ l number j le. after_alike count count' l p s _ _ (λ i why j less. ended_alike count count' i p s why j (omega (arith, lt, le, less)) (omega (arith, lt', le, less)) (omega (arith, few, le, less)) (omega (arith, few', le, less)))
       (raises_spend p most number j) (raises_enough p most more l number j (omega (arith, lt, le)) (omega (arith, lt', le))))
-      k s why j (omega arith)
+      k why j (omega arith)
 
   chains_alike : (n : ℕ) (p : Program) (s : Session Position) (m m' : program.Deed Position Coming) → n < most → n < more → Alike n m m' → Alike n (runs_chained judge most most p s m) (runs_chained judge more more p s m')
-  chains_alike n p s m m' lt lt' e = in_session_alike n (ends_run judge most most p s) (ends_run judge more more p s) s m m' (λ k why j le. ended_alike most more k p s why j (omega (arith, lt, le)) (omega (arith, lt', le)) (omega (arith, lt, le)) (omega (arith, lt', le))) e
+  chains_alike n p s m m' lt lt' e = in_session_alike n (ends_run most (in_run most p s)) (ends_run more (in_run more p s)) s m m' (λ k why j le. ended_alike most more k p s why j (omega (arith, lt, le)) (omega (arith, lt', le)) (omega (arith, lt, le)) (omega (arith, lt', le))) e
 
   first_alike : (n : ℕ) (p : Program) (line : Option ℕ) (s : Session Position) → n < most → n < more → Alike n (runs_chained judge most most p s (runs_cleared p most line s.job)) (runs_chained judge more more p s (runs_cleared p more line s.job))
   first_alike n p line s lt lt' = chains_alike n p s _ _ lt lt' (cleared_enough p most more n line s.job lt lt')
@@ -167,8 +182,8 @@ module _ (judge : Judge) (most more : ℕ) where
   line_ended_alike : (n : ℕ) (s : Session Position) (why : Break (program.Leaving Position)) (j : Job Position) → n < most → n < more → Alike n (line_ended judge most s why j) (line_ended judge more s why j)
   line_ended_alike n s why j lt lt' =
       behind_alike n most more (runs_chained judge most most) (runs_chained judge more more) (λ k p line s le. first_alike k p line s (omega (arith, lt, le)) (omega (arith, lt', le)))
-      judge (λ number j. Gives tt (reported s (Faulted number) j)) (λ number j. Gives tt (reported s (Faulted number) j)) (reported s) (λ k number j le. same k _)
-      n s why j (omega arith)
+      judge (λ number j. Gives tt (reported s (Faulted number) j)) (λ number j. Gives tt (reported s (Faulted number) j)) (reported s) s (λ k number j le. same k _)
+      n why j (omega arith)
 
 -- COMMANDS
 
@@ -227,43 +242,42 @@ module _ (judge : Judge) (n most more : ℕ) (less : n < most) (less' : n < more
   acts_alike None command s = same n _
   acts_alike (Some account) command s = user_alike account command s
 
-turn_alike : (judge : Judge) (n most more : ℕ) (count : ℕ) → n < most → n < more → ((k : ℕ) (s : Session Position) → k ≤ n → Alike k (session judge most count s) (session judge more count s))
-    → (keys : List (List ℕ)) (s : Session Position)
-    → Alike n (with_next (λ line s. line_acts judge most line s then λ _ s. session judge most count s) keys s) (with_next (λ line s. line_acts judge more line s then λ _ s. session judge more count s) keys s)
-turn_alike judge n most more count less less' behind [] s = same n _
-turn_alike judge n most more count less less' behind (line ∷ keys) s =
-    let t = keys_are keys s in
-    and_then n _ _ _ _ (acts_alike judge n most more less less' t.account (command_of line) (says (line ++ line_end) t)) (λ k a s le. behind k s le)
+key_alike : (judge : Judge) (n most more : ℕ) (key : Option (List ℕ)) (s : Session Position) → n < most → n < more → Alike n (key_acts judge most key s) (key_acts judge more key s)
+key_alike judge n most more None s less less' = same n _
+key_alike judge n most more (Some line) s less less' = acts_alike judge n most more less less' s.account (command_of line) (says (line ++ line_end) s)
 
 pub session_alike : (judge : Judge) (n most more count : ℕ) (s : Session Position) → n < most → n < more → Alike n (session judge most count s) (session judge more count s)
 session_alike judge n most more zero s less less' = same n _
 session_alike judge n most more (suc count) s less less' =
-    turn_alike judge n most more count less less' (λ k s le. session_alike judge k most more count s (omega (arith, le, less)) (omega (arith, le, less'))) s.job.keys s
+    and_then n _ _ _ _ (types (λ key. key_alike judge n most more key s less less')) (λ k a s le. session_alike judge k most more count s (omega (arith, le, less)) (omega (arith, le, less')))
 
 -- trees that are alike as far as there is fuel are played alike
-ticks_alike : {L S A : Type 0} (s : S) (c : Clock) (m m' : Act L S A) (fuel : ℕ) → ((d : Clock) (given : List Reply) → play m d fuel given ≡ play m' d fuel given) → (given : List Reply)
-    → play_tick s c (λ left. play m (ticked c) fuel left) given ≡ play_tick s c (λ left. play m' (ticked c) fuel left) given
-ticks_alike s c m m' fuel h [] = refl
-ticks_alike s c m m' fuel h (x ∷ given) = go (lets_on x c)
+ticks_alike : {L S A : Type 0} (s : S) (c : Clock) (m m' : Act L S A) (fuel : ℕ) (keys : Typing) → ((d : Clock) (given : List Reply) → play m d fuel keys given ≡ play m' d fuel keys given) → (given : List Reply)
+    → play_tick s c (λ left. play m (ticked c) fuel keys left) given ≡ play_tick s c (λ left. play m' (ticked c) fuel keys left) given
+ticks_alike s c m m' fuel keys h [] = refl
+ticks_alike s c m m' fuel keys h (x ∷ given) = go (lets_on x c)
   where
-    go : (b : Bool) → behind_ask Tick (if b then play m (ticked c) fuel given else ([], Finished (Broke Gone s))) ≡ behind_ask Tick (if b then play m' (ticked c) fuel given else ([], Finished (Broke Gone s)))
+    go : (b : Bool) → behind_ask Tick (if b then play m (ticked c) fuel keys given else ([], Finished (Broke Gone s))) ≡ behind_ask Tick (if b then play m' (ticked c) fuel keys given else ([], Finished (Broke Gone s)))
     go true = ap (behind_ask Tick) (h (ticked c) given)
     go false = refl
 
-unit_alike : {L S A : Type 0} (s : S) (c : Clock) (m m' : Act L S A) (fuel : ℕ) → ((d : Clock) (given : List Reply) → play m d fuel given ≡ play m' d fuel given) → (given : List Reply)
-    → play (Takes s m) c (suc fuel) given ≡ play (Takes s m') c (suc fuel) given
-unit_alike s c m m' fuel h given = go (is_quiet c)
+pub unit_alike : {L S A : Type 0} (s : S) (c : Clock) (m m' : Act L S A) (fuel : ℕ) (keys : Typing) → ((d : Clock) (given : List Reply) → play m d fuel keys given ≡ play m' d fuel keys given) → (given : List Reply)
+    → play (Takes s m) c (suc fuel) keys given ≡ play (Takes s m') c (suc fuel) keys given
+unit_alike s c m m' fuel keys h given = go (is_quiet c)
   where
-    go : (b : Bool) → (if b then play m (counted c) fuel given else play_tick s c (λ left. play m (ticked c) fuel left) given) ≡ (if b then play m' (counted c) fuel given else play_tick s c (λ left. play m' (ticked c) fuel left) given)
+    go : (b : Bool) → (if b then play m (counted c) fuel keys given else play_tick s c (λ left. play m (ticked c) fuel keys left) given) ≡ (if b then play m' (counted c) fuel keys given else play_tick s c (λ left. play m' (ticked c) fuel keys left) given)
     go true = h (counted c) given
-    go false = ticks_alike s c m m' fuel h given
+    go false = ticks_alike s c m m' fuel keys h given
 
-pub play_alike : {L S A : Type 0} (n : ℕ) (m m' : Act L S A) → Alike n m m' → (c : Clock) (fuel : ℕ) (given : List Reply) → fuel ≤ n → play m c fuel given ≡ play m' c fuel given
-play_alike n m m' gives c fuel given le = refl
-play_alike n m m' breaks c fuel given le = refl
-play_alike n m m' (asks {n = i} {r = r} {k = k} {k' = k'} e) c fuel [] le = refl
-play_alike n m m' (asks {n = i} {r = r} {k = k} {k' = k'} e) c fuel (x ∷ given) le = ap (behind_ask r) (play_alike n (k x) (k' x) (e x) c fuel given le)
-play_alike n m m' spent c zero given le = refl
-play_alike n m m' spent c (suc fuel) given le = absurd (omega (arith, le))
-play_alike n m m' (takes {n = i} {s = s} {m = k} {m' = k'} e) c zero given le = refl
-play_alike n m m' (takes {n = i} {s = s} {m = k} {m' = k'} e) c (suc fuel) given le = unit_alike s c k k' fuel (λ d given. play_alike i k k' e d fuel given (omega (arith, le))) given
+pub play_alike : {L S A : Type 0} (n : ℕ) (m m' : Act L S A) → Alike n m m' → (c : Clock) (fuel : ℕ) (keys : Typing) (given : List Reply) → fuel ≤ n → play m c fuel keys given ≡ play m' c fuel keys given
+play_alike n m m' gives c fuel keys given le = refl
+play_alike n m m' breaks c fuel keys given le = refl
+play_alike n m m' (asks {n = i} {r = r} {k = k} {k' = k'} e) c fuel keys [] le = refl
+play_alike n m m' (asks {n = i} {r = r} {k = k} {k' = k'} e) c fuel keys (x ∷ given) le = ap (behind_ask r) (play_alike n (k x) (k' x) (e x) c fuel keys given le)
+play_alike n m m' (types {n = i} {k = k} {k' = k'} e) c fuel (Line line keys) given le = play_alike n (k (Some line)) (k' (Some line)) (e (Some line)) c fuel keys given le
+play_alike n m m' (types {n = i} {k = k} {k' = k'} e) c fuel Over given le = play_alike n (k None) (k' None) (e None) c fuel Over given le
+play_alike n m m' (types {n = i} {k = k} {k' = k'} e) c fuel Open given le = refl
+play_alike n m m' spent c zero keys given le = refl
+play_alike n m m' spent c (suc fuel) keys given le = absurd (omega (arith, le))
+play_alike n m m' (takes {n = i} {s = s} {m = k} {m' = k'} e) c zero keys given le = refl
+play_alike n m m' (takes {n = i} {s = s} {m = k} {m' = k'} e) c (suc fuel) keys given le = unit_alike s c k k' fuel keys (λ d given. play_alike i k k' e d fuel keys given (omega (arith, le))) given

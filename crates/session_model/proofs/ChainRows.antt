@@ -19,6 +19,7 @@ use Rattle.monitor_calls.specs.declared.calls.Reply.{Reply}
 use Rattle.monitor_calls.specs.declared.calls.Reply.TheVariants.{Done, Opened, Block, Failed}
 use Rattle.session_model.specs.ProgramFiles.{first_page}
 use Rattle.job_model.specs.Play.{Finished}
+use Rattle.monitor_calls.specs.Typing.{all_typed}
 use Rattle.session_model.specs.Talk.{talk}
 use Rattle.session_model.proofs.FileRows.{demo, own}
 use Rattle.session_model.proofs.StatementRows as statement
@@ -26,7 +27,7 @@ use Rattle.session_model.proofs.StatementRows as statement
 -- behind the login these lines ask this with these replies, and show that
 abbrev asks : List (List ℕ) → List Reply → List Request → List ℕ → Type 0
 asks lines replies requests shown =
-    talk judge_of (codes "HELLO 100,5;DEMO" ∷ lines) (Done ∷ replies)
+    talk judge_of (all_typed (codes "HELLO 100,5;DEMO" ∷ lines)) (Done ∷ replies)
     ≡ (demo ∷ requests, Finished (codes "HELLO 100,5;DEMO\r\nReady\r\n" ++ shown ++ codes "Bye\r\n"))
 
 -- a program of two lines
@@ -68,3 +69,26 @@ closed_at_run : asks (codes "OPEN 'D' AS FILE 3%" ∷ codes "10 GET #3%" ∷ cod
     (codes "OPEN 'D' AS FILE 3%\r\nReady\r\n10 GET #3%\r\nRUNNH\r\n?I/O channel not open at line 10\r\nReady\r\n")
 unfolding digits fault_text repeated_product place_of value_read item_read keywords signs letter_front digit_front quote_front sign_front front_of items_from tokens_from run verdict_of spec_in bracketed_in closed_code
 closed_at_run = refl
+
+-- REPORTS AFTER A CHAIN: each begins at the start of a line
+
+-- the program is rejected, where a program chains to it
+rejected_chain : asks (codes "10 PRINT 'Z'; : CHAIN 'B'" ∷ codes "RUNNH" ∷ []) (Opened 1 true true ∷ Block (first_page (codes "10 GOTO 20\r\n")) ∷ Done ∷ Done ∷ [])
+    (OpenFile 0 (own (codes "B")) Input false None ∷ Get 0 1 ∷ CloseFile 0 ∷ Logout ∷ [])
+    (codes "10 PRINT 'Z'; : CHAIN 'B'\r\nRUNNH\r\nZ\r\n?Undefined line at line 10\r\nReady\r\n")
+unfolding digits fault_text repeated_product place_of value_read item_read keywords signs letter_front digit_front quote_front sign_front front_of items_from tokens_from run verdict_of spec_in bracketed_in closed_code
+rejected_chain = refl
+
+-- it has no line of that number
+chain_to_no_line : asks (codes "10 PRINT 'Z'; : CHAIN 'B' 77%" ∷ codes "RUNNH" ∷ []) (Opened 1 true true ∷ Block the_page ∷ Done ∷ Done ∷ [])
+    (OpenFile 0 (own (codes "B")) Input false None ∷ Get 0 1 ∷ CloseFile 0 ∷ Logout ∷ [])
+    (codes "10 PRINT 'Z'; : CHAIN 'B' 77%\r\nRUNNH\r\nZ\r\n?Undefined line at line 77\r\nReady\r\n")
+unfolding digits fault_text repeated_product place_of value_read item_read keywords signs letter_front digit_front quote_front sign_front front_of items_from tokens_from run verdict_of spec_in bracketed_in closed_code
+chain_to_no_line = refl
+
+-- an immediate line chains to them
+chains_of_a_line : asks (codes "PRINT 'Z'; : CHAIN 'B'" ∷ codes "PRINT 'Y'; : CHAIN 'C' 77%" ∷ []) (Opened 1 true true ∷ Block (first_page (codes "10 GOTO 20\r\n")) ∷ Done ∷ Opened 1 true true ∷ Block the_page ∷ Done ∷ Done ∷ [])
+    (OpenFile 0 (own (codes "B")) Input false None ∷ Get 0 1 ∷ CloseFile 0 ∷ OpenFile 0 (own (codes "C")) Input false None ∷ Get 0 1 ∷ CloseFile 0 ∷ Logout ∷ [])
+    (codes "PRINT 'Z'; : CHAIN 'B'\r\nZ\r\n?Undefined line at line 10\r\nReady\r\nPRINT 'Y'; : CHAIN 'C' 77%\r\nY\r\n?Undefined line at line 77\r\nReady\r\n")
+unfolding digits fault_text repeated_product place_of value_read item_read keywords signs letter_front digit_front quote_front sign_front front_of items_from tokens_from run verdict_of spec_in bracketed_in closed_code
+chains_of_a_line = refl

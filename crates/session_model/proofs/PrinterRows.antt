@@ -10,6 +10,7 @@ use Rattle.monitor_calls.specs.declared.calls.Reply.TheVariants.{Done, Opened, B
 use Rattle.basic_values.specs.Messages.{fault_text}
 use Rattle.file_names.specs.SpecFronts.{spec_in, bracketed_in, closed_code}
 use Rattle.job_model.specs.Play.{Finished}
+use Rattle.monitor_calls.specs.Typing.{all_typed}
 use Rattle.session_model.specs.Talk.{talk}
 use Rattle.session_model.proofs.FileRows.{takes_all, account, demo, own, asks, the_page}
 
@@ -67,11 +68,11 @@ unfolding digits fault_text spec_in bracketed_in closed_code
 unclosed = refl
 
 -- a job whose calls are used up asks nothing more
-expired_in_a_listing : talk takes_all (codes "HELLO 100,5;DEMO" ∷ codes "QUE A.BAS" ∷ codes "BYE" ∷ []) (Done ∷ Opened 1 true true ∷ Done ∷ Block the_page ∷ Expired ∷ [])
+expired_in_a_listing : talk takes_all (all_typed (codes "HELLO 100,5;DEMO" ∷ codes "QUE A.BAS" ∷ codes "BYE" ∷ [])) (Done ∷ Opened 1 true true ∷ Done ∷ Block the_page ∷ Expired ∷ [])
     ≡ (demo ∷ opened_first (codes "A") ∷ OpenPrinter ∷ Get 0 1 ∷ Print hi ∷ [], Finished (codes "HELLO 100,5;DEMO\r\nReady\r\nQUE A.BAS\r\n?Job expired\r\n"))
 unfolding digits spec_in
 expired_in_a_listing = refl
 
 -- before the login they are no commands
-before_the_login : talk takes_all (codes "QUE A.BAS" ∷ codes "ASSIGN LP:" ∷ codes "BYE" ∷ []) [] ≡ ([], Finished (codes "QUE A.BAS\r\nPlease say HELLO\r\nASSIGN LP:\r\nPlease say HELLO\r\nBYE\r\n"))
+before_the_login : talk takes_all (all_typed (codes "QUE A.BAS" ∷ codes "ASSIGN LP:" ∷ codes "BYE" ∷ [])) [] ≡ ([], Finished (codes "QUE A.BAS\r\nPlease say HELLO\r\nASSIGN LP:\r\nPlease say HELLO\r\nBYE\r\n"))
 before_the_login = refl

@@ -16,10 +16,11 @@ use Rattle.basic_tree.specs.Trees.{StatementTree}
 use Rattle.channels.specs.Files.{closed_channel}
 use Rattle.error_trap.specs.Trapping.{untouched}
 use Rattle.job_memory.specs.Memory.{empty}
-use Rattle.job_model.specs.Act.{Act, Gives, Breaks, Asks, Takes, Left}
+use Rattle.job_model.specs.Act.{Act, Gives, Breaks, Asks, Types, Takes, Left}
 use Rattle.monitor_calls.specs.declared.calls.Request.TheVariants.{Tick}
 use Rattle.monitor_calls.specs.declared.calls.Reply.TheVariants.{Expired}
-use Rattle.job_model.specs.Play.{at_start, End, Gave, Broke, Finished, Waits, Spent, Outcome, play}
+use Rattle.job_model.specs.Play.{at_start, End, Gave, Broke, Finished, Waits, Listens, Spent, Outcome, play}
+use Rattle.monitor_calls.specs.Typing.{Over, all_typed}
 use Rattle.program_model.specs.Program.{Program, Position}
 use Rattle.program_model.specs.Job.{no_destination, Job, Leaving}
 use Rattle.program_model.specs.Running.{Coming, no_home, runs_whole, runs_line, continues}
@@ -37,8 +38,8 @@ abbrev pub program_read : List (ℕ × List ℕ) → Program
 program_read lines = map (λ line. record { number = line.0; statements = statements_read line.1 }) lines
 
 -- a job that has run nothing
-abbrev pub new_job : List (List ℕ) → Job Position
-new_job keys = record {
+abbrev pub new_job : Job Position
+new_job = record {
   account = record { project = 100; programmer = 5 };
   memory = empty;
   channels = replicate 12 closed_channel;
@@ -46,7 +47,6 @@ new_job keys = record {
   common = [];
   buffers = replicate 12 (replicate 512 0);
   screen = [];
-  keys = keys;
   trap = untouched;
   returns = [];
   limits = [];
@@ -61,29 +61,31 @@ abbrev shown_at : Outcome (End (Leaving Position) (Job Position) Coming) → Lis
 shown_at (Finished (Broke why j)) = ended_screen why j
 shown_at (Finished (Gave coming j)) = codes "is not over"
 shown_at Waits = codes "waits"
+shown_at Listens = codes "listens"
 shown_at Spent = codes "is spent"
 
 -- what a program shows
 abbrev pub shows : List (ℕ × List ℕ) → List (List ℕ) → List ℕ
-shows lines keys = shown_at (play (runs_whole (program_read lines) 500 (new_job keys)) at_start 900 []).1
+shows lines keys = shown_at (play (runs_whole (program_read lines) 500 new_job) at_start 900 (all_typed keys) []).1
 
 -- what an immediate line shows
 abbrev pub shows_now : List ℕ → List ℕ
-shows_now line = shown_at (play (runs_line (statements_read line) 500 (new_job [])) at_start 900 []).1
+shows_now line = shown_at (play (runs_line (statements_read line) 500 new_job) at_start 900 Over []).1
 
 -- where it ended, or the job as it was
 abbrev job_at : Job Position → Outcome (End (Leaving Position) (Job Position) Coming) → Job Position
 job_at before (Finished (Broke why j)) = record j { screen = ended_screen why j }
 job_at before (Finished (Gave coming j)) = j
 job_at before Waits = before
+job_at before Listens = before
 job_at before Spent = before
 
 -- an immediate line on a job
 abbrev line_done : Job Position → List ℕ → Job Position
-line_done j line = job_at j (play (runs_line (statements_read line) 500 j) at_start 900 []).1
+line_done j line = job_at j (play (runs_line (statements_read line) 500 j) at_start 900 Over []).1
 
 abbrev shows_lines : List (List ℕ) → List ℕ
-shows_lines lines = (fold line_done (new_job []) lines).screen
+shows_lines lines = (fold line_done new_job lines).screen
 
 sums_wrap : shows_now (codes "PRINT 32767%+1%; -7%/2%") ≡ codes "-32768 -3 \r\n"
 unfolding digits fault_text repeated_product place_of value_read item_read keywords signs letter_front digit_front quote_front sign_front front_of items_from tokens_from run verdict_of
@@ -278,12 +280,12 @@ no_trap_in_an_immediate_line = refl
 -- CONT behind a STOP
 abbrev continued : Program → Outcome (End (Leaving Position) (Job Position) Coming) → List ℕ
 continued program (Finished (Broke (Left stop) j)) =
-    shown_at (play (continues program 500 stop (record j { screen = ended_screen (Left stop) j })) at_start 900 []).1
+    shown_at (play (continues program 500 stop (record j { screen = ended_screen (Left stop) j })) at_start 900 Over []).1
 continued program outcome = codes "can't continue"
 
 abbrev shows_with_cont : List (ℕ × List ℕ) → List ℕ
 shows_with_cont lines =
-    continued (program_read lines) (play (runs_whole (program_read lines) 500 (new_job [])) at_start 900 []).1
+    continued (program_read lines) (play (runs_whole (program_read lines) 500 new_job) at_start 900 Over []).1
 
 goes_on_behind_a_stop : shows_with_cont ((10, codes "STOP") ∷ (20, codes "PRINT 2%") ∷ []) ≡ codes "Stop at line 10\r\n 2 \r\n"
 unfolding digits fault_text repeated_product place_of value_read item_read keywords signs letter_front digit_front quote_front sign_front front_of items_from tokens_from run verdict_of
@@ -305,10 +307,11 @@ abbrev units_in : {L S A : Type 0} → Act L S A → ℕ
 units_in (Gives value s) = 0
 units_in (Breaks why s) = 0
 units_in (Asks request by) = 0
+units_in (Types by) = 0
 units_in (Takes s rest) = suc (units_in rest)
 
 abbrev units_of : List (ℕ × List ℕ) → ℕ
-units_of lines = units_in (runs_whole (program_read lines) 100 (new_job []))
+units_of lines = units_in (runs_whole (program_read lines) 100 new_job)
 
 an_if_that_goes_is_one_unit : units_of ((10, codes "IF 1% GOTO 20") ∷ (20, codes "END") ∷ []) ≡ 2
 unfolding digits fault_text repeated_product place_of value_read item_read keywords signs letter_front digit_front quote_front sign_front front_of items_from tokens_from run verdict_of
@@ -333,6 +336,6 @@ a_body_is_statements = refl
 
 -- a program that runs on, and its Tick is answered Expired
 expired_in_a_loop :
-    (play (runs_whole (program_read ((10, codes "GOTO 10") ∷ [])) 1500 (new_job [])) at_start 1200 (Expired ∷ [])).0 ≡ Tick ∷ []
+    (play (runs_whole (program_read ((10, codes "GOTO 10") ∷ [])) 1500 new_job) at_start 1200 Over (Expired ∷ [])).0 ≡ Tick ∷ []
 unfolding digits fault_text repeated_product place_of value_read item_read keywords signs letter_front digit_front quote_front sign_front front_of items_from tokens_from run verdict_of
 expired_in_a_loop = refl

@@ -19,7 +19,8 @@ use Rattle.monitor_calls.specs.declared.calls.Request.{Request}
 use Rattle.monitor_calls.specs.declared.calls.Request.TheVariants.{OpenFile, CloseFile, Get, Put, GetRecord, Unlock, Kill, Rename, Sleep}
 use Rattle.monitor_calls.specs.declared.calls.Reply.{Reply}
 use Rattle.monitor_calls.specs.declared.calls.Reply.TheVariants.{Done, Opened, Block, Record, Failed, Expired}
-use Rattle.job_model.specs.Play.{at_start, End, Gave, Broke, Finished, Waits, Spent, Outcome, play}
+use Rattle.job_model.specs.Play.{at_start, End, Gave, Broke, Finished, Waits, Listens, Spent, Outcome, play}
+use Rattle.monitor_calls.specs.Typing.{Over}
 use Rattle.program_model.specs.Program.{Position}
 use Rattle.program_model.specs.Job.{Job, Leaving}
 use Rattle.program_model.specs.Running.{Coming, runs_whole}
@@ -28,7 +29,7 @@ use Rattle.session_model.proofs.ProgramRows.{program_read, new_job}
 
 -- what a program asks with these replies
 abbrev pub asked : List (ℕ × List ℕ) → List Reply → List Request
-asked lines replies = (play (runs_whole (program_read lines) 500 (new_job [])) at_start 900 replies).0
+asked lines replies = (play (runs_whole (program_read lines) 500 new_job) at_start 900 Over replies).0
 
 -- how many channels it leaves open, and what it shows
 abbrev count_open : List ChannelState → ℕ
@@ -39,10 +40,11 @@ abbrev open_at : Outcome (End (Leaving Position) (Job Position) Coming) → ℕ 
 open_at (Finished (Broke why j)) = (count_open j.channels, ended_screen why j)
 open_at (Finished (Gave coming j)) = (100, [])
 open_at Waits = (101, [])
+open_at Listens = (103, [])
 open_at Spent = (102, [])
 
 abbrev pub left_open : List (ℕ × List ℕ) → List Reply → ℕ × List ℕ
-left_open lines replies = open_at (play (runs_whole (program_read lines) 500 (new_job [])) at_start 900 replies).1
+left_open lines replies = open_at (play (runs_whole (program_read lines) 500 new_job) at_start 900 Over replies).1
 
 abbrev pub zeros : List ℕ
 zeros = replicate 512 0

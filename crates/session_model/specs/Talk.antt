@@ -1,7 +1,7 @@
--- The talk of a terminal: the requests that its session makes and the bytes that it shows, given its
--- keys and the replies. A judge says of each line that is a statement which tree the grammar has for
+-- The talk of a terminal: the requests that its session makes and the bytes that it shows, given what
+-- is typed and the replies. A judge says of each line that is a statement which tree the grammar has for
 -- it, or why it refuses it.
-use Rattle.std.specs.Prelude.{◌≡◌, ℕ, zero, suc, Bool, true, false, if◌then◌else◌, List, [], ◌∷◌, ◌++◌, length, map, replicate, Option, Some, None, Result, Ok, Err, codes}
+use Rattle.std.specs.Prelude.{◌≡◌, ℕ, zero, suc, Bool, true, false, if◌then◌else◌, List, [], ◌++◌, map, replicate, Option, Some, None, Result, Ok, Err, codes}
 use Rattle.std.specs.Option.{unwrap_or}
 use Rattle.basic_values.specs.declared.errors.TheConstants.{DATA_FORMAT_ERROR}
 use Rattle.basic_values.specs.declared.limits.TheConstants.{BLOCK_BYTES, LAST_CHANNEL}
@@ -11,17 +11,20 @@ use Rattle.monitor_calls.specs.declared.calls.Request.{Request}
 use Rattle.monitor_calls.specs.declared.calls.Request.TheVariants as request
 use Rattle.monitor_calls.specs.declared.calls.Reply.{Reply}
 use Rattle.monitor_calls.specs.declared.calls.Reply.TheVariants.{Done, Failed}
+use Rattle.monitor_calls.specs.declared.events.Event.{Event}
+use Rattle.monitor_calls.specs.Pairs.{requests, replies, pairs_of}
+use Rattle.monitor_calls.specs.Typing.{Typing, AreTyped, lines_in}
 use Rattle.basic_tree.specs.LineVerdicts.{Verdict, HasTree, RefusedFor, Judge, Judges}
 use Rattle.basic_tree.specs.SpellingStatements.{line_statements}
 use Rattle.basic_tree.specs.Trees.{StatementTree}
 use Rattle.error_trap.specs.Trapping.{untouched}
 use Rattle.job_memory.specs.Memory.{empty}
-use Rattle.job_model.specs.Act.{Act, Gives, Breaks, Break, Faulted, Halted, Gone, Left, ◌then◌}
+use Rattle.job_model.specs.Act.{Act, Gives, Breaks, Types, Break, Faulted, Halted, Gone, Left, ◌then◌}
 use Rattle.job_model.specs.Asking.{ask}
 use Rattle.session_model.specs.Commands.{Login, Naming, Nameless, Named, Misnamed, Range, Command, Hello, Bye, BadBye, Idle, New, Rename, ListLines, Delete, Run, Continue, WrongTail, Old, RunFile, Save, Unsave, Catalog, Cataloging, OfOwn, OfAccount, OfNone, Assign, Deassign, Queue, Numbered, Immediate, command_of}
 use Rattle.job_model.specs.Play.{at_start, fuel_for, play, End, Gave, Broke, Finished, Played, told_by}
 use Rattle.job_model.specs.PlayLaws.{Begins}
-use Rattle.job_model.specs.Texts.{line_end, job_expired}
+use Rattle.job_model.specs.Texts.{line_end}
 use Rattle.job_model.specs.Ends.{at_ends}
 use Rattle.file_names.specs.declared.spec.Spec.{Spec}
 use Rattle.basic_tree.specs.ProgramLines.{Lines, within, without, listing}
@@ -37,16 +40,16 @@ use Rattle.program_model.specs.Job.{Job}
 use Rattle.program_model.specs.Job as program
 use Rattle.program_model.specs.Control.{Doing}
 use Rattle.program_model.specs.Printing.{written}
-use Rattle.program_model.specs.Reports.{ended_screen}
+use Rattle.program_model.specs.Reports.{Report, UsedUp, with_report, ended_screen}
 use Rattle.channels.specs.Files.{closed_channel}
 use Rattle.program_model.specs.Storage.{Storage, in_storage}
 use Rattle.program_model.specs.FileActs.{shut_act}
 use Rattle.program_model.specs.Running.{Coming, no_home, cleared, runs_cleared, raises, continues, runs_line}
 use Rattle.program_model.specs.Soundness.{can_begin, refusal_of, refusal_now}
-use Rattle.terminal_line.specs.Columns.{column_of, fresh_text}
+use Rattle.terminal_line.specs.Columns.{on_fresh_line}
 use Rattle.session_model.specs.Editing.{Edited, Accepted, Refused, edited}
 use Rattle.session_model.specs.ProgramFiles.{spec_read, listed_spec, spec_or_own, is_blank_text, saved_pages, program_on}
-use Rattle.session_model.specs.Texts.{ready, please_say_hello, invalid_entry, already_logged_in, illegal_command, bye, illegal_file_name, fault_line, halt_line, cant_continue, refusal_text, lowering_text}
+use Rattle.session_model.specs.Texts.{ready, please_say_hello, invalid_entry, already_logged_in, illegal_command, bye, illegal_file_name, fault_report, halt_report, cant_continue, refusal_text, lowering_report}
 
 -- THE SESSION
 
@@ -57,7 +60,7 @@ pub record Session (R : Type 0) : Type 0 where
   -- the name of the program in memory, and its lines
   pub name : List ℕ
   pub lines : Lines
-  -- what its programs keep, with the bytes on the screen and the keys left
+  -- what its programs keep, with the bytes on the screen
   pub job : Job R
   -- the STOP behind which CONT goes on
   pub stop : Option (program.Leaving R)
@@ -72,6 +75,9 @@ Step R = Act SessionEnd (Session R) Unit
 abbrev pub with_job : {R : Type 0} → Job R → Session R → Session R
 with_job j s = record s { job = j }
 
+abbrev pub with_screen : {R : Type 0} → Session R → List ℕ → Session R
+with_screen s screen = with_job (record s.job { screen = screen }) s
+
 -- bytes are written at the end of the screen
 abbrev pub says : {R : Type 0} → List ℕ → Session R → Session R
 says text s = with_job (written text s.job) s
@@ -79,19 +85,20 @@ says text s = with_job (written text s.job) s
 abbrev pub acts_for : {R : Type 0} → Account → Session R → Session R
 acts_for account s = with_job (record s.job { account = account }) (record s { account = Some account })
 
-abbrev pub keys_are : {R : Type 0} → List (List ℕ) → Session R → Session R
-keys_are keys s = with_job (record s.job { keys = keys }) s
-
--- a new line, where the screen is not at the start of one
-abbrev pub fresh : {R : Type 0} → Session R → Session R
-fresh s = says (fresh_text (column_of s.job.screen)) s
-
 abbrev pub is_ready : {R : Type 0} → Session R → Session R
-is_ready s = says ready (fresh s)
+is_ready s = with_screen s (on_fresh_line ready s.job.screen)
 
 -- a command that is done, with what it writes before Ready
 abbrev pub answered : {R : Type 0} → List ℕ → Session R → Step R
 answered text s = Gives tt (is_ready (says text s))
+
+-- a report is written
+abbrev pub shows_report : {R : Type 0} → Report → Session R → Session R
+shows_report report s = with_screen s (with_report report s.job.screen)
+
+-- a command that ends with a report, and Ready
+abbrev pub reports : {R : Type 0} → Report → Session R → Step R
+reports report s = Gives tt (is_ready (shows_report report s))
 
 -- HELLO: the reply decides
 abbrev pub entered : {R : Type 0} → Account → Reply → Session R → Step R
@@ -154,8 +161,8 @@ takes_edit (Refused text) s = answered text s
 
 -- why an act on files broke off: a fault is shown
 abbrev pub broken_off : {R : Type 0} → Break ⊥ → Session R → Step R
-broken_off (Faulted number) s = answered (fault_line number) s
-broken_off (Halted halt) s = answered (halt_line halt) s
+broken_off (Faulted number) s = reports (fault_report number) s
+broken_off (Halted halt) s = reports (halt_report halt) s
 broken_off Gone s = Breaks Gone s
 broken_off (Left none) s = absurd none
 
@@ -178,7 +185,7 @@ shut_down next s = tried (with_storage s) (λ _ s. next s) (shut_act (in_storage
 -- what is done with the file that is named, or the error that refuses the name
 abbrev pub by_name : {R : Type 0} → Result Spec ℕ → (Spec → Session R → Step R) → Session R → Step R
 by_name (Ok spec) act s = act spec s
-by_name (Err number) act s = answered (fault_line number) s
+by_name (Err number) act s = reports (fault_report number) s
 
 -- OLD and RUN: a name has to stand behind them
 abbrev pub with_name_of : {R : Type 0} → Account → List ℕ → (Spec → Session R → Step R) → Session R → Step R
@@ -197,7 +204,7 @@ loaded name lines s = with_lines lines (named name (emptied s))
 
 -- OLD: a text that is no program is an error, and nothing has changed; else the channels are closed first
 abbrev pub loads : {R : Type 0} → List ℕ → Option Lines → Session R → Step R
-loads name None s = answered (fault_line DATA_FORMAT_ERROR) s
+loads name None s = reports (fault_report DATA_FORMAT_ERROR) s
 loads name (Some lines) s = shut_down (λ s. answered [] (loaded name lines s)) s
 
 abbrev pub reads_old : {R : Type 0} → Judge → Spec → Session R → Step R
@@ -223,9 +230,6 @@ abbrev pub unsaves : {R : Type 0} → Account → List ℕ → Session R → Ste
 unsaves own tail s = by_name (spec_or_own own s.name tail) kills_file s
 
 -- CAT
-abbrev pub with_screen : {R : Type 0} → Session R → List ℕ → Session R
-with_screen s screen = with_job (record s.job { screen = screen }) s
-
 abbrev pub catalogs_of : {R : Type 0} → Account → Session R → Step R
 catalogs_of owner s =
     tried (with_screen s) (λ _ s. answered [] s) (catalog_from owner 0 MOST_FILES s.job.screen)
@@ -266,7 +270,11 @@ rests judge own Assign s = on_printer assigns s
 rests judge own Deassign s = on_printer deassigns s
 rests judge own (Queue tail) s = queues own tail s
 rests judge own (Numbered number rest) s = takes_edit (edited judge number rest s.lines) s
-rests judge own other s = Gives tt s
+-- what these four do is told by `user_acts`
+rests judge own (Run with_name) s = Gives tt s
+rests judge own (RunFile tail) s = Gives tt s
+rests judge own Continue s = Gives tt s
+rests judge own (Immediate statement) s = Gives tt s
 
 -- PROGRAMS THAT RUN
 
@@ -315,11 +323,11 @@ no_line line = record { line = unwrap_or line 0; cause = NoLine }
 
 abbrev pub runs_there : Runner → Program → ℕ → Option ℕ → Bool → Session Position → Step Position
 runs_there run p most line true s = run p s (runs_cleared p most line s.job)
-runs_there run p most line false s = answered (lowering_text (no_line line)) s
+runs_there run p most line false s = reports (lowering_report (no_line line)) s
 
 -- what is refused before it runs leaves the memory cleared, and so does a line at which it cannot begin
 abbrev pub runs_unless : Runner → Option LowerRefusal → Program → ℕ → Option ℕ → Session Position → Step Position
-runs_unless run (Some refusal) p most line s = answered (lowering_text refusal) s
+runs_unless run (Some refusal) p most line s = reports (lowering_report refusal) s
 runs_unless run None p most line s = runs_there run p most line (can_begin p line) s
 
 -- behind the closing
@@ -351,37 +359,66 @@ abbrev pub chains_to : Judge → Runner → ℕ → List ℕ × Lines → Sessio
 chains_to judge run most (name, lines) s =
     runs run (program_by judge lines) most s.job.destination.line (loaded name lines s)
 
--- the reading broke off: an error is one of the CHAIN, and the program in memory stays
-abbrev pub unread : (ℕ → Job Position → Step Position) → (Break (program.Leaving Position) → Job Position → Session Position) → Break ⊥ → Session Position → Job Position → Step Position
-unread faulted over (Faulted number) s j = faulted number j
-unread faulted over (Halted halt) s j = Gives tt (over (Halted halt) j)
-unread faulted over Gone s j = Breaks Gone (with_job j s)
-unread faulted over (Left none) s j = absurd none
+-- what is known where a program, or a line of immediate mode, has come to its end
+pub record Ending : Type 0 where
+  pub judge : Judge
+  -- how the next program is run, and for so many statements at the most
+  pub run : Runner
+  pub most : ℕ
+  -- what an error of the CHAIN leads to
+  pub faulted : ℕ → Job Position → Step Position
+  -- the session after every other end
+  pub over : Break (program.Leaving Position) → Job Position → Session Position
+  -- the session that it ran in
+  pub session : Session Position
 
-abbrev pub follows_chain : Judge → Runner → (ℕ → Job Position → Step Position) → ℕ → (Break (program.Leaving Position) → Job Position → Session Position) → Session Position → Job Position → Step Position
-follows_chain judge run faulted most over s j =
-    at_ends (λ _. with_job j s) (λ read _. chains_to judge run most read (with_job j s)) (λ why _. unread faulted over why s j)
-    (reads_program judge j.account j.destination.name)
+-- the reading broke off: an error is one of the CHAIN, and the program in memory stays
+abbrev pub unread : Ending → Break ⊥ → Job Position → Step Position
+unread end (Faulted number) j = end.faulted number j
+unread end (Halted halt) j = Gives tt (end.over (Halted halt) j)
+unread end Gone j = Breaks Gone (with_job j end.session)
+unread end (Left none) j = absurd none
+
+abbrev pub follows_chain : Ending → Job Position → Step Position
+follows_chain end j =
+    at_ends (λ _. with_job j end.session) (λ read _. chains_to end.judge end.run end.most read (with_job j end.session)) (λ why _. unread end why j)
+    (reads_program end.judge j.account j.destination.name)
 
 -- at a CHAIN the next program follows; every other end is outlived
-abbrev pub behind_end : Judge → Runner → (ℕ → Job Position → Step Position) → ℕ → (Break (program.Leaving Position) → Job Position → Session Position) → Session Position → Break (program.Leaving Position) → Job Position → Step Position
-behind_end judge run faulted most over s (Left program.Chained) j = follows_chain judge run faulted most over s j
-behind_end judge run faulted most over s why j = outlived over s why j
+abbrev pub behind_end : Ending → Break (program.Leaving Position) → Job Position → Step Position
+behind_end end (Left program.Chained) j = follows_chain end j
+behind_end end why j = outlived end.over end.session why j
 
--- a run with this at its end
-abbrev pub run_to : (Program → Session Position → Break (program.Leaving Position) → Job Position → Step Position) → Runner
-run_to ended p s act = in_session (ended p s) s act
+-- a program that runs in a session, for so many statements at the most
+pub record ProgramRun : Type 0 where
+  pub judge : Judge
+  pub most : ℕ
+  pub program : Program
+  pub session : Session Position
 
--- At the end of a program, behind which so many more may chain: an error of its CHAIN goes on in it. Each chain takes a unit, so more than units are taken are enough.
-abbrev pub ends_run : Judge → ℕ → ℕ → Program → Session Position → Break (program.Leaving Position) → Job Position → Step Position
-ends_run judge most zero p s why j = outlived (run_is_over s) s why j
-ends_run judge most (suc count) p s why j =
-    behind_end judge (run_to (ends_run judge most count)) (λ number j. run_to (ends_run judge most count) p s (raises p most number j))
-    most (run_is_over s) s why j
+-- with this at its end
+abbrev pub run_to : (ProgramRun → Break (program.Leaving Position) → Job Position → Step Position) → Judge → ℕ → Runner
+run_to ended judge most p s act = in_session (ended (record { judge = judge; most = most; program = p; session = s })) s act
+
+-- the end of a run, where it may chain: an error of its CHAIN goes on in it
+abbrev pub run_ending : (ProgramRun → Break (program.Leaving Position) → Job Position → Step Position) → ProgramRun → Ending
+run_ending ended r = record {
+  judge = r.judge;
+  run = run_to ended r.judge r.most;
+  most = r.most;
+  faulted = λ number j. run_to ended r.judge r.most r.program r.session (raises r.program r.most number j);
+  over = run_is_over r.session;
+  session = r.session;
+}
+
+-- At the end of a program, after which so many more may chain. Each chain takes a unit, so more than units are taken are enough.
+abbrev pub ends_run : ℕ → ProgramRun → Break (program.Leaving Position) → Job Position → Step Position
+ends_run zero r why j = outlived (run_is_over r.session) r.session why j
+ends_run (suc count) r why j = behind_end (run_ending (ends_run count) r) why j
 
 -- a run of a program, and of those to which it chains
 abbrev pub runs_chained : Judge → ℕ → ℕ → Runner
-runs_chained judge most count = run_to (ends_run judge most count)
+runs_chained judge most count = run_to (ends_run count) judge most
 
 -- RUN
 abbrev pub runs_all : Judge → Program → ℕ → Session Position → Step Position
@@ -389,7 +426,7 @@ runs_all judge p most s = runs (runs_chained judge most most) p most None s
 
 -- RUN with a name: the program is read as OLD reads it, and runs
 abbrev pub runs_loaded : Judge → ℕ → List ℕ → Option Lines → Session Position → Step Position
-runs_loaded judge most name None s = answered (fault_line DATA_FORMAT_ERROR) s
+runs_loaded judge most name None s = reports (fault_report DATA_FORMAT_ERROR) s
 runs_loaded judge most name (Some lines) s = runs_all judge (program_by judge lines) most (loaded name lines s)
 
 abbrev pub reads_and_runs : Judge → ℕ → Spec → Session Position → Step Position
@@ -405,12 +442,21 @@ goes_on judge p most None s = answered cant_continue s
 goes_on judge p most (Some stop) s = runs_chained judge most most p s (continues p most stop s.job)
 
 -- A line of immediate mode, which may be refused before it runs, and leaves a STOP as it is. An error of its CHAIN is reported.
+abbrev pub line_ending : Judge → ℕ → Session Position → Ending
+line_ending judge most s = record {
+  judge = judge;
+  run = runs_chained judge most most;
+  most = most;
+  faulted = λ number j. Gives tt (reported s (Faulted number) j);
+  over = reported s;
+  session = s;
+}
+
 abbrev pub line_ended : Judge → ℕ → Session Position → Break (program.Leaving Position) → Job Position → Step Position
-line_ended judge most s why j =
-    behind_end judge (runs_chained judge most most) (λ number j. Gives tt (reported s (Faulted number) j)) most (reported s) s why j
+line_ended judge most s why j = behind_end (line_ending judge most s) why j
 
 abbrev pub line_unless : Judge → Option LowerRefusal → List StatementTree → ℕ → Session Position → Step Position
-line_unless judge (Some refusal) statements most s = answered (lowering_text refusal) s
+line_unless judge (Some refusal) statements most s = reports (lowering_report refusal) s
 line_unless judge None statements most s = in_session (line_ended judge most s) s (runs_line statements most s.job)
 
 -- it has a tree
@@ -445,30 +491,27 @@ acts judge most (Some account) command s = user_acts judge most account command 
 abbrev pub line_acts : Judge → ℕ → List ℕ → Session Position → Step Position
 line_acts judge most line s = acts judge most s.account (command_of line) (says (line ++ line_end) s)
 
--- The next key line is taken, where there is one: it is no longer among those that are left.
-abbrev pub TakesKey : {R : Type 0} → Session R → Session R → Option (List ℕ) → Type 0
-TakesKey s t None = (s.job.keys ≡ []) × (t ≡ s)
-TakesKey s t (Some line) = (s.job.keys ≡ line ∷ t.job.keys) × (t ≡ keys_are t.job.keys s)
+-- what is done with the next key line, and at the end of the keys
+abbrev pub key_acts : Judge → ℕ → Option (List ℕ) → Session Position → Step Position
+key_acts judge most None s = leave s.account s
+key_acts judge most (Some line) s = line_acts judge most line s
 
--- what is done with the next key line; behind the last one comes the end of the keys
-abbrev pub with_next : (List ℕ → Session Position → Step Position) → List (List ℕ) → Session Position → Step Position
-with_next act [] s = leave s.account s
-with_next act (line ∷ keys) s = act line (keys_are keys s)
+-- the next key line is typed
+abbrev pub turn : Judge → ℕ → Session Position → Step Position
+turn judge most s = Types (λ key. key_acts judge most key s)
 
--- Key lines one after another, so many at the most. Each is taken from those that are left, so as
--- many as there are at first are enough.
+-- key lines one after another, at most this many
 abbrev pub session : Judge → ℕ → ℕ → Session Position → Step Position
 session judge most zero s = leave s.account s
-session judge most (suc count) s =
-    with_next (λ line s. line_acts judge most line s then λ _ s. session judge most count s) s.job.keys s
+session judge most (suc count) s = turn judge most s then λ _ s. session judge most count s
 
 -- what stands for an account before a login
 abbrev pub no_account : Account
 no_account = record { project = 0; programmer = 0 }
 
 -- a job that has run nothing
-abbrev pub new_job : {R : Type 0} → List (List ℕ) → Job R
-new_job keys = record {
+abbrev pub new_job : {R : Type 0} → Job R
+new_job = record {
   account = no_account;
   memory = empty;
   channels = replicate LAST_CHANNEL closed_channel;
@@ -476,7 +519,6 @@ new_job keys = record {
   common = [];
   buffers = replicate LAST_CHANNEL (replicate BLOCK_BYTES 0);
   screen = [];
-  keys = keys;
   trap = untouched;
   returns = [];
   limits = [];
@@ -488,17 +530,17 @@ new_job keys = record {
 }
 
 -- nobody is logged in, nothing was written, and there is no program
-abbrev pub opening : {R : Type 0} → List (List ℕ) → Session R
-opening keys = record { account = None; name = no_name; lines = []; job = new_job keys; stop = None }
+abbrev pub opening : {R : Type 0} → Session R
+opening = record { account = None; name = no_name; lines = []; job = new_job; stop = None }
 
-abbrev pub whole_session : Judge → ℕ → List (List ℕ) → Step Position
-whole_session judge most keys = session judge most (length keys) (opening keys)
+abbrev pub whole_session : Judge → ℕ → ℕ → Step Position
+whole_session judge most count = session judge most count opening
 
 -- THE TALK
 
--- whose calls are used up is told so
+-- the job's calls are used up
 abbrev pub expired : {R : Type 0} → Session R → Session R
-expired s = says job_expired (fresh s)
+expired s = shows_report UsedUp s
 
 -- the screen of a session that is over
 abbrev pub shown : {R : Type 0} → End SessionEnd (Session R) Unit → List ℕ
@@ -510,20 +552,36 @@ shown (Broke why s) = s.job.screen
 abbrev pub statements_for : List Reply → ℕ
 statements_for replies = suc (fuel_for replies)
 
-abbrev pub talk : Judge → List (List ℕ) → List Reply → Played (List ℕ)
+-- as many key lines as are typed, and the end of the keys
+abbrev pub talk : Judge → Typing → List Reply → Played (List ℕ)
 talk judge keys replies =
-    told_by shown (play (whole_session judge (statements_for replies) keys) at_start (fuel_for replies) replies)
+    told_by shown (play (whole_session judge (statements_for replies) (suc (lines_in keys))) at_start (fuel_for replies) keys replies)
 
 -- It holds of the judge by the grammar: there is one, and it holds of whoever judges so.
 abbrev pub ByGrammar : (Judge → Type 0) → Type 0
 ByGrammar holds = ((judge : Judge) × Judges judge) × ((judge : Judge) → Judges judge → holds judge)
 
 -- the talk of these keys and replies makes these requests, and is finished with this screen
-abbrev pub IsTalk : List (List ℕ) → List Reply → List Request → List ℕ → Type 0
+abbrev pub IsTalk : Typing → List Reply → List Request → List ℕ → Type 0
 IsTalk keys replies requests screen =
     ByGrammar (λ judge. talk judge keys replies ≡ (requests, Finished screen))
 
 -- these requests begin what the talk asks
-abbrev pub BeginsTalk : List (List ℕ) → List Reply → List Request → Type 0
+abbrev pub BeginsTalk : Typing → List Reply → List Request → Type 0
 BeginsTalk keys replies requests =
     ByGrammar (λ judge. Begins requests (talk judge keys replies).0)
+
+-- WHAT A PORT HAS SEEN: its events, wherever their key lines come from
+
+-- whatever is typed, if the key lines of the events are the first of it, its talk makes the requests of
+-- the events and is finished with this screen
+abbrev pub IsTalkOf : List Event → List ℕ → Type 0
+IsTalkOf events screen =
+    (keys : Typing) → AreTyped keys events
+    → IsTalk keys (replies (pairs_of events)) (requests (pairs_of events)) screen
+
+-- and so the requests of the events begin what its talk asks
+abbrev pub BeginsTalkOf : List Event → Type 0
+BeginsTalkOf events =
+    (keys : Typing) → AreTyped keys events
+    → BeginsTalk keys (replies (pairs_of events)) (requests (pairs_of events))

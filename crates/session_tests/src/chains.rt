@@ -155,7 +155,8 @@ const CLEARED: Talk = (
         Answer::Done,
         Answer::Done,
     ],
-    "Either [100,5]D Opened 1\nInput [100,5]B.BAS Opened 1\nGet 1 Block\nClose 0 Done\nClose 3 Done\n",
+    "Either [100,5]D Opened 1\nInput [100,5]B.BAS Opened 1\n\
+     Get 1 Block\nClose 0 Done\nClose 3 Done\n",
 );
 
 /// Three programs hand a number on by core common.
@@ -222,7 +223,8 @@ const THREE_BY_A_FILE: Talk = (
      Input [100,5]N Opened 1\nGet 1 Block\nClose 1 Done\n",
 );
 
-/// A refused CHAIN leaves a STOP; behind one that came off CONT goes on where the new program stopped.
+/// A refused CHAIN leaves a STOP; behind one that came off CONT goes on where the new program
+/// stopped.
 const CONT: Talk = (
     &[
         ("10 STOP", ""),
@@ -249,7 +251,46 @@ const CONT: Talk = (
      Input [100,5]B.BAS Opened 1\nGet 1 Block\nClose 0 Done\n",
 );
 
-static CHAINS: [Talk; 10] = [
+/// A report after a CHAIN begins at the start of a line: of a program that is rejected, of a line
+/// that it does not have, and where an immediate line chains to them.
+const REPORTS: Talk = (
+    &[
+        ("10 PRINT 'Z'; : CHAIN 'B'", ""),
+        ("RUNNH", "Z\n?Undefined line at line 10\nReady\n"),
+        ("NEW", "Ready\n"),
+        ("10 PRINT 'Y'; : CHAIN 'C' 77%", ""),
+        ("RUNNH", "Y\n?Undefined line at line 77\nReady\n"),
+        (
+            "PRINT 'X'; : CHAIN 'B'",
+            "X\n?Undefined line at line 10\nReady\n",
+        ),
+        (
+            "PRINT 'W'; : CHAIN 'C' 77%",
+            "W\n?Undefined line at line 77\nReady\n",
+        ),
+    ],
+    &[
+        Answer::Opened(1),
+        Answer::Block("10 GOTO 20\n"),
+        Answer::Done,
+        Answer::Opened(1),
+        Answer::Block("10 PRINT 1\n"),
+        Answer::Done,
+        Answer::Opened(1),
+        Answer::Block("10 GOTO 20\n"),
+        Answer::Done,
+        Answer::Opened(1),
+        Answer::Block("10 PRINT 1\n"),
+        Answer::Done,
+        Answer::Done,
+    ],
+    "Input [100,5]B.BAS Opened 1\nGet 1 Block\nClose 0 Done\n\
+     Input [100,5]C.BAS Opened 1\nGet 1 Block\nClose 0 Done\n\
+     Input [100,5]B.BAS Opened 1\nGet 1 Block\nClose 0 Done\n\
+     Input [100,5]C.BAS Opened 1\nGet 1 Block\nClose 0 Done\n",
+);
+
+static CHAINS: [Talk; 11] = [
     REFUSED,
     TRAPPED,
     TRAPPED_IN_A_BODY,
@@ -260,6 +301,7 @@ static CHAINS: [Talk; 10] = [
     THREE,
     THREE_BY_A_FILE,
     CONT,
+    REPORTS,
 ];
 
 #[test]

@@ -138,7 +138,8 @@ const ELEMENTS: Talk = (
         Answer::Done,
         Answer::Done,
     ],
-    "Either [100,5]A Opened 2\nGet 2 Failed 11\nPut 2 Done\nGet 1 Failed 19\nGet 1 Block\nClose 1 Done\n",
+    "Either [100,5]A Opened 2\nGet 2 Failed 11\n\
+     Put 2 Done\nGet 1 Failed 19\nGet 1 Block\nClose 1 Done\n",
 );
 
 /// SYS asks in the midst of an expression, and a refusal is trapped at the statement.
@@ -168,7 +169,8 @@ const MESSAGES: Talk = (
         Answer::Done,
         Answer::Done,
     ],
-    "Receive Failed 5\nReceive Message\nSend AB HI Done\nStatus State\nDeclare A1 32 Done\nRemove Done\n",
+    "Receive Failed 5\nReceive Message\nSend AB HI Done\n\
+     Status State\nDeclare A1 32 Done\nRemove Done\n",
 );
 
 static TALKS: [Talk; 5] = [FIELDS, LINES, WAITING, ELEMENTS, MESSAGES];

@@ -6,7 +6,8 @@ use std::test::Fail;
 static LEAVES: [Row; 15] = [
     ("10 A$='AB' : A$=A$+'X' : PRINT A$;LEN(A$);ASCII(A$)", ""),
     (
-        "20 B$=MID(A$,2%,2%) : PRINT B$;'/';LEFT(A$,1%);RIGHT(A$,2%);INSTR(1%,A$,B$);INSTR(1%,'AXBX',B$)",
+        "20 B$=MID(A$,2%,2%) : PRINT B$;'/';LEFT(A$,1%);RIGHT(A$,2%);\
+         INSTR(1%,A$,B$);INSTR(1%,'AXBX',B$)",
         "",
     ),
     (
@@ -49,13 +50,14 @@ fn leaves_are_taken_where_they_stand(rt: HostRuntime) -> Result<(), Fail> {
     expect_of_lines(rt.alloc(), &LEAVES)
 }
 
-/// A text that is stored to the variable that it was loaded from, in a line and in a program; one that another
-/// variable takes; and one that was never stored.
+/// A text that is stored to the variable that it was loaded from, in a line and in a program; one
+/// that another variable takes; and one that was never stored.
 static STORED_BACK: [Row; 7] = [
     ("10 A$='0123' : B$=A$ : A$=A$+'45' : PRINT A$;'/';B$", ""),
     ("20 B$=A$+'X' : A$=B$+'Y' : PRINT A$;'/';B$", ""),
     (
-        "30 A$=RIGHT(A$,3%) : C%=4% : A$=LEFT(A$,C%) : A$=MID(A$,2%,2%) : B$=LEFT(A$,1%) : PRINT A$;'/';B$",
+        "30 A$=RIGHT(A$,3%) : C%=4% : A$=LEFT(A$,C%) \
+         : A$=MID(A$,2%,2%) : B$=LEFT(A$,1%) : PRINT A$;'/';B$",
         "",
     ),
     (
@@ -76,8 +78,8 @@ fn texts_are_stored_back(rt: HostRuntime) -> Result<(), Fail> {
     expect_of_lines(rt.alloc(), &STORED_BACK)
 }
 
-/// A number that a function gives of a text: alone, in sums, as a subscript, as a limit, in what two bytes are made of,
-/// and where it is at fault.
+/// A number that a function gives of a text: alone, in sums, as a subscript, as a limit, in what
+/// two bytes are made of, and where it is at fault.
 static NUMBERS_OF_TEXTS: [Row; 10] = [
     (
         "10 A$='AB' : B%=LEN(A$)*10%+ASCII(A$) : PRINT B%;LEN(A$);-LEN(A$);LEN(B$);ASCII(B$)",
@@ -115,7 +117,8 @@ static NUMBERS_OF_TEXTS: [Row; 10] = [
     ),
 ];
 
-/// It stands for itself wherever a number may, and no text is made of it that is stored by its bytes at once.
+/// It stands for itself wherever a number may, and no text is made of it that is stored by its
+/// bytes at once.
 #[test]
 fn numbers_of_texts(rt: HostRuntime) -> Result<(), Fail> {
     expect_of_lines(rt.alloc(), &NUMBERS_OF_TEXTS)

@@ -136,8 +136,8 @@ fn a_value_is_formed_before_it_is_stored(rt: HostRuntime) -> Result<(), Fail> {
     Ok(())
 }
 
-/// A statement, and the element with the subscripts 1 and 1 that it leaves, which was 5. Those with a subscript 0 were 2,
-/// 3 and 4.
+/// A statement, and the element with the subscripts 1 and 1 that it leaves, which was 5. Those with
+/// a subscript 0 were 2, 3 and 4.
 static BESIDE_0: [Row; 10] = [
     ("MAT A%=ZER", "0"),
     ("MAT A%=CON", "1"),
@@ -432,8 +432,8 @@ fn expect_in_a_file(alloc: Global, statement: &str) -> Result<(), Fail> {
     expect_of_lines(alloc, &lines)
 }
 
-/// An element of such an array is a number as any other, and a line of immediate mode names arrays in
-/// memory.
+/// An element of such an array is a number as any other, and a line of immediate mode names arrays
+/// in memory.
 const BESIDE_FILES: Lines = &[
     ("10 DIM #1%,F%(2%,2%)", ""),
     ("20 MAT A%=(F%(1%,1%))*B%", ""),

@@ -2,7 +2,7 @@
 
 use crate::told::Told;
 use basic_values::{Fault, Stop};
-use monitor_calls::{Account, FileName, OpenKind, Page, Reply, Request, ScriptPort, Short};
+use monitor_calls::{Account, Event, FileName, OpenKind, Page, Reply, Request, ScriptPort, Short};
 use std::alloc::Global;
 use std::test::Fail;
 
@@ -79,11 +79,17 @@ fn push_reply(alloc: Global, replies: &mut Vec<Reply>, said: Said) -> Result<(),
 /// What was asked, a line for each request.
 fn asked(alloc: Global, port: &ScriptPort) -> Told {
     let mut told = Told::new(alloc);
-    for (request, _) in port.log() {
-        put_request(&mut told, request);
-        told.put("\n");
+    for event in port.log() {
+        put_event(&mut told, event);
     }
     told
+}
+
+fn put_event(told: &mut Told, event: &Event) {
+    if let Event::Asked { request, .. } = event {
+        put_request(told, request);
+        told.put("\n");
+    }
 }
 
 fn put_request(told: &mut Told, request: &Request) {
@@ -119,7 +125,7 @@ fn put_request(told: &mut Told, request: &Request) {
             told.count(",", u16::from(owner.programmer));
             told.count(" ", *index)
         }
-        _ => told.put("another"),
+        _ => told.request(request),
     }
 }
 

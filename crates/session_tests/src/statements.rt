@@ -129,7 +129,8 @@ const COMMANDS: Talk = (
     "Either [100,5]A Opened 1\nInput [100,5]X.BAS Failed 5\nGet 1 Block\n\
      Input [100,5]X.BAS Opened 1\nGet 1 Block\nClose 0 Done\nClose 1 Done\n\
      Either [100,5]A Opened 1\nClose 1 Done\n\
-     Either [100,5]A Opened 1\nInput [100,5]X.BAS Opened 1\nGet 1 Block\nClose 0 Done\nClose 1 Done\n\
+     Either [100,5]A Opened 1\nInput [100,5]X.BAS Opened 1\nGet 1 Block\nClose 0 Done\n\
+     Close 1 Done\n\
      Either [100,5]A Opened 1\n",
 );
 

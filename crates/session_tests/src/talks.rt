@@ -3,7 +3,7 @@
 use crate::told::{Told, joined};
 use basic_values::{Fault, KeyLine, Text};
 use command_level::serve;
-use monitor_calls::{Account, FileName, OpenKind, Page, Reply, Request, ScriptPort, Short};
+use monitor_calls::{Account, Event, FileName, OpenKind, Page, Reply, Request, ScriptPort, Short};
 use std::alloc::Global;
 use std::test::Fail;
 
@@ -160,8 +160,14 @@ fn push_reply(alloc: Global, replies: &mut Vec<Reply>, answer: &Answer) -> Resul
     Ok(replies.push(reply_of(alloc, answer)?)?)
 }
 
-/// A port that replies this, and before it to a login where there is one.
-fn port_of(alloc: Global, has_login: bool, answers: &[Answer]) -> Result<ScriptPort, Fail> {
+/// Returns a port that types these key lines and replies this, and before it to a login if there
+/// is one.
+fn port_of(
+    alloc: Global,
+    keys: Vec<KeyLine>,
+    has_login: bool,
+    answers: &[Answer],
+) -> Result<ScriptPort, Fail> {
     let mut replies = Vec::new(alloc);
     if has_login {
         replies.push(Reply::Done)?;
@@ -169,7 +175,7 @@ fn port_of(alloc: Global, has_login: bool, answers: &[Answer]) -> Result<ScriptP
     for answer in answers {
         push_reply(alloc, &mut replies, answer)?;
     }
-    Ok(ScriptPort::new(alloc, replies))
+    Ok(ScriptPort::typed(alloc, keys, replies))
 }
 
 // WHAT IS ASKED OF IT
@@ -190,7 +196,7 @@ fn put_reply(told: &mut Told, reply: &Reply) {
         Reply::Name { name, .. } => told.file("Name ", name, None),
         Reply::Message { .. } => told.put("Message"),
         Reply::State { .. } => told.put("State"),
-        _ => told.put("another"),
+        _ => told.reply(reply),
     }
 }
 
@@ -245,23 +251,23 @@ fn put_message_request(told: &mut Told, request: &Request) {
             told.put("Print ");
             told.put_bytes(text.as_bytes())
         }
-        _ => told.put(word_of(request)),
+        _ => put_word(told, request),
     }
 }
 
-/// A request that is no more than a word.
-fn word_of(request: &Request) -> &'static str {
+/// A request that is no more than a word, and any other as it stands in a history.
+fn put_word(told: &mut Told, request: &Request) {
     match request {
-        Request::Logout => "Logout",
-        Request::Tick => "Tick",
-        Request::Remove => "Remove",
-        Request::Receive => "Receive",
-        Request::Status => "Status",
-        Request::Assign => "Assign",
-        Request::Deassign => "Deassign",
-        Request::OpenPrinter => "OpenPrinter",
-        Request::ClosePrinter => "ClosePrinter",
-        _ => "another",
+        Request::Logout => told.put("Logout"),
+        Request::Tick => told.put("Tick"),
+        Request::Remove => told.put("Remove"),
+        Request::Receive => told.put("Receive"),
+        Request::Status => told.put("Status"),
+        Request::Assign => told.put("Assign"),
+        Request::Deassign => told.put("Deassign"),
+        Request::OpenPrinter => told.put("OpenPrinter"),
+        Request::ClosePrinter => told.put("ClosePrinter"),
+        _ => told.request(request),
     }
 }
 
@@ -274,16 +280,22 @@ fn kind_told(kind: OpenKind) -> &'static str {
     }
 }
 
-/// The log as text, with a line for each call.
-fn log_told(alloc: Global, log: &[(Request, Reply)]) -> Told {
+/// Returns the log as text, with a line for each call.
+fn log_told(alloc: Global, log: &[Event]) -> Told {
     let mut told = Told::new(alloc);
-    for (request, reply) in log {
-        put_request(&mut told, request);
-        told.put(" ");
-        put_reply(&mut told, reply);
-        told.put("\n");
+    for event in log {
+        put_event(&mut told, event);
     }
     told
+}
+
+fn put_event(told: &mut Told, event: &Event) {
+    if let Event::Asked { request, reply } = event {
+        put_request(told, request);
+        told.put(" ");
+        put_reply(told, reply);
+        told.put("\n");
+    }
 }
 
 // SESSIONS
@@ -310,26 +322,20 @@ fn expect_shown(alloc: Global, bytes: &[u8], wanted: &str) -> Result<(), Fail> {
     Err(Fail::new(String::from_utf8(Vec::from_slice(alloc, bytes)?)?))
 }
 
-/// Fails with what the session of these keys shows, unless it is this.
-fn expect_screen(
-    alloc: Global,
-    keys: Vec<KeyLine>,
-    port: &mut ScriptPort,
-    wanted: &str,
-) -> Result<(), Fail> {
-    let screen = serve(alloc, keys, port)?;
+/// Fails with what the session over this port shows, unless it is this.
+fn expect_screen(alloc: Global, port: &mut ScriptPort, wanted: &str) -> Result<(), Fail> {
+    let screen = serve(alloc, port)?;
     expect_shown(alloc, screen.bytes(), wanted)
 }
 
-/// Fails with what was shown or asked, unless the session of these keys shows and asks this.
+/// Fails with what was shown or asked, unless the session over this port shows and asks this.
 fn expect_session(
     alloc: Global,
-    keys: Vec<KeyLine>,
     port: &mut ScriptPort,
     screen: &str,
     log: &str,
 ) -> Result<(), Fail> {
-    expect_screen(alloc, keys, port, screen)?;
+    expect_screen(alloc, port, screen)?;
     log_told(alloc, port.log()).expect(log)
 }
 
@@ -357,8 +363,8 @@ pub(crate) fn expect_talk(
     log: &str,
 ) -> Result<(), Fail> {
     let keys = key_lines(alloc, keys)?;
-    let mut port = port_of(alloc, false, answers)?;
-    expect_session(alloc, keys, &mut port, screen, log)
+    let mut port = port_of(alloc, keys, false, answers)?;
+    expect_session(alloc, &mut port, screen, log)
 }
 
 /// Fails unless a user's line is the last of a job that expires at one of these answers.
@@ -443,10 +449,10 @@ pub(crate) fn expect_of_files(
     asked: &str,
 ) -> Result<(), Fail> {
     let keys = user_keys(alloc, lines)?;
-    let mut port = port_of(alloc, true, answers)?;
+    let mut port = port_of(alloc, keys, true, answers)?;
     let screen = user_screen(alloc, lines);
     let log = user_log(alloc, asked);
-    expect_session(alloc, keys, &mut port, screen.text(), log.text())
+    expect_session(alloc, &mut port, screen.text(), log.text())
 }
 
 /// The same for each of these.

@@ -1,13 +1,16 @@
 //! A text that is told piece by piece.
 
+use basic_values::NoMemory;
 use file_names::print;
-use monitor_calls::FileName;
+use monitor_calls::{FileName, Reply, Request};
+use report_texts::{push_reply, push_request};
 use std::alloc::{AllocError, Global};
 use std::test::Fail;
 
 /// A text that grows until memory runs out: whoever puts something there need not ask each time.
 #[derive(Drop)]
 pub(crate) struct Told {
+    alloc: Global,
     text: String,
     is_cut: bool,
 }
@@ -15,6 +18,7 @@ pub(crate) struct Told {
 impl Told {
     pub(crate) fn new(alloc: Global) -> Told {
         Told {
+            alloc,
             text: String::new(alloc),
             is_cut: false,
         }
@@ -52,6 +56,25 @@ impl Told {
             self.count("<", u16::from(code));
             self.put(">");
         }
+    }
+
+    /// A request, as it stands in a history.
+    pub(crate) fn request(&mut self, request: &Request) {
+        let mut text = Vec::new(self.alloc);
+        let done = push_request(&mut text, request);
+        self.history_text(text.as_slice(), done)
+    }
+
+    /// A reply, as it stands in a history.
+    pub(crate) fn reply(&mut self, reply: &Reply) {
+        let mut text = Vec::new(self.alloc);
+        let done = push_reply(&mut text, reply);
+        self.history_text(text.as_slice(), done)
+    }
+
+    fn history_text(&mut self, text: &[u8], done: Result<(), NoMemory>) {
+        self.put_bytes(text);
+        self.is_cut = self.is_cut || done.is_err();
     }
 
     /// The text, where it is whole.

@@ -12,11 +12,11 @@ use Rattle.grammar_machine.specs.MachineRun.{run}
 use Rattle.statement_lists.specs.ListForms.{assigned_form, value_form}
 use Rattle.statement_parts.specs.ParsedForms.{Halts, Leads}
 
--- what is expected behind all targets
+-- what is expected after all targets
 abbrev behind_targets : Want → (List Tree → Tree → Form) → List Item → Form
 behind_targets w g items = value_form w (g (targets_in items))
 
--- and behind the first
+-- and after the first
 abbrev behind_first : (List Tree → Tree → Form) → Want → Tree → Form
 behind_first g w t = MoreOf (Targets w) (TargetItem t ∷ []) (behind_targets w g)
 

@@ -1,4 +1,4 @@
--- The last word of CHAIN's text, and whether a number follows it.
+-- The last word of CHAIN's string, and whether a number follows it.
 use Rattle.std.proofs.Common.{◌≡◌, ℕ, zero, suc, ◌+◌, ◌-◌, ◌<◌, ◌≤◌, ◌&&◌, Bool, true, false, List, [], ◌∷◌, length, take, drop, Option, Some, None, Ok, refl, ap, sym, ◌∙◌, arith}
 use Rattle.std.specs.Prelude.{MatchBool}
 use Rattle.std.proofs.lemmas.List.{length-drop}
@@ -51,7 +51,7 @@ ends_before n ws from end t after inside h =
 
 pub ruleset programs = (expression_leads, expression_halts, ends_before)
 
--- ---- words that stand first
+-- ---- words that come first
 
 pub first_stands : (ws : List Word) (t : Word) (rest : List Word) → ws ≡ t ∷ rest → first_word ws ≡ Some t
 first_stands ws t rest e = ap (λ x. first_word x) e
@@ -110,7 +110,7 @@ either_follows ws place w named false e same begins f = nothing_stands ws place 
 
 -- ---- the whole statement
 
--- behind its text stands its line
+-- the string is followed by the line
 text_leads : (n : ℕ) (ws : List Word) (from at behind : ℕ) (t : Tree)
     → ((m : ℕ) (f : Form) → Leads m m ws from at (TakeKey false keyword.Chain f) f)
     → ((g : Tree → Form) → Leads n n ws at behind (ExprOf want.Text g) (g t))

@@ -12,7 +12,7 @@ use Rattle.grammar_machine.proofs.FormSteps.{value_used, nothing_used}
 use Rattle.statement_parts.specs.ParsedForms.{Leads, Halts}
 use Rattle.statement_lists.specs.Usings.{value_form, UsesValue, UsesNone, Uses}
 
--- ---- what stands at a place
+-- ---- what is at a place
 
 pub used_or_none : (ws : List Word) (from : ℕ) (t : Word) (b : Bool) → drop from ws ≡ t ∷ drop (from + 1) ws → b ≡ begins_value t → MatchBool b (UsesValue ws from) (UsesNone ws from)
 used_or_none ws from t true e is = λ n c format values k vs. rw e (value_used n c format values t (drop (from + 1) ws) k vs (sym is))
@@ -32,7 +32,7 @@ map_push (y ∷ xs) x = ap (λ l. using_item_of y ∷ l) (map_push xs x)
 pub uses_begin : (n : ℕ) (ws : List Word) (from : ℕ) → from ≤ length ws → Uses n ws from [] from
 uses_begin n ws from le = record { runs = λ c format k vs. refl; after = omega arith; within = le }
 
--- behind one more value with its separator
+-- after one more value with its separator
 pub uses_one_more : (n : ℕ) (ws : List Word) (from end next : ℕ) (values more : List UsingItem) (item : UsingItem)
     → Uses n ws from values end
     → ((c : Option Tree) (format : Tree) (before : List UsingItemTree) → Leads n n ws end next (value_form c format before) (MoreUsing c format (before ++ using_item_of item ∷ [])))

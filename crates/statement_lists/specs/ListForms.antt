@@ -14,7 +14,7 @@ use Rattle.grammar_machine.specs.MachineForms.{targets_in}
 abbrev pub value_form : Want → (Tree → Form) → Form
 value_form w g = TakeSign false sign.Equal (ExprOf w g)
 
--- behind the name and the first bound of an array, perhaps its second
+-- after the name and the first bound of an array, an optional second bound
 abbrev pub second_form : (Option ℕ → Form) → Form
 second_form g = IfSign false sign.Comma (LiteralIn Bound (λ second. g (Some second))) (g None)
 

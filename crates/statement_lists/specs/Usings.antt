@@ -14,11 +14,11 @@ use Rattle.statement_lists.specs.declared.using.UsedValues.{UsedValues}
 use Rattle.statement_lists.specs.declared.using.Part.{Part}
 use Rattle.statement_lists.specs.declared.using.Part.TheVariants as part
 
--- a value that has to stand there, behind a channel, a format and the values before
+-- a value that has to be there, after a channel, a format and the values before
 abbrev pub value_form : Option Tree → Tree → List UsingItemTree → Form
 value_form c format values = ExprOf want.Either (λ t. using_value_form c format values t)
 
--- ---- what stands at a place
+-- ---- what is at a place
 
 -- one more value
 abbrev pub UsesValue : List Word → ℕ → Type 0
@@ -33,7 +33,7 @@ abbrev pub UsedAt : ℕ → List Word → ℕ → ℕ → Part → Type 0
 UsedAt n ws from end (part.Item item) = (c : Option Tree) (format : Tree) (values : List UsingItemTree) → Leads n n ws from end (value_form c format values) (MoreUsing c format (values ++ using_item_of item ∷ []))
 UsedAt n ws from end (part.Last t) = (c : Option Tree) (format : Tree) (values : List UsingItemTree) → Makes n ws from end (value_form c format values) (Stated (PrintUsing c format values (Some (tree_of t))))
 
--- these values were read, and one more has to stand there
+-- these values were read, and one more has to be there
 pub record Uses (n : ℕ) (ws : List Word) (from : ℕ) (values : List UsingItem) (end : ℕ) : Type 0 where
   pub runs : (c : Option Tree) (format : Tree) → Leads n n ws from end (value_form c format []) (value_form c format (map using_item_of values))
   pub after : from ≤ end

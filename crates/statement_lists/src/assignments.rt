@@ -1,4 +1,4 @@
-//! Assignments: targets of one kind and the value that they take.
+//! Assignments: targets of one kind, and the value that is stored in them.
 
 ghost use Rattle.std.specs.Prelude.{◌≡◌, ◌≤◌, length, map};
 ghost use Rattle.basic_tree.specs.SpellingExpressions.{want_of};
@@ -12,21 +12,21 @@ use basic_tree::{Expr, Series, Sign, Target, Want};
 use statement_parts::{Read, expression, take_sign, target, target_text};
 use std::alloc::Global;
 
-/// Targets, and the value that they take.
+/// Targets, and the value that is stored in them.
 #[derive(Drop)]
 pub struct Assigned {
     pub targets: Series<Target>,
     pub value: Expr,
 }
 
-/// The kind of a value.
+/// Returns the kind of value that a string, or else a number, is.
 pub fn want_of(text: bool) -> Want
     ensures { result ≡ want_of text }
 {
     if text { Want::Text } else { Want::Number }
 }
 
-/// `=` and a value of the wanted kind, and the place behind them.
+/// Reads `=` and a value of the wanted kind.
 #[tactic(auto, using(statement_parts::proofs::Steps::leading))]
 fn assigned_value(
     alloc: Global,
@@ -42,8 +42,9 @@ fn assigned_value(
     expression(alloc, words, at, want, levels)
 }
 
-/// Targets of one kind, `=` and the value that they take; and the place behind it.
-// The targets are let go by `drop`: where a `?` does it, the proof goes through their forms.
+/// Reads targets of one kind, `=` and the value.
+// The targets are dropped by `drop`: if a `?` dropped them, the proof would go through all their
+// forms.
 pub fn assignment(
     alloc: Global,
     words: &Words<'_>,

@@ -1,6 +1,7 @@
-//! CHAIN, the one statement in which a number stands right behind a text.
+//! CHAIN, the only statement in which a number comes right after a string.
 
-ghost use Rattle.std.specs.Prelude.{◌≡◌, ℕ, ◌+◌, ◌<◌, ◌≤◌, drop, length, option_map, IfOk, MatchBool};
+ghost use Rattle.std.specs.Prelude.{◌≡◌, ℕ, ◌+◌, ◌<◌, ◌≤◌, drop, length, option_map, IfOk};
+ghost use Rattle.std.specs.Prelude.{MatchBool};
 ghost use Rattle.basic_expr.specs.Views.{as_word};
 ghost use Rattle.basic_tree.specs.SpellingParts.{first_word, is_name};
 ghost use Rattle.basic_tree.specs.SpellingWords.{Punctuation};
@@ -9,7 +10,8 @@ ghost use Rattle.basic_tree.specs.TreeViews.{tree_of, chain_line_of};
 ghost use Rattle.grammar_machine.specs.MachineStack.{ExprOf};
 ghost use Rattle.grammar_machine.specs.MachineSentences.{chain_form};
 ghost use Rattle.basic_tree.specs.declared.kinds.Want.TheVariants.{Text};
-ghost use Rattle.statement_lists.specs.Following.{EndsBefore, NothingFollows, NumberFollows, chain_line_form, follows};
+ghost use Rattle.statement_lists.specs.Following.{EndsBefore, NothingFollows, NumberFollows};
+ghost use Rattle.statement_lists.specs.Following.{chain_line_form, follows};
 ghost use Rattle.statement_parts.specs.ParsedForms.{Parts, PartsFrom, States};
 
 use basic_expr::{Failure, Word, Words, begins_value, expression_at};
@@ -17,7 +19,7 @@ use basic_tree::{ChainLine, Expr, Keyword, Sign, Statement, Want};
 use statement_parts::{Read, expression, if_key, take_key};
 use std::alloc::Global;
 
-/// The text of CHAIN, and the place behind its last word.
+/// Reads the string of CHAIN. The place after it is that after its last word.
 #[tactic(auto, using(crate::proofs::ChainSteps::programs))]
 fn program(
     alloc: Global,
@@ -36,7 +38,7 @@ fn program(
     })
 }
 
-/// Whether a word is a name, behind which a parenthesis opens its own list.
+/// Returns whether a word is a name. A parenthesis after a name opens the name's own list.
 fn is_name(word: Word<'_>) -> bool
     ensures { result ≡ is_name (Some (as_word word.entry)) }
 {
@@ -47,7 +49,7 @@ fn is_name(word: Word<'_>) -> bool
     }
 }
 
-/// Whether a name stands at a place.
+/// Returns whether a name is at a place.
 #[tactic(auto, using(crate::proofs::ChainSteps::stands_first))]
 fn name_stands(words: &Words<'_>, place: usize) -> bool
     requires { place ≤ length words.now }
@@ -70,7 +72,7 @@ fn sign_follows(named: bool, sign: Sign) -> bool
     }
 }
 
-/// Whether a number may begin with a word right behind a name, or else behind another word.
+/// Returns whether a number can begin with a word, right after a name, or else after another word.
 fn follows(named: bool, word: Word<'_>) -> bool
     ensures { result ≡ follows named (as_word word.entry) }
 {
@@ -80,8 +82,8 @@ fn follows(named: bool, word: Word<'_>) -> bool
     }
 }
 
-/// Whether the number of CHAIN begins at a place, right behind its text: with no sign, and with no
-/// parenthesis that would belong to a name.
+/// Returns whether the number of CHAIN begins at a place, right after its string: not with a sign,
+/// and not with a parenthesis that would belong to a name.
 #[tactic(auto, using(crate::proofs::ChainSteps::following))]
 fn number_follows(words: &Words<'_>, place: usize) -> bool
     requires within { place ≤ length words.now }
@@ -95,8 +97,7 @@ fn number_follows(words: &Words<'_>, place: usize) -> bool
     }
 }
 
-/// The line of CHAIN behind the text that names its program, where one stands there; and the place
-/// behind it.
+/// Reads the line of CHAIN after the string that names its program, if there is one.
 #[tactic(auto, using(statement_parts::proofs::Steps::leading))]
 fn line(
     alloc: Global,
@@ -130,7 +131,7 @@ fn line(
     })
 }
 
-/// CHAIN, the name of a program, and perhaps its line.
+/// Reads CHAIN, the name of a program, and its line, if there is one.
 #[tactic(auto, using(statement_parts::proofs::Steps::leading))]
 pub fn chain(
     alloc: Global,

@@ -1,11 +1,11 @@
-//! Lists with commas and the statements of which they are the greater part: their elements, one
-//! function for all kinds; targets and the value that they take; PRINT USING. CHAIN stands here
-//! too, the one statement in which a number stands right behind a text.
+//! Reads lists that are separated by commas, by one function for all kinds of elements, and the
+//! statements that are mainly lists: assignments and PRINT USING. CHAIN is here too, the only
+//! statement in which a number comes right after a string.
 //!
-//! It stands on `statement_parts`, of whose parts all are made, and each promise is of its kind:
-//! from the form, whatever is expected behind it, the words up to the end lead to what is made of
-//! the value; or the machine stops at that word. What is easy to read wrongly in a list is turned
-//! by this crate's wrong bodies, where a proof is small.
+//! Everything is made of the parts of `statement_parts`, and the contracts have the same shape:
+//! from the form, whatever is expected after it, the words up to the end lead to what is made of
+//! the value, or the machine stops at that word. The mutants of this crate change what is easy to
+//! get wrong in a list, since its proofs are small.
 #![tactic(auto)]
 
 mod assignments;

@@ -1,7 +1,9 @@
-//! The elements of lists with commas.
+//! The elements of lists.
 
 ghost use Rattle.std.specs.Prelude.{◌≡◌, ℕ, ◌+◌, ◌<◌, ◌≤◌, length};
-ghost use Rattle.grammar_machine.specs.MachineStack.{Targets, Shapes, FileShapes, Lines, Channels, FieldParts, ShapeItem, FileItem, NameItem, LineItem};
+ghost use Rattle.grammar_machine.specs.MachineStack.{Targets, Shapes, FileShapes, Lines, Channels};
+ghost use Rattle.grammar_machine.specs.MachineStack.{FieldParts, ShapeItem, FileItem, NameItem};
+ghost use Rattle.grammar_machine.specs.MachineStack.{LineItem};
 ghost use Rattle.grammar_machine.specs.MachineForms.{shape_form, size_form};
 ghost use Rattle.statement_lists.specs.Items.{channel_item, names_wanted, part_item, target_item};
 ghost use Rattle.statement_parts.specs.ParsedForms.{Parts, FlatParts, FlatPartsFrom};
@@ -15,7 +17,7 @@ use statement_parts::{
 };
 use std::alloc::Global;
 
-/// The name of an array and its bounds, and the place behind them.
+/// Reads the name of an array and its bounds.
 #[tactic(auto, using(statement_parts::proofs::Steps::leading))]
 fn shape(words: &Words<'_>, from: usize, levels: usize) -> Result<Read<Shape>, Failure>
     requires { from ≤ length words.now }
@@ -45,7 +47,7 @@ fn shape(words: &Words<'_>, from: usize, levels: usize) -> Result<Read<Shape>, F
     })
 }
 
-/// A comma and a second bound, where they stand there; and the place behind them.
+/// Reads a comma and a second bound, if they are there.
 #[tactic(auto, using(statement_parts::proofs::Steps::leading))]
 fn second_bound(words: &Words<'_>, from: usize) -> Result<Read<Option<u16>>, Failure>
     requires { from ≤ length words.now }
@@ -64,8 +66,7 @@ fn second_bound(words: &Words<'_>, from: usize) -> Result<Read<Option<u16>>, Fai
     })
 }
 
-/// Behind a text array, the bytes of its elements, where they stand there; and the place behind
-/// them.
+/// Reads the size of the elements of a string array, if it is there.
 #[tactic(auto, using(statement_parts::proofs::Steps::leading))]
 fn size(words: &Words<'_>, from: usize, text: bool) -> Result<Read<Option<u16>>, Failure>
     requires { from ≤ length words.now }
@@ -90,7 +91,7 @@ fn size(words: &Words<'_>, from: usize, text: bool) -> Result<Read<Option<u16>>,
     })
 }
 
-/// AS and the text variable of a part of FIELD, and the place behind them.
+/// Reads AS and the string variable of a part of FIELD.
 #[tactic(auto, using(statement_parts::proofs::Steps::leading))]
 fn field_name(words: &Words<'_>, from: usize) -> Result<Read<Name>, Failure>
     requires { from ≤ length words.now }
@@ -169,7 +170,7 @@ impl Element for FileShape {
     }
 }
 
-/// The names of arrays where numbers are wanted, else parameters.
+/// Names: of arrays where numbers are wanted, else of parameters.
 impl Element for Name {
     ghost sequence = { names_wanted };
 
@@ -283,7 +284,7 @@ impl Element for FieldPart {
                 value: FieldPart { width, name },
                 end,
             }),
-            // Where a `?` lets go of a tree, the proof goes through all its forms.
+            // If a `?` dropped a tree, the proof would go through all its forms.
             Err(failure) => {
                 drop(width);
                 Err(failure)

@@ -1,4 +1,4 @@
-//! Lists with commas: one function for all kinds of elements.
+//! Lists that are separated by commas: one function for all kinds of elements.
 
 ghost use Rattle.std.specs.Prelude.{◌≡◌, ℕ, ◌+◌, ◌<◌, ◌≤◌, List, [], ◌∷◌, length, map, MatchBool};
 ghost use Rattle.basic_expr.specs.Views.{most_words};
@@ -12,18 +12,18 @@ use basic_tree::{Series, Sign, Want};
 use statement_parts::Read;
 use std::alloc::Global;
 
-/// An element of a list with commas. What is wanted of it matters to targets and names alone.
+/// An element of a list. Only for targets and names does it matter which kind is wanted.
 pub trait Element: Sized + Drop {
     ghost sequence: { Want → Sequence };
 
     ghost item: { Self → Item };
 
-    /// Whether one more may follow so many.
+    /// Returns whether one more may follow after this many.
     fn has_room(want: Want, count: usize) -> bool
         ensures { (items : List Item) → length items ≡ count → has_room (sequence want) items ≡
             result };
 
-    /// An element, and the place behind it.
+    /// Reads an element.
     fn parse(
         alloc: Global,
         words: &Words<'_>,
@@ -36,7 +36,7 @@ pub trait Element: Sized + Drop {
             result };
 }
 
-/// Whether a comma and one more element stand at a place, where there is room for one.
+/// Returns whether a comma and one more element are at a place, if the list has room for one.
 #[tactic(auto, using(crate::proofs::ListSteps::commas))]
 fn adds_one(words: &Words<'_>, from: usize, room: bool) -> bool
     requires { from ≤ length words.now }
@@ -47,7 +47,7 @@ fn adds_one(words: &Words<'_>, from: usize, room: bool) -> bool
     if room { stands } else { false }
 }
 
-/// An element and those that follow it, each behind a comma; and the place behind them.
+/// Reads the elements that follow a first one, each after a comma, and returns all of them.
 #[tactic(auto, using(crate::proofs::ListSteps::loops))]
 pub fn more_elements<T: Element>(
     alloc: Global,
@@ -78,7 +78,7 @@ pub fn more_elements<T: Element>(
     })
 }
 
-/// One or more elements with commas between, and the place behind them.
+/// Reads one or more elements, separated by commas.
 #[tactic(auto)]
 pub fn elements<T: Element>(
     alloc: Global,

@@ -1,4 +1,4 @@
-//! PRINT USING: the format, and the values that are written by it.
+//! PRINT USING: the format, and the values that are written with it.
 
 ghost use Rattle.std.specs.Prelude.{◌≤◌, length, option_map, MatchBool};
 ghost use Rattle.basic_expr.specs.Views.{most_words};
@@ -19,14 +19,14 @@ pub(crate) enum Part {
     Last(Expr),
 }
 
-/// The values of PRINT USING, and the last one, where no separator ends them.
+/// The values of PRINT USING, and the last one, if no separator follows it.
 #[derive(Drop)]
 pub(crate) struct UsedValues {
     pub values: Series<UsingItem>,
     pub last: Option<Expr>,
 }
 
-/// Whether one more value begins at a place.
+/// Returns whether one more value begins at a place.
 #[tactic(auto, using(crate::proofs::UsingSteps::values))]
 fn if_value(words: &Words<'_>, from: usize) -> bool
     requires { from ≤ length words.now }
@@ -39,7 +39,7 @@ fn if_value(words: &Words<'_>, from: usize) -> bool
     }
 }
 
-/// A value with its separator, or the last one; and the place behind it.
+/// Reads a value with its separator, or the last value.
 #[tactic(auto, using(statement_parts::proofs::Steps::leading))]
 fn read_part(
     alloc: Global,
@@ -71,7 +71,7 @@ fn read_part(
     })
 }
 
-/// One or more values, and the place behind them.
+/// Reads one or more values.
 #[tactic(auto, using(crate::proofs::UsingSteps::loops))]
 fn all_values(
     alloc: Global,
@@ -115,7 +115,7 @@ fn all_values(
     }
 }
 
-/// Behind USING: the format, a comma and the values, to be written to this channel.
+/// Reads what follows USING: the format, a comma and the values, to be written to this channel.
 #[tactic(auto, using(statement_parts::proofs::Steps::leading))]
 pub fn print_using(
     alloc: Global,

@@ -1,4 +1,4 @@
--- Modifiers at a place, and a statement and those behind it.
+-- Modifiers at a place, and a statement with the modifiers after it.
 use Rattle.std.proofs.Common.{◌≡◌, ℕ, suc, true, ◌+◌, ◌-◌, ◌<◌, ◌≤◌, List, [], ◌∷◌, length, drop, Option, Some, None, Result, Ok, Err, MatchOption, refl, ap, sym, ◌∙◌, subst, arith}
 use Rattle.basic_expr.specs.declared.failures.Failure.{Failure}
 use Rattle.basic_expr.specs.declared.failures.Failure.TheVariants as failure
@@ -41,10 +41,6 @@ none_at_end ws from e = rw e tt
 
 key_kind : (k : Keyword) (o : Option Kind) → o ≡ kind_of k → MatchOption o (key_modifier k ≡ None) (λ m. k ≡ key_as m)
 key_kind keyword.If o e = rw e refl
-key_kind keyword.Unless o e = rw e refl
-key_kind keyword.While o e = rw e refl
-key_kind keyword.Until o e = rw e refl
-key_kind keyword.For o e = rw e refl
 key_kind k o e = rw e refl
 
 pub modifier_there : (ws : List Word) (from : ℕ) (t : Word) (o : Option Kind) → from < length ws → drop from ws ≡ t ∷ drop (from + 1) ws → o ≡ kind_in t → MatchOption o (NoModifier (drop from ws)) (λ m. WordStands ws (Key (key_as m)) from)
@@ -59,10 +55,7 @@ pub ruleset modifier_places = (none_at_end, modifier_there)
 
 known : (m : Kind) → modifier_of (Key (key_as m)) ≡ Some (TakeKey true (key_as m) (modifier_form m))
 known kind.If = refl
-known kind.Unless = refl
-known kind.While = refl
-known kind.Until = refl
-known kind.For = refl
+known m = refl
 
 -- the word of a modifier opens a level that ends with the statement
 opened : (n : ℕ) (ws : List Word) (m : Kind) (k : List Symbol) (vs : Values) → run (suc n) (Key (key_as m) ∷ ws) (Modifiers ∷ k) vs ≡ run n ws (Go (modifier_form m) ∷ Do Modify ∷ Modifiers ∷ Close ∷ k) vs
@@ -86,7 +79,7 @@ at_level n ws from m h at k vs =
     let e : n ≡ suc (n - 1) = omega arith in
     ap (λ (x : ℕ). run x (drop from ws) (Modifiers ∷ k) vs) e ∙ rw at.1 (opened (n - 1) (drop (from + 1) ws) m k vs)
 
--- one modifier stands there, and others behind it
+-- one modifier is there, and others after it
 pub modified_on : (n : ℕ) (ws : List Word) (from behind end : ℕ) (m : Kind) (s t : StatementTree) (x : ModifierTree) → 0 < n → WordStands ws (Key (key_as m)) from → Makes (n - 1) ws (from + 1) behind (modifier_form m) (Modifying x) → Modifies (n - 1) ws behind end (Modified s x) t → Modifies n ws from end s t
 modified_on n ws from behind end m s t x h at body more =
     let e : suc (n - 1) ≡ n = omega arith in
@@ -98,7 +91,7 @@ modified_on n ws from behind end m s t x h at body more =
     ∙ run_close (n - 1) (drop end ws) k (Stated t ∷ vs)
     ∙ ap (λ (y : ℕ). run y (drop end ws) k (Stated t ∷ vs)) e
 
--- it stops in the modifier, or behind it
+-- it stops in the modifier, or after it
 pub modifier_stops : (n : ℕ) (ws : List Word) (from : ℕ) (m : Kind) (s : StatementTree) (e : Failure) → 0 < n → WordStands ws (Key (key_as m)) from → Halts (n - 1) ws (from + 1) (modifier_form m) e → StopsModifying n ws from s e
 modifier_stops n ws from m s e h at body = λ halt same k vs. at_level n ws from m h at k (Stated s ∷ vs) ∙ body halt same (Do Modify ∷ Modifiers ∷ Close ∷ k) (Stated s ∷ vs)
 
@@ -110,7 +103,7 @@ modifiers_stop n ws from behind m s x e h at body more =
     ∙ run_do (n - 1) Modify (drop behind ws) (Modifiers ∷ Close ∷ k) (Modifying x ∷ Stated s ∷ vs)
     ∙ more halt same (Close ∷ k) vs
 
--- the statement with the modifiers behind this one
+-- the statement with the modifiers after this one
 pub all_modified : (n : ℕ) (ws : List Word) (from behind : ℕ) (m : Kind) (s u : StatementTree) (x : ModifierTree) (r : Result (Read Statement) Failure) → 0 < n → from ≤ behind → WordStands ws (Key (key_as m)) from → Makes (n - 1) ws (from + 1) behind (modifier_form m) (Modifying x) → u ≡ Modified s x → ModifiesAll (n - 1) ws behind u r → ModifiesAll n ws from s r
 all_modified n ws from behind m s u x (Ok y) h le at body e more = (
   (omega (arith, more.0.0), more.0.1),

@@ -1,4 +1,5 @@
--- What the functions of modifiers give: symbols of the machine, whatever is expected behind them.
+-- What the functions of modifiers return, in terms of symbols of the machine, whatever is expected
+-- after these.
 use Rattle.std.specs.Prelude.{◌≡◌, ℕ, false, List, [], ◌∷◌, drop, Option, Some, None, Result, Ok, Err}
 use Rattle.basic_expr.specs.declared.failures.Failure.{Failure}
 use Rattle.basic_tree.specs.declared.statements.Statement.{Statement}
@@ -35,17 +36,17 @@ kind_of keyword.Until = Some kind.Until
 kind_of keyword.For = Some kind.For
 kind_of other = None
 
--- which modifier a word begins
+-- which modifier begins with a word
 abbrev pub kind_in : Word → Option Kind
 kind_in (Key k) = kind_of k
 kind_in other = None
 
--- the first word, if any, begins no modifier
+-- no modifier begins with the first word, if there is one
 abbrev pub NoModifier : List Word → Type 0
 NoModifier [] = Unit {0}
 NoModifier (t ∷ ts) = modifier_of t ≡ None
 
--- behind the word of a modifier
+-- after the word of a modifier
 abbrev pub modifier_form : Kind → Form
 modifier_form kind.If = ExprOf want.Number (λ t. Made (Modifying (If t)))
 modifier_form kind.Unless = ExprOf want.Number (λ t. Made (Modifying (Unless t)))
@@ -60,12 +61,12 @@ Modifies n ws from end s t = (k : List Symbol) (vs : Values) → run n (drop fro
 abbrev pub StopsModifying : ℕ → List Word → ℕ → StatementTree → Failure → Type 0
 StopsModifying n ws from s e = (halt : Halt) → halt_at ws e ≡ Some halt → (k : List Symbol) (vs : Values) → run n (drop from ws) (Modifiers ∷ k) (Stated s ∷ vs) ≡ Err halt
 
--- what stands behind the word of a modifier
+-- what follows the word of a modifier
 abbrev pub MakesModifier : ℕ → List Word → ℕ → Kind → Result (Read Modifier) Failure → Type 0
 MakesModifier n ws from m (Ok x) = Behind ws from x.end × Makes n ws from x.end (modifier_form m) (Modifying (views.modifier_of x.value))
 MakesModifier n ws from m (Err e) = IsPlaced ws e × Halts n ws from (modifier_form m) e
 
--- a statement with all the modifiers behind it, to which no ELSE belongs
+-- a statement with all the modifiers after it, to which no ELSE belongs
 abbrev pub ModifiesAll : ℕ → List Word → ℕ → StatementTree → Result (Read Statement) Failure → Type 0
 ModifiesAll n ws from s (Ok x) = From ws from x.end × Modifies n ws from x.end s (statement_of x.value) × (wants_else s ≡ false → wants_else (statement_of x.value) ≡ false)
 ModifiesAll n ws from s (Err e) = IsPlaced ws e × StopsModifying n ws from s e

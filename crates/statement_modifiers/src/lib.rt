@@ -1,8 +1,8 @@
-//! The modifiers behind a statement: IF, UNLESS, WHILE, UNTIL and FOR.
+//! Reads the modifiers after a statement: IF, UNLESS, WHILE, UNTIL and FOR.
 //!
-//! It stands on `statement_parts`, whose calls read their conditions and ranges. `modifiers` carries
-//! the promise: the statement that it was given, with all the modifiers that the words spell behind
-//! it, or where the machine stops in them.
+//! The crate builds on `statement_parts`, which reads the conditions and ranges. `modifiers`
+//! promises the given statement with all the modifiers that the words after it spell, or the place
+//! in them where the machine stops.
 #![tactic(auto)]
 
 mod modifier_list;

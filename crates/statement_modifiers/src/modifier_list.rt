@@ -1,4 +1,4 @@
-//! Modifiers, behind the statements that they change.
+//! Modifiers, which follow the statements that they change.
 
 ghost use Rattle.std.specs.Prelude.{◌≡◌, ◌≤◌, length, drop, IfOk, IfErr, MatchOption};
 ghost use Rattle.basic_expr.specs.ParsedSymbols.{WordStands};
@@ -9,14 +9,15 @@ ghost use Rattle.basic_tree.specs.TreeViews.{modifier_of};
 ghost use Rattle.basic_tree.specs.StatementViews.{statement_of};
 ghost use Rattle.basic_expr.specs.declared.failures.Failure.TheVariants.{NoMemory};
 ghost use Rattle.statement_modifiers.specs.declared.modifier_list.Modifying.TheVariants.{For};
-ghost use Rattle.statement_modifiers.specs.ModifierForms.{MakesModifier, ModifiesAll, NoModifier, key_as, kind_in, kind_of};
+ghost use Rattle.statement_modifiers.specs.ModifierForms.{MakesModifier, ModifiesAll, NoModifier};
+ghost use Rattle.statement_modifiers.specs.ModifierForms.{key_as, kind_in, kind_of};
 
 use basic_expr::{Failure, Word, Words};
 use basic_tree::{Keyword, Modifier, Statement, Want};
 use statement_parts::{Read, expression, range};
 use std::alloc::Global;
 
-/// Which modifier a word begins.
+/// Which modifier begins with a word.
 #[derive(Clone, Copy, PartialEq, Eq)]
 pub(crate) enum Modifying {
     If,
@@ -26,7 +27,7 @@ pub(crate) enum Modifying {
     For,
 }
 
-/// The modifier that a keyword begins.
+/// Returns the modifier that begins with this keyword, if there is one.
 fn key_kind(key: Keyword) -> Option<Modifying>
     ensures { result ≡ kind_of key }
 {
@@ -40,7 +41,7 @@ fn key_kind(key: Keyword) -> Option<Modifying>
     }
 }
 
-/// The modifier that a word begins.
+/// Returns the modifier that begins with this word, if there is one.
 fn word_kind(word: Word<'_>) -> Option<Modifying>
     ensures { result ≡ kind_in (as_word word.entry) }
 {
@@ -50,7 +51,7 @@ fn word_kind(word: Word<'_>) -> Option<Modifying>
     }
 }
 
-/// The modifier that begins at a place, if one does.
+/// Returns the modifier that begins at a place, if there is one.
 #[tactic(auto, using(crate::proofs::ModifierSteps::modifier_places))]
 fn next_modifier(words: &Words<'_>, from: usize) -> Option<Modifying>
     requires { from ≤ length words.now }
@@ -64,7 +65,7 @@ fn next_modifier(words: &Words<'_>, from: usize) -> Option<Modifying>
     }
 }
 
-/// What stands behind FOR, and the place behind it.
+/// Reads what follows FOR.
 #[tactic(auto, using(crate::proofs::ModifierSteps::bodies))]
 fn loop_body(
     alloc: Global,
@@ -85,7 +86,7 @@ fn loop_body(
     Ok(Read { value, end })
 }
 
-/// What stands behind the word of a modifier, and the place behind it.
+/// Reads what follows the word of a modifier.
 #[tactic(auto, using(crate::proofs::ModifierSteps::bodies))]
 fn modifier_body(
     alloc: Global,
@@ -133,13 +134,13 @@ fn modifier_body(
     }
 }
 
-/// A statement with one modifier more.
+/// Returns the statement with one more modifier.
 fn modified(alloc: Global, statement: Statement, modifier: Modifier) -> Result<Statement, Failure>
     ensures statement { IfOk result
         (λ s. statement_of s ≡ Modified (statement_of statement) (modifier_of modifier)) }
     ensures lost { IfErr result (λ e. e ≡ NoMemory) }
 {
-    // Not by `?`, whose calls are a third of what this function's proof takes.
+    // Not by `?`, whose calls take a third of the time of this function's proof.
     match Box::new(alloc, statement) {
         Ok(statement) => Ok(Statement::Modified {
             statement,
@@ -149,8 +150,8 @@ fn modified(alloc: Global, statement: Statement, modifier: Modifier) -> Result<S
     }
 }
 
-/// A statement with the modifiers behind it, and the place behind them. Each opens a level that
-/// lasts to the statement's end.
+/// Reads the modifiers after a statement, and returns the statement with them. Each opens a level
+/// of nesting that lasts to the statement's end.
 #[tactic(auto, using(crate::proofs::ModifierSteps::modifying))]
 pub fn modifiers(
     alloc: Global,

@@ -5,10 +5,10 @@ use Rattle.basic_tree.specs.Trees.{Tree}
 use Rattle.grammar_machine.specs.MachineStack.{Form, ExprOf}
 use Rattle.grammar_machine.specs.MachineForms.{cluster_form, mode_form}
 
--- behind RECORDSIZE
+-- after RECORDSIZE
 abbrev pub recorded_form : (Option Tree → Option Tree → Option Tree → Form) → Form
 recorded_form g = ExprOf want.Number (λ n. cluster_form (g (Some n)))
 
--- behind CLUSTERSIZE, where no RECORDSIZE stands before it
+-- after CLUSTERSIZE, if there is no RECORDSIZE before it
 abbrev pub clustered_form : (Option Tree → Option Tree → Option Tree → Form) → Form
 clustered_form g = ExprOf want.Number (λ n. mode_form (g None (Some n)))

@@ -1,7 +1,7 @@
-//! The operands of statements that are no list: the options of OPEN, and what MAT makes of arrays.
+//! Reads the operands of statements that are not lists: the options of OPEN, and what MAT computes.
 //!
-//! It stands on `statement_parts`, whose calls read the pieces. Each function promises the grammar's
-//! form of what it reads: `options`, `option` and `operands` carry it.
+//! The crate builds on `statement_parts`, which reads the single words and expressions. `options`,
+//! `option` and `operands` promise the grammar's form of what they read.
 #![tactic(auto)]
 
 mod matrix_operands;

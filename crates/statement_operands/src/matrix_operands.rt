@@ -1,9 +1,10 @@
-//! What MAT makes of other arrays, by their names.
+//! What MAT computes from other arrays, by their names.
 
 ghost use Rattle.std.specs.Prelude.{◌+◌, ◌-◌, ◌<◌, ◌≤◌, length};
 ghost use Rattle.basic_tree.specs.TreeViews.{matrix_of};
 ghost use Rattle.statement_parts.specs.ParsedForms.{FlatPartsFrom, Parts};
-ghost use Rattle.statement_operands.specs.Matrices.{operands_form, pair_form, scaled_form, transposed_form};
+ghost use Rattle.statement_operands.specs.Matrices.{operands_form, pair_form, scaled_form};
+ghost use Rattle.statement_operands.specs.Matrices.{transposed_form};
 
 use basic_expr::{Failure, Words};
 use basic_tree::{Keyword, MatrixValue, Name, Sign, Want};
@@ -12,7 +13,7 @@ use statement_parts::{
 };
 use std::alloc::Global;
 
-/// Behind TRN an array in parentheses, and the place behind them.
+/// Reads, after TRN, an array in parentheses.
 #[tactic(auto)]
 fn transposed(words: &Words<'_>, from: usize, levels: usize) -> Result<Read<MatrixValue>, Failure>
     requires { from ≤ length words.now }
@@ -30,7 +31,7 @@ fn transposed(words: &Words<'_>, from: usize, levels: usize) -> Result<Read<Matr
     })
 }
 
-/// A number in parentheses, `*` and an array, and the place behind it.
+/// Reads a number in parentheses, `*` and an array.
 #[tactic(auto)]
 fn scaled(
     alloc: Global,
@@ -55,7 +56,7 @@ fn scaled(
     })
 }
 
-/// Behind a first array a sign and a second one, or nothing; and the place behind them.
+/// Reads, after a first array, a sign and a second array, or nothing.
 #[tactic(auto)]
 fn pair(words: &Words<'_>, from: usize, first: Name) -> Result<Read<MatrixValue>, Failure>
     requires { from ≤ length words.now }
@@ -88,7 +89,7 @@ fn pair(words: &Words<'_>, from: usize, first: Name) -> Result<Read<MatrixValue>
     })
 }
 
-/// What is made of other arrays, and the place behind it.
+/// Reads what is computed from other arrays.
 #[tactic(auto)]
 pub fn operands(
     alloc: Global,

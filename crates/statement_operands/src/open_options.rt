@@ -19,7 +19,7 @@ pub struct OpenOptions {
     pub mode: Option<Expr>,
 }
 
-/// A comma, a word and a number, where a comma stands there; and the place behind them.
+/// Reads a comma, a word and a number, if there is a comma.
 #[tactic(auto, using(statement_parts::proofs::Steps::leading))]
 pub fn option(
     alloc: Global,
@@ -46,7 +46,7 @@ pub fn option(
     })
 }
 
-/// CLUSTERSIZE and MODE, as far as they stand there.
+/// Reads CLUSTERSIZE and MODE, as far as they are there.
 #[tactic(auto, using(statement_parts::proofs::Steps::leading))]
 fn cluster_and_mode(
     alloc: Global,
@@ -84,7 +84,7 @@ fn cluster_and_mode(
     })
 }
 
-/// The number of a RECORDSIZE, and what stands behind it of CLUSTERSIZE and MODE.
+/// Reads the number of a RECORDSIZE, and the CLUSTERSIZE and MODE that follow it.
 #[tactic(auto, using(statement_parts::proofs::Steps::leading))]
 fn recorded(
     alloc: Global,
@@ -115,7 +115,7 @@ fn recorded(
     })
 }
 
-/// The number of a CLUSTERSIZE, and what stands behind it of MODE.
+/// Reads the number of a CLUSTERSIZE, and the MODE that follows it.
 #[tactic(auto, using(statement_parts::proofs::Steps::leading))]
 fn clustered(
     alloc: Global,
@@ -143,7 +143,7 @@ fn clustered(
     })
 }
 
-/// The options of OPEN, as far as they stand there.
+/// Reads the options of OPEN, as far as they are there.
 #[tactic(auto, using(statement_parts::proofs::Steps::leading))]
 pub fn options(
     alloc: Global,

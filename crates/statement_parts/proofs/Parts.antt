@@ -1,4 +1,4 @@
--- Steps of the machine at names, literals, texts and items.
+-- Steps of the machine at names, literals, quoted strings and items.
 use Rattle.std.proofs.Common.{◌≡◌, ℕ, zero, suc, true, false, ◌+◌, ◌-◌, ◌<◌, ◌≤◌, List, [], ◌∷◌, ◌++◌, length, drop, Option, Some, None, Err, refl, ap, sym, ◌∙◌, subst, arith}
 use Rattle.basic_expr.specs.declared.failures.Failure.TheVariants as failure
 use Rattle.basic_expr.specs.ParsedSymbols.{First, WordStands, is_sign}
@@ -16,15 +16,15 @@ use Rattle.statement_parts.specs.ParsedForms.{Leads, Halts, named, fn_named, num
 pub some_halt : {x y : Halt} → Some x ≡ Some y → x ≡ y
 some_halt e = cc
 
--- where memory ran out nothing is said of the machine
+-- if memory ran out, nothing is said of the machine
 pub no_memory_halts : (n : ℕ) (ws : List Word) (from : ℕ) (f : Form) → Halts n ws from f failure.NoMemory
 no_memory_halts n ws from f = λ halt e. absurd cc
 
--- a word that is refused
+-- a word that is rejected
 wrong_halts : (n : ℕ) (ws : List Word) (from : ℕ) (f : Form) → ((k : List Symbol) (vs : Values) → run n (drop from ws) (Go f ∷ k) vs ≡ Err (Wrong (drop from ws))) → Halts n ws from f (failure.Wrong from)
 wrong_halts n ws from f h = λ halt e k vs. h k vs ∙ ap (λ (x : Halt). Err x) (some_halt e)
 
--- ---- what stands at a place
+-- ---- what is at a place
 
 pub name_there : (ws : List Word) (from : ℕ) (t : Word) (o : Option Name) → from < length ws → drop from ws ≡ t ∷ drop (from + 1) ws → o ≡ named t → NameAt ws from o
 name_there ws from t o lt e is = subst (λ x. NameAt ws from x) (sym is) (go t e) where
@@ -119,7 +119,7 @@ if_literal_missing ws from limit h = λ n g f k vs. go n g f (drop from ws) k vs
 
 pub ruleset literals = (literal_stands, literal_unfit, literal_missing, if_literal_stands, if_literal_unfit, if_literal_missing)
 
--- ---- texts in quotes
+-- ---- quoted strings
 
 pub if_quoted_stands : (ws : List Word) (from : ℕ) (text : List ℕ) → from < length ws → drop from ws ≡ Quotation text ∷ drop (from + 1) ws → IfQuoted ws from (Some text)
 if_quoted_stands ws from text lt e = (lt, λ n g f k vs. rw e (quoted_if n g f text (drop (from + 1) ws) k vs))

@@ -39,7 +39,7 @@ sign_stands_not ws from s h = λ n opens f g k vs. go (drop from ws) n opens f g
   go (Punctuation l ∷ ws) n opens f g k vs h = rw h refl
   go (t ∷ ws) n opens f g k vs h = refl
 
--- where another word stands, the machine stops there
+-- if another word is there, the machine stops there
 pub key_missing : (ws : List Word) (from : ℕ) (key : Keyword) → First (is_key key) (drop from ws) → (n : ℕ) (f : Form) → Halts n ws from (TakeKey false key f) (failure.Wrong from)
 unfolding run
 key_missing ws from key h = λ n f halt e k vs. go (drop from ws) n f k vs h ∙ ap (λ (x : Halt). Err x) (some_same e) where
@@ -88,16 +88,16 @@ pub ruleset leading = (run_made)
 
 -- ---- results
 
--- where the result is a failure
+-- if the result is a failure
 pub on_err : {A : Type 0} (P : Result A Failure → Type 0) (r : Result A Failure) (e : Failure) → r ≡ Err e → P (Err e) → P r
 on_err P r e same p = subst P (sym same) p
 
--- what stands further on, behind what leads there
+-- what is read further on, after what leads there
 pub states_on : (n : ℕ) (ws : List Word) (from at : ℕ) (f g : Form) (r : Result (Read Statement) Failure) → from ≤ at → Leads n n ws from at f g → States n ws at g r → States n ws from f r
 states_on n ws from at f g (Ok x) le h s = ((omega (arith, s.0.0), s.0.1), λ k vs. h k vs ∙ s.1 k vs)
 states_on n ws from at f g (Err e) le h s = (s.0, λ halt is k vs. h k vs ∙ s.1 halt is k vs)
 
--- the same, where no word may be left
+-- the same, if it may be empty
 pub states_on_from : (n : ℕ) (ws : List Word) (from at : ℕ) (f g : Form) (r : Result (Read Statement) Failure) → from < at → Leads n n ws from at f g → StatesFrom n ws at g r → States n ws from f r
 states_on_from n ws from at f g (Ok x) lt h s = ((omega (arith, s.0.0), s.0.1), λ k vs. h k vs ∙ s.1 k vs)
 states_on_from n ws from at f g (Err e) lt h s = (s.0, λ halt is k vs. h k vs ∙ s.1 halt is k vs)

@@ -1,4 +1,4 @@
--- What stands behind a name is a target.
+-- What follows a name is read as a target.
 use Rattle.std.proofs.Common.{◌≡◌, ℕ, true, false, ◌+◌, ◌≤◌, List, [], ◌∷◌, ◌++◌, drop, None, Ok, Err, refl, ap, sym, ◌∙◌, subst}
 use Rattle.basic_expr.specs.declared.failures.Failure.{Failure}
 use Rattle.basic_expr.specs.declared.failures.Failure.TheVariants as failure
@@ -6,7 +6,7 @@ use Rattle.basic_expr.specs.ParsedSymbols.{First, RefusesAt, WordStands}
 use Rattle.basic_tree.specs.declared.kinds.Want.{Want}
 use Rattle.basic_tree.specs.declared.names.Name.{Name}
 use Rattle.basic_tree.specs.SpellingWords.{Word, Named}
-use Rattle.basic_tree.specs.SpellingParts.{is_target}
+use Rattle.basic_tree.specs.SpellingPieces.{is_target}
 use Rattle.basic_tree.specs.Trees.{Tree}
 use Rattle.basic_tree.specs.GrammarPlaces.{between}
 use Rattle.grammar_machine.specs.MachineStarts.{takes}
@@ -25,7 +25,7 @@ unfolding run
 at_end n [] vs = refl
 at_end n (t ∷ ws) vs = refl
 
--- what was read behind a name is a variable or an element
+-- what was read after a name is a variable or an array element
 pub subscripts_target : (n : ℕ) (ws : List Word) (name : Name) (from end : ℕ) (t : Tree) → from ≤ end → ((k : List Symbol) (vs : Values) → run n (drop from ws) (Subscripts name ∷ k) vs ≡ run n (drop end ws) k (Term t ∷ vs)) → is_target t ≡ true
 subscripts_target n ws name from end t le h =
     let whole : run n (between ws from end ++ drop end ws) (Subscripts name ∷ []) [] ≡ Ok (Term t ∷ [], drop end ws) =

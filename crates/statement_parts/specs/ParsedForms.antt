@@ -1,4 +1,5 @@
--- What the functions of the parser give: a form of the machine each, whatever is expected behind it.
+-- What the functions of the parser return, in terms of forms of the machine, whatever is expected
+-- after them.
 use Rattle.std.specs.Prelude.{◌≡◌, ℕ, Bool, true, false, ◌+◌, ◌-◌, ◌<◌, ◌≤◌, List, [], ◌∷◌, ◌++◌, length, drop, Option, Some, None, Result, Ok, Err}
 use Rattle.basic_expr.specs.declared.failures.Failure.{Failure}
 use Rattle.basic_expr.specs.declared.failures.Failure.TheVariants as failure
@@ -19,27 +20,27 @@ use Rattle.statement_parts.specs.declared.read.Read.{Read}
 use Rattle.statement_parts.specs.declared.literals.Literal.{Literal}
 use Rattle.statement_parts.specs.declared.literals.Literal.TheVariants as literal
 
--- where the machine stops at a failure; nothing is said where memory ran out
+-- where the machine stops at a failure; nothing is said if memory ran out
 abbrev pub halt_at : List Word → Failure → Option Halt
 halt_at ws failure.NoMemory = None
 halt_at ws (failure.Wrong place) = Some (Wrong (drop place ws))
 halt_at ws (failure.TooDeep place) = Some (TooDeep (drop place ws))
 
--- the place of a failure lies in the words, or at their end
+-- the place of a failure is one of the words, or their end
 abbrev pub IsPlaced : List Word → Failure → Type 0
 IsPlaced ws failure.NoMemory = Unit {0}
 IsPlaced ws (failure.Wrong place) = place ≤ length ws
 IsPlaced ws (failure.TooDeep place) = place < length ws
 
--- an end behind a place
+-- an end after a place
 abbrev pub Behind : List Word → ℕ → ℕ → Type 0
 Behind ws from end = (from < end) × (end ≤ length ws)
 
--- an end at a place or behind it
+-- an end at a place or after it
 abbrev pub From : List Word → ℕ → ℕ → Type 0
 From ws from end = (from ≤ end) × (end ≤ length ws)
 
--- the words up to the end lead from a form to another, and from so many levels to so many
+-- the words up to the end lead from one form to another, and from this many levels to that many
 abbrev pub Leads : ℕ → ℕ → List Word → ℕ → ℕ → Form → Form → Type 0
 Leads n m ws from end f g = (k : List Symbol) (vs : Values) → run n (drop from ws) (Go f ∷ k) vs ≡ run m (drop end ws) (Go g ∷ k) vs
 
@@ -51,7 +52,7 @@ Makes n ws from end f v = (k : List Symbol) (vs : Values) → run n (drop from w
 abbrev pub Halts : ℕ → List Word → ℕ → Form → Failure → Type 0
 Halts n ws from f e = (halt : Halt) → halt_at ws e ≡ Some halt → (k : List Symbol) (vs : Values) → run n (drop from ws) (Go f ∷ k) vs ≡ Err halt
 
--- a word stands there: both the form that takes it and the one that asks for it go on behind it
+-- the word is there, and both the form that takes it and the one that asks for it continue after it
 abbrev pub TakesKeyword : List Word → ℕ → Keyword → Type 0
 TakesKeyword ws from key = (from < length ws) × ((n : ℕ) (f h : Form) → Leads n n ws from (from + 1) (IfKey false key f h) f) × ((n : ℕ) (f : Form) → Leads n n ws from (from + 1) (TakeKey false key f) f)
 
@@ -118,12 +119,12 @@ abbrev pub NumberAt : List Word → ℕ → Option ℕ → Type 0
 NumberAt ws from (Some n) = WordStands ws (Number n) from
 NumberAt ws from None = First is_number (drop from ws)
 
--- a literal that may stand at a place, or none
+-- an allowed literal at a place, or none
 abbrev pub IfLiteral : Limit → List Word → ℕ → Option ℕ → Type 0
 IfLiteral limit ws from (Some c) = (from < length ws) × ((n : ℕ) (g : ℕ → Form) (h : Form) → Leads n n ws from (from + 1) (LiteralIf limit g h) (g c))
 IfLiteral limit ws from None = (n : ℕ) (g : ℕ → Form) (h : Form) → Leads n n ws from from (LiteralIf limit g h) h
 
--- a text in quotes at a place, or none
+-- a quoted string at a place, or none
 abbrev pub IfQuoted : List Word → ℕ → Option (List ℕ) → Type 0
 IfQuoted ws from (Some text) = (from < length ws) × ((n : ℕ) (g : List ℕ → Form) (h : Form) → Leads n n ws from (from + 1) (QuotedIf g h) (g text))
 IfQuoted ws from None = (n : ℕ) (g : List ℕ → Form) (h : Form) → Leads n n ws from from (QuotedIf g h) h
@@ -138,13 +139,13 @@ abbrev pub IfOpens : ℕ → List Word → ℕ → Bool → Type 0
 IfOpens n ws from true = (0 < n) × (from < length ws) × ((f h : Form) → Leads n (n - 1) ws from (from + 1) (IfSign true sign.Opening f h) f)
 IfOpens n ws from false = (f h : Form) → Leads n n ws from from (IfSign true sign.Opening f h) h
 
--- an opening parenthesis: the form that asks for it is the one that takes it
+-- an opening parenthesis: the form that asks for it does the same as the one that takes it
 abbrev pub OpensThere : List Word → ℕ → Type 0
 OpensThere ws from = (n : ℕ) (f h : Form) → Leads n n ws from from (IfSign true sign.Opening f h) (TakeSign true sign.Opening f)
 
 -- ---- lists
 
--- behind a comma one more element of a list stands, where there is room for it
+-- after a comma there is one more element of a list, if the list has room for it
 abbrev pub AddsOne : List Word → ℕ → Bool → Type 0
 AddsOne ws from room = (from < length ws) × ((n : ℕ) (s : Sequence) (items : List Item) (g : List Item → Form) → has_room s items ≡ room → Leads n n ws from (from + 1) (MoreOf s items g) (item_form s (λ item. MoreOf s (items ++ item ∷ []) g)))
 
@@ -152,7 +153,7 @@ AddsOne ws from room = (from < length ws) × ((n : ℕ) (s : Sequence) (items : 
 abbrev pub AddsNone : List Word → ℕ → Bool → Type 0
 AddsNone ws from room = (n : ℕ) (s : Sequence) (items : List Item) (g : List Item → Form) → has_room s items ≡ room → Leads n n ws from from (MoreOf s items g) (g items)
 
--- behind the first element of a list these were read, and more may follow
+-- after the first element of a list these were read, and more may follow
 pub record Lists (n : ℕ) (ws : List Word) (s : Sequence) (from : ℕ) (first : Item) (items : List Item) (end : ℕ) : Type 0 where
   pub runs : (g : List Item → Form) → Leads n n ws from end (MoreOf s (first ∷ []) g) (MoreOf s items g)
   pub after : from ≤ end
@@ -164,34 +165,34 @@ pub record Itemized (ws : List Word) (from : ℕ) (items : List (List ℕ)) (end
   pub after : from < end
   pub within : end ≤ length ws
 
--- ---- statements, and parts with any form behind them: what was read, or where the machine stops
+-- ---- statements, and parts with any form after them: what was read, or where the machine stops
 
 -- a statement of this form
 abbrev pub States : ℕ → List Word → ℕ → Form → Result (Read Statement) Failure → Type 0
 States n ws from f (Ok x) = Behind ws from x.end × Makes n ws from x.end f (Stated (statement_of x.value))
 States n ws from f (Err e) = IsPlaced ws e × Halts n ws from f e
 
--- the rest of a statement, where no word may be left of it
+-- the rest of a statement, which may be empty
 abbrev pub StatesFrom : ℕ → List Word → ℕ → Form → Result (Read Statement) Failure → Type 0
 StatesFrom n ws from f (Ok x) = From ws from x.end × Makes n ws from x.end f (Stated (statement_of x.value))
 StatesFrom n ws from f (Err e) = IsPlaced ws e × Halts n ws from f e
 
--- a part, behind which stands what is made of its value
+-- a part, which is followed by what is made of its value
 abbrev pub Parts : {A G : Type 0} → ℕ → List Word → ℕ → (G → Form) → (A → G → Form) → Result (Read A) Failure → Type 0
 Parts n ws from part behind (Ok x) = Behind ws from x.end × ((g : _) → Leads n n ws from x.end (part g) (behind x.value g))
 Parts n ws from part behind (Err e) = IsPlaced ws e × ((g : _) → Halts n ws from (part g) e)
 
--- a part that may be without words
+-- a part that may be empty
 abbrev pub PartsFrom : {A G : Type 0} → ℕ → List Word → ℕ → (G → Form) → (A → G → Form) → Result (Read A) Failure → Type 0
 PartsFrom n ws from part behind (Ok x) = From ws from x.end × ((g : _) → Leads n n ws from x.end (part g) (behind x.value g))
 PartsFrom n ws from part behind (Err e) = IsPlaced ws e × ((g : _) → Halts n ws from (part g) e)
 
--- a part that opens no level, with any levels left
+-- a part that opens no level, with any number of levels left
 abbrev pub FlatParts : {A G : Type 0} → List Word → ℕ → (G → Form) → (A → G → Form) → Result (Read A) Failure → Type 0
 FlatParts ws from part behind (Ok x) = Behind ws from x.end × ((n : ℕ) (g : _) → Leads n n ws from x.end (part g) (behind x.value g))
 FlatParts ws from part behind (Err e) = IsPlaced ws e × ((n : ℕ) (g : _) → Halts n ws from (part g) e)
 
--- the same, where it may be without words
+-- the same, if it may be empty
 abbrev pub FlatPartsFrom : {A G : Type 0} → List Word → ℕ → (G → Form) → (A → G → Form) → Result (Read A) Failure → Type 0
 FlatPartsFrom ws from part behind (Ok x) = From ws from x.end × ((n : ℕ) (g : _) → Leads n n ws from x.end (part g) (behind x.value g))
 FlatPartsFrom ws from part behind (Err e) = IsPlaced ws e × ((n : ℕ) (g : _) → Halts n ws from (part g) e)
@@ -208,7 +209,7 @@ abbrev pub TakesOpening : ℕ → List Word → ℕ → Result ℕ Failure → T
 TakesOpening n ws from (Ok end) = Behind ws from end × (0 < n) × ((f : Form) → Leads n (n - 1) ws from end (TakeSign true sign.Opening f) f)
 TakesOpening n ws from (Err e) = IsPlaced ws e × ((f : Form) → Halts n ws from (TakeSign true sign.Opening f) e)
 
--- the same, where one may stand
+-- the same, if it is optional
 abbrev pub MayOpen : ℕ → List Word → ℕ → Result Bool Failure → Type 0
 MayOpen n ws from (Ok stands) = IfOpens n ws from stands
 MayOpen n ws from (Err e) = IsPlaced ws e × ((f h : Form) → Halts n ws from (IfSign true sign.Opening f h) e)

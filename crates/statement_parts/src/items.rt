@@ -11,7 +11,7 @@ use basic_tree::Series;
 use basic_values::{NoMemory, Text};
 use std::alloc::Global;
 
-/// The item at a place, where one stands there.
+/// Returns the item at a place, if there is one.
 #[tactic(auto, using(crate::proofs::Parts::items))]
 fn next_item(alloc: Global, words: &Words<'_>, from: usize) -> Result<Option<Text>, NoMemory>
     requires { from ≤ length words.now }
@@ -30,7 +30,7 @@ fn next_item(alloc: Global, words: &Words<'_>, from: usize) -> Result<Option<Tex
     }
 }
 
-/// One or more items, and the place behind them.
+/// Reads one or more items, and returns them with the place after them.
 #[tactic(auto, using(crate::proofs::ItemSteps::itemizing))]
 pub fn all_items(
     alloc: Global,

@@ -1,10 +1,10 @@
-//! The parts of statements, each read at a place of the words of a line: words and signs,
-//! expressions, names, literals, targets, items of DATA, ranges.
+//! Reads the parts of statements at a place of a line's words: words and signs, expressions, names,
+//! literals, targets, items of DATA and ranges.
 //!
-//! It stands on `basic_expr`, whose expressions are parts too, and on `basic_tree`, whose machine
-//! its contracts speak of. Each promise is an equation: from the form of the part, whatever is
-//! expected behind it, the words up to the end lead to what is made of its value; or the machine
-//! stops at that word. `statement_lists` makes lists of them, and `statement_rows` whole statements.
+//! The expressions are those of `basic_expr`. Each contract is an equation about the stack machine
+//! of `grammar_machine`: from the form of the part, whatever is expected after it, the words up to
+//! the end lead to what is made of the value, or the machine stops at that word. `statement_lists`
+//! reads lists of parts, and `statement_rows` reads whole statements.
 #![tactic(auto)]
 
 mod items;

@@ -1,9 +1,11 @@
-//! Names, literals and texts that a statement expects.
+//! Names, literals and quoted strings that a statement expects.
 
 ghost use Rattle.std.specs.Prelude.{◌≡◌, ℕ, ◌+◌, ◌<◌, ◌≤◌, length, IfOk};
 ghost use Rattle.basic_expr.specs.Views.{as_word, most_words};
 ghost use Rattle.grammar_machine.specs.MachineStack.{NameIn, FnNameIn, LiteralIn, within};
-ghost use Rattle.statement_parts.specs.ParsedForms.{FnNameAt, IfLiteral, IfQuoted, NameAt, NumberAt, FlatParts, fn_named, limit_of, named, number};
+ghost use Rattle.statement_parts.specs.ParsedForms.{FnNameAt, IfLiteral, IfQuoted, NameAt};
+ghost use Rattle.statement_parts.specs.ParsedForms.{NumberAt, FlatParts, fn_named, limit_of, named};
+ghost use Rattle.statement_parts.specs.ParsedForms.{number};
 
 use crate::literals::Literal;
 use crate::read::Read;
@@ -39,7 +41,7 @@ fn number(word: Word<'_>) -> Option<u16>
     }
 }
 
-/// The name of a variable or an array at a place.
+/// Returns the name of a variable or an array at a place, if there is one.
 #[tactic(auto, using(crate::proofs::Parts::places))]
 pub fn next_name(words: &Words<'_>, from: usize) -> Option<Name>
     requires { from ≤ length words.now }
@@ -76,7 +78,7 @@ fn next_number(words: &Words<'_>, from: usize) -> Option<u16>
     }
 }
 
-/// Whether a literal may have this value.
+/// Returns whether a literal may have this value.
 fn within(limit: Literal, value: u16) -> bool
     ensures { result ≡ within (limit_of limit) value }
 {
@@ -87,7 +89,7 @@ fn within(limit: Literal, value: u16) -> bool
     }
 }
 
-/// The name of a variable or an array of the wanted kind, and the place behind it.
+/// Reads the name of a variable or an array of the wanted kind.
 #[tactic(auto, using(crate::proofs::Parts::names))]
 pub fn name(words: &Words<'_>, from: usize, want: Want) -> Result<Read<Name>, Failure>
     requires { from ≤ length words.now }
@@ -106,7 +108,7 @@ pub fn name(words: &Words<'_>, from: usize, want: Want) -> Result<Read<Name>, Fa
     }
 }
 
-/// The name of a function of the program, and the place behind it.
+/// Reads the name of a function of the program.
 #[tactic(auto, using(crate::proofs::Parts::names))]
 pub fn fn_name(words: &Words<'_>, from: usize) -> Result<Read<Name>, Failure>
     requires { from ≤ length words.now }
@@ -121,7 +123,7 @@ pub fn fn_name(words: &Words<'_>, from: usize) -> Result<Read<Name>, Failure>
     }
 }
 
-/// A literal, and the place behind it.
+/// Reads a literal.
 #[tactic(auto, using(crate::proofs::Parts::literals))]
 pub fn literal(words: &Words<'_>, from: usize, limit: Literal) -> Result<Read<u16>, Failure>
     requires { from ≤ length words.now }
@@ -140,7 +142,7 @@ pub fn literal(words: &Words<'_>, from: usize, limit: Literal) -> Result<Read<u1
     }
 }
 
-/// The literal at a place, where one may stand there.
+/// Returns the literal at a place, if one that is allowed there is there.
 #[tactic(auto, using(crate::proofs::Parts::literals))]
 pub fn if_literal(words: &Words<'_>, from: usize, limit: Literal) -> Option<u16>
     requires { from ≤ length words.now }
@@ -157,7 +159,7 @@ pub fn if_literal(words: &Words<'_>, from: usize, limit: Literal) -> Option<u16>
     }
 }
 
-/// The text in quotes at a place, where one stands there.
+/// Returns the quoted string at a place, if there is one.
 #[tactic(auto, using(crate::proofs::Parts::quotations))]
 pub fn if_quoted(alloc: Global, words: &Words<'_>, from: usize) -> Result<Option<Text>, NoMemory>
     requires { from ≤ length words.now }

@@ -13,7 +13,8 @@ use basic_expr::{Failure, Words};
 use basic_tree::{Expr, Keyword, Name, Sign, Want};
 use std::alloc::Global;
 
-/// The variable of a loop and the values that it takes: from a start to a limit, perhaps by a step.
+/// The variable of a loop and the values that it takes: from a start to a limit, with an optional
+/// step.
 #[derive(Drop)]
 pub struct LoopRange {
     pub variable: Name,
@@ -22,7 +23,7 @@ pub struct LoopRange {
     pub step: Option<Expr>,
 }
 
-/// STEP and a number, where STEP stands there; and the place behind them.
+/// Reads STEP and a number, if STEP is there.
 #[tactic(auto, using(crate::proofs::Steps::leading))]
 fn step(
     alloc: Global,
@@ -46,7 +47,7 @@ fn step(
     })
 }
 
-/// The variable of a loop and `=`, and the place behind them.
+/// Reads the variable of a loop and `=`.
 #[tactic(auto, using(crate::proofs::Steps::leading))]
 fn loop_variable(words: &Words<'_>, from: usize) -> Result<Read<Name>, Failure>
     requires { from ≤ length words.now }
@@ -63,14 +64,14 @@ fn loop_variable(words: &Words<'_>, from: usize) -> Result<Read<Name>, Failure>
     })
 }
 
-/// Where the values of a loop end, and perhaps their step.
+/// The limit of a loop, and its step if it has one.
 #[derive(Drop)]
 struct Limits {
     limit: Expr,
     step: Option<Expr>,
 }
 
-/// TO, the limit of a loop and perhaps its step; and the place behind them.
+/// Reads TO, the limit of a loop and its step, if it has one.
 #[tactic(auto, using(crate::proofs::Steps::leading))]
 fn limits_of(
     alloc: Global,
@@ -99,8 +100,9 @@ fn limits_of(
     }
 }
 
-/// A range, and the place behind it.
-// Trees are let go by `drop`: where a `?` does it, the proof goes through all forms of a tree.
+/// Reads a range.
+// Trees are dropped by `drop`: if a `?` dropped them, the proof would go through all forms of a
+// tree.
 #[tactic(auto, using(crate::proofs::Steps::leading))]
 pub fn range(
     alloc: Global,

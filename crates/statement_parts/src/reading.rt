@@ -5,24 +5,27 @@ ghost use Rattle.basic_expr.specs.Views.{most_words};
 ghost use Rattle.basic_tree.specs.TreeViews.{tree_of};
 ghost use Rattle.grammar_machine.specs.MachineStack.{ExprOf, TakeKey, TakeSign};
 ghost use Rattle.basic_tree.specs.declared.tokens.Sign.TheVariants.{Opening};
-ghost use Rattle.statement_parts.specs.ParsedForms.{MayOpen, OpensThere, Parts, SkipsKey, SkipsSign, TakesWord, TakesClosing, TakesKeyword, TakesOpening, TakesSign};
+ghost use Rattle.statement_parts.specs.ParsedForms.{MayOpen, OpensThere, Parts, SkipsKey};
+ghost use Rattle.statement_parts.specs.ParsedForms.{SkipsSign, TakesWord, TakesClosing};
+ghost use Rattle.statement_parts.specs.ParsedForms.{TakesKeyword, TakesOpening, TakesSign};
 
 use crate::read::Read;
 use basic_expr::{Failure, Words, expression_at, next_is_key, next_is_sign};
 use basic_tree::{Expr, Keyword, Sign, Want};
 use std::alloc::Global;
 
-/// Whether a word stands at a place.
+/// Returns whether a keyword is at a place.
 #[tactic(auto, using(crate::proofs::Steps::words_at))]
 pub fn if_key(words: &Words<'_>, from: usize, key: Keyword) -> bool
     requires { from ≤ length words.now }
-    ensures stands { MatchBool result (TakesKeyword words.now from key) (SkipsKey words.now from key) }
+    ensures stands { MatchBool result (TakesKeyword words.now from key)
+        (SkipsKey words.now from key) }
     ensures few { length words.now ≤ most_words }
 {
     next_is_key(words, from, key)
 }
 
-/// Whether a sign stands at a place.
+/// Returns whether a sign is at a place.
 #[tactic(auto, using(crate::proofs::Steps::words_at))]
 pub fn if_sign(words: &Words<'_>, from: usize, sign: Sign) -> bool
     requires { from ≤ length words.now }
@@ -33,7 +36,7 @@ pub fn if_sign(words: &Words<'_>, from: usize, sign: Sign) -> bool
     next_is_sign(words, from, sign)
 }
 
-/// The place behind a word.
+/// Returns the place after this keyword, which has to be there.
 #[tactic(auto, using(crate::proofs::Steps::words_at))]
 pub fn take_key(words: &Words<'_>, from: usize, key: Keyword) -> Result<usize, Failure>
     requires { from ≤ length words.now }
@@ -45,7 +48,7 @@ pub fn take_key(words: &Words<'_>, from: usize, key: Keyword) -> Result<usize, F
     Err(Failure::Wrong { place: from })
 }
 
-/// The place behind a sign.
+/// Returns the place after this sign, which has to be there.
 #[tactic(auto, using(crate::proofs::Steps::words_at))]
 pub fn take_sign(words: &Words<'_>, from: usize, sign: Sign) -> Result<usize, Failure>
     requires { from ≤ length words.now }
@@ -57,7 +60,7 @@ pub fn take_sign(words: &Words<'_>, from: usize, sign: Sign) -> Result<usize, Fa
     Err(Failure::Wrong { place: from })
 }
 
-/// An expression of the wanted kind, and the place behind it.
+/// Reads an expression of the wanted kind.
 #[tactic(auto, using(crate::proofs::Steps::expressions))]
 pub fn expression(
     alloc: Global,
@@ -76,7 +79,8 @@ pub fn expression(
     })
 }
 
-/// The place behind an opening parenthesis, which opens a level of nesting.
+/// Returns the place after an opening parenthesis, which has to be there and opens a level of
+/// nesting.
 #[tactic(auto, using(crate::proofs::Parts::openings))]
 pub fn opening(words: &Words<'_>, from: usize, levels: usize) -> Result<usize, Failure>
     requires { from ≤ length words.now }
@@ -91,7 +95,7 @@ pub fn opening(words: &Words<'_>, from: usize, levels: usize) -> Result<usize, F
     Err(Failure::Wrong { place: from })
 }
 
-/// Whether an opening parenthesis stands at a place, which opens a level of nesting.
+/// Returns whether an opening parenthesis is at a place; it opens a level of nesting.
 #[tactic(auto, using(crate::proofs::Parts::choices))]
 pub fn if_opening(words: &Words<'_>, from: usize, levels: usize) -> Result<bool, Failure>
     requires { from ≤ length words.now }
@@ -107,7 +111,7 @@ pub fn if_opening(words: &Words<'_>, from: usize, levels: usize) -> Result<bool,
     Ok(false)
 }
 
-/// Whether an opening parenthesis stands at a place. It is not taken, and opens no level yet.
+/// Returns whether an opening parenthesis is at a place. It is not taken, and opens no level yet.
 #[tactic(auto, using(crate::proofs::Steps::words_at, crate::proofs::Parts::awaited))]
 pub fn opens_there(words: &Words<'_>, from: usize) -> bool
     requires { from ≤ length words.now }
@@ -118,7 +122,7 @@ pub fn opens_there(words: &Words<'_>, from: usize) -> bool
     next_is_sign(words, from, Sign::Opening)
 }
 
-/// The place behind the closing parenthesis of a level of nesting.
+/// Returns the place after the closing parenthesis of a level of nesting, which has to be there.
 #[tactic(auto, using(crate::proofs::Parts::closings))]
 pub fn closing(words: &Words<'_>, from: usize, levels: usize) -> Result<usize, Failure>
     requires within { from ≤ length words.now }

@@ -1,4 +1,4 @@
-//! Targets: the variables and elements to which a statement gives values.
+//! Targets: the variables and array elements to which a statement assigns values.
 
 ghost use Rattle.std.specs.Prelude.{◌≡◌, ℕ, ◌+◌, ◌≤◌, length};
 ghost use Rattle.basic_tree.specs.SpellingExpressions.{is_text};
@@ -12,7 +12,7 @@ use basic_expr::{Failure, Words, subscripts_at, takes};
 use basic_tree::{Target, Want};
 use std::alloc::Global;
 
-/// Whether a target takes a text.
+/// Returns whether a target takes a string.
 pub fn target_text(target: &Target) -> bool
     ensures { result ≡ is_text (target_of target.now) }
 {
@@ -22,7 +22,7 @@ pub fn target_text(target: &Target) -> bool
     }
 }
 
-/// A variable or an element of the wanted kind, and the place behind it.
+/// Reads a variable or an array element of the wanted kind.
 #[tactic(auto, using(crate::proofs::TargetSteps::targets))]
 pub fn target(
     alloc: Global,

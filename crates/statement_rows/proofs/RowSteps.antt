@@ -71,7 +71,7 @@ pub ruleset reading = (row_begins, row_grows, row_halts, row_ends, no_memory_hal
 
 pub ruleset adding = (piece_added, no_memory_halts)
 
--- ---- the statement of a row is the one that its word begins
+-- ---- the statement of a row is that of its first word
 
 pub ruleset making = (run_made)
 
@@ -83,38 +83,15 @@ class_in (Some b) = b.class
 abbrev class_of : Keyword → sentences.Class
 class_of k = class_in (key_sentence k)
 
--- the grammar's sentence of a word is its row
+-- if a word has a row, the grammar's sentence of the word is that row
 abbrev IsSentence : Keyword → Option (List Piece) → Type 0
-IsSentence k None = Unit {0}
+IsSentence k None = k ≡ k
 IsSentence k (Some row) = key_sentence k ≡ Some (record { class = class_of k; form = statement_form k row })
 
+-- the last clause is checked for every word except FOR
 sentence_is : (k : Keyword) → IsSentence k (row_of k)
 sentence_is keyword.For = refl
-sentence_is keyword.Next = refl
-sentence_is keyword.FnEnd = refl
-sentence_is keyword.Data = refl
-sentence_is keyword.Let = refl
-sentence_is keyword.Read = refl
-sentence_is keyword.Restore = refl
-sentence_is keyword.Goto = refl
-sentence_is keyword.Gosub = refl
-sentence_is keyword.Go = refl
-sentence_is keyword.Return = refl
-sentence_is keyword.Resume = refl
-sentence_is keyword.Stop = refl
-sentence_is keyword.End = refl
-sentence_is keyword.Sleep = refl
-sentence_is keyword.Open = refl
-sentence_is keyword.Close = refl
-sentence_is keyword.Get = refl
-sentence_is keyword.Put = refl
-sentence_is keyword.Unlock = refl
-sentence_is keyword.Field = refl
-sentence_is keyword.Lset = refl
-sentence_is keyword.Rset = refl
-sentence_is keyword.Kill = refl
-sentence_is keyword.Name = refl
-sentence_is other = tt
+sentence_is k = refl
 
 -- a statement of a form is a sentence of that form, whatever its class
 states_in : (n : ℕ) (ws : List Word) (from : ℕ) (c : sentences.Class) (f : Form) (r : Result (Read Statement) Failure) → States n ws from f r → StatesAs n ws from (Some (record { class = c; form = f })) r

@@ -1,4 +1,4 @@
--- Expressions in their order, put in and taken.
+-- Expressions, added and taken in order.
 use Rattle.std.proofs.Common.{◌≡◌, ◌<◌, List, length, [], ◌∷◌, ◌++◌, map, Option, option_map, refl, ap, arith, remove, slice_index_or}
 use Rattle.basic_tree.specs.declared.expressions.Expr.{Expr}
 use Rattle.basic_tree.specs.TreeViews.{tree_of}

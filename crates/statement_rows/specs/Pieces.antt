@@ -1,4 +1,4 @@
--- The machine's form of a piece and of a row, and what reading them comes to.
+-- The machine's form of a piece and of a row, and the result of reading them.
 use Rattle.std.specs.Prelude.{ℕ, ◌≤◌, true, false, List, [], ◌∷◌, length, drop, Option, Some, None, option_map, Result, Ok, Err}
 use Rattle.basic_expr.specs.declared.failures.Failure.{Failure}
 use Rattle.basic_tree.specs.declared.tokens.Keyword.TheVariants as keyword
@@ -21,13 +21,13 @@ use Rattle.statement_rows.specs.Slots.{PartTree, MarkPart, ValuePart, PerhapsPar
 
 -- ---- forms
 
--- behind the prompt of an INPUT
+-- after the prompt of an INPUT
 abbrev pub prompted_form : List ℕ → (Option PartTree → Form) → Form
 prompted_form text f =
     IfSign false sign.Semicolon (f (Some (SourcePart None (Some (record { text = text; separator = separator.Semicolon })))))
     (TakeSign false sign.Comma (f (Some (SourcePart None (Some (record { text = text; separator = separator.Comma }))))))
 
--- a piece, and what stands behind it as a function of what it gives: a word or a sign gives nothing
+-- a piece, and what follows it as a function of what it gives: a keyword or a sign gives nothing
 abbrev pub piece_form : Piece → (Option PartTree → Form) → Form
 piece_form (piece.Key k) f = TakeKey false k (f None)
 piece_form (piece.Sign s) f = TakeSign false s (f None)
@@ -66,7 +66,7 @@ piece_form piece.Arrays f = list_form Arrays (λ items. f (Some (ArraysPart (nam
 piece_form piece.Shapes f = list_form Shapes (λ items. f (Some (ShapesPart (shapes_in items))))
 piece_form piece.FileShapes f = list_form FileShapes (λ items. f (Some (FileShapesPart (files_in items))))
 
--- the pieces of a row one behind the other, and behind them what is made of all that they gave
+-- the pieces of a row one after the other, and then what is made of all that they gave
 abbrev pub row_form : List Piece → SlotTrees → (SlotTrees → Form) → Form
 row_form [] read g = g read
 row_form (p ∷ ps) read g = piece_form p (λ v. row_form ps (added read v) g)
@@ -77,7 +77,7 @@ row_form (p ∷ ps) read g = piece_form p (λ v. row_form ps (added read v) g)
 abbrev pub PieceRead : ℕ → List Word → ℕ → Piece → Result (Read (Option Part)) Failure → Type 0
 PieceRead n ws from p r = PartsFrom n ws from (piece_form p) (λ x g. g (option_map part_of x)) r
 
--- one more piece was read, which made this of what was read before it, or where the machine stops
+-- one more piece was read and added to what was read before it; or where the machine stops
 abbrev pub PieceAdded : ℕ → List Word → ℕ → Piece → SlotTrees → SlotTrees → Result ℕ Failure → Type 0
 PieceAdded n ws from p old new (Ok end) = From ws from end × ((g : SlotTrees → Form) → Leads n n ws from end (piece_form p (λ v. g (added old v))) (g new))
 PieceAdded n ws from p old new (Err e) = IsPlaced ws e × ((g : Option PartTree → Form) → Halts n ws from (piece_form p g) e)
@@ -86,7 +86,7 @@ PieceAdded n ws from p old new (Err e) = IsPlaced ws e × ((g : Option PartTree 
 abbrev pub RowRead : ℕ → List Word → ℕ → List Piece → Result (Read Slots) Failure → Type 0
 RowRead n ws from row r = PartsFrom n ws from (row_form row nothing_read) (λ x g. g (slots_of x)) r
 
--- so many pieces of a row were read, which gave this
+-- this many pieces of a row were read, and gave this
 pub record Rowed (n : ℕ) (ws : List Word) (from : ℕ) (row : List Piece) (read : SlotTrees) (count end : ℕ) : Type 0 where
   pub runs : (g : SlotTrees → Form) → Leads n n ws from end (row_form row nothing_read g) (row_form (drop count row) read g)
   pub after : from ≤ end

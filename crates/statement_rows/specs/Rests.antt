@@ -1,4 +1,5 @@
--- The rows of what stands behind a first word where the next word chooses, and the statements that are made of it.
+-- The rows after a first word, if the next word decides, and the statements that are built from
+-- them.
 use Rattle.std.specs.Prelude.{ℕ, Bool, true, false, List, [], ◌∷◌}
 use Rattle.basic_tree.specs.declared.tokens.Keyword.TheVariants as keyword
 use Rattle.basic_tree.specs.declared.tokens.Sign.TheVariants as sign

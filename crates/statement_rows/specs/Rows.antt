@@ -1,4 +1,5 @@
--- The rows of statements by their first words: what stands behind the word, and the statement that is made of it.
+-- The rows of statements by their first words: what follows the word, and the statement that is
+-- built from it.
 use Rattle.std.specs.Prelude.{ℕ, Bool, true, false, List, [], ◌∷◌, Option, Some, None}
 use Rattle.basic_tree.specs.declared.tokens.Keyword.{Keyword}
 use Rattle.basic_tree.specs.declared.tokens.Keyword.TheVariants as keyword
@@ -13,7 +14,7 @@ use Rattle.statement_rows.specs.declared.piece.Piece.TheVariants as piece
 use Rattle.statement_rows.specs.Pieces.{row_form}
 use Rattle.statement_rows.specs.Slots.{SlotTrees, behind_first, first_option, first_tree, nothing_read}
 
--- what stands behind a word whose statement is a row
+-- what follows a word whose statement is a row
 abbrev pub row_of : Keyword → Option (List Piece)
 row_of keyword.For = Some (piece.Range ∷ [])
 row_of keyword.Next = Some (piece.Variable want.Number ∷ [])
@@ -44,22 +45,36 @@ row_of keyword.Kill = Some (piece.Value want.Text ∷ [])
 row_of keyword.Name = Some (piece.Value want.Text ∷ piece.Key keyword.As ∷ piece.Value want.Text ∷ [])
 row_of other = None
 
--- GO TO or GO SUB
+-- a jump; true: it is written as two words
 abbrev pub gone : Bool → ℕ → StatementTree
 gone true line = Goto true line
 gone false line = Gosub true line
 
--- OPEN of what was read behind it
+-- OPEN from what was read after it
 abbrev pub opened : SlotTrees → StatementTree
 opened s =
     Open (first_tree s.values) s.purpose s.mark (first_tree (behind_first s.values))
     (first_option s.options) (first_option (behind_first s.options)) (first_option (behind_first (behind_first s.options)))
 
--- the same, of these expressions and marks
+-- the same, from these expressions and marks
 abbrev pub opened_of : List Tree → List (Option Tree) → OpenFor → Bool → StatementTree
 opened_of values options purpose hash = opened (record nothing_read { values = values; options = options; purpose = purpose; mark = hash })
 
--- the statement of such a word and of what was read behind it
+-- the statements on files and on fields of a record, and END
+abbrev pub file_built : Keyword → SlotTrees → StatementTree
+file_built keyword.Open s = opened s
+file_built keyword.Close s = Close s.channels
+file_built keyword.Get s = Get (first_tree s.values) (first_option s.options)
+file_built keyword.Put s = Put (first_tree s.values) (first_option s.options)
+file_built keyword.Unlock s = Unlock (first_tree s.values)
+file_built keyword.Field s = Field (first_tree s.values) s.fields
+file_built keyword.Lset s = Lset s.variable (first_tree s.values)
+file_built keyword.Rset s = Rset s.variable (first_tree s.values)
+file_built keyword.Kill s = Kill (first_tree s.values)
+file_built keyword.Name s = Rename (first_tree s.values) (first_tree (behind_first s.values))
+file_built other s = End
+
+-- the statement of such a word, from what was read after it
 abbrev pub built : Keyword → SlotTrees → StatementTree
 built keyword.For s = For s.variable (first_tree s.values) (first_tree (behind_first s.values)) (first_option s.options)
 built keyword.Next s = Next s.variable
@@ -75,17 +90,7 @@ built keyword.Return s = Return
 built keyword.Resume s = Resume s.perhaps_line
 built keyword.Stop s = Stop
 built keyword.Sleep s = Sleep (first_tree s.values)
-built keyword.Open s = opened s
-built keyword.Close s = Close s.channels
-built keyword.Get s = Get (first_tree s.values) (first_option s.options)
-built keyword.Put s = Put (first_tree s.values) (first_option s.options)
-built keyword.Unlock s = Unlock (first_tree s.values)
-built keyword.Field s = Field (first_tree s.values) s.fields
-built keyword.Lset s = Lset s.variable (first_tree s.values)
-built keyword.Rset s = Rset s.variable (first_tree s.values)
-built keyword.Kill s = Kill (first_tree s.values)
-built keyword.Name s = Rename (first_tree s.values) (first_tree (behind_first s.values))
-built other s = End
+built other s = file_built other s
 
 -- the form of a statement of such a word and its row
 abbrev pub statement_form : Keyword → List Piece → Form

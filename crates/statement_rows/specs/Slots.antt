@@ -1,5 +1,5 @@
 -- What the pieces of a statement give, and what was read of it, by kinds.
-use Rattle.std.specs.Prelude.{ℕ, Bool, false, List, [], ◌∷◌, ◌++◌, map, Option, Some, None, option_map}
+use Rattle.std.specs.Prelude.{◌≡◌, ℕ, Bool, false, List, [], ◌∷◌, ◌++◌, map, Option, Some, None, option_map}
 use Rattle.basic_tree.specs.declared.names.Name.{Name}
 use Rattle.basic_tree.specs.declared.parts.OpenFor.{OpenFor}
 use Rattle.basic_tree.specs.declared.parts.OpenFor.TheVariants as open_for
@@ -60,7 +60,7 @@ part_of (part.Arrays names) = ArraysPart names
 part_of (part.Shapes ss) = ShapesPart ss
 part_of (part.FileShapes ss) = FileShapesPart ss
 
--- ---- what was read: expressions in their order, and of each other kind the last
+-- ---- what was read: the expressions in order, and the last part of each other kind
 
 pub record SlotTrees : Type 0 where
   pub values : List Tree
@@ -81,6 +81,9 @@ pub record SlotTrees : Type 0 where
   pub arrays : List Name
   pub shapes : List Shape
   pub file_shapes : List FileShape
+
+abbrev pub HasNoExpression : SlotTrees → Type 0
+HasNoExpression slots = (slots.values ≡ []) × (slots.options ≡ [])
 
 abbrev pub nothing_read : SlotTrees
 nothing_read = record {
@@ -151,7 +154,7 @@ added s (Some (ArraysPart names)) = record s { arrays = names }
 added s (Some (ShapesPart ss)) = record s { shapes = ss }
 added s (Some (FileShapesPart ss)) = record s { file_shapes = ss }
 
--- ---- what is taken from the expressions in their order
+-- ---- what is taken from the expressions in order
 
 abbrev pub first_tree : List Tree → Tree
 first_tree [] = Literal 0

@@ -1,10 +1,10 @@
-//! Statements as rows: what stands behind a first word is a list of pieces, which one function
-//! reads, and the statement is made of what was read.
+//! Reads most statements by a table: after the first word of a statement comes a row of pieces. One
+//! function reads the pieces, and the statement is built from what was read.
 //!
-//! It stands on `statement_parts`, whose calls read the pieces, and on `statement_operands`, for the
-//! options of OPEN and what MAT makes of arrays. A row is the grammar's form of its
-//! statement, word for word: `by_row` promises that form. `rows` has the table by the first word,
-//! `rests` that of what stands behind two words; a new statement is a line in each list of one.
+//! The crate builds on `statement_parts`, which reads the pieces, and on `statement_operands`, for
+//! the options of OPEN and what MAT computes. A row is the grammar's form of its statement, word
+//! for word, and `by_row` promises that form. `rows` has the table by first word, `rests` the one
+//! by two words. A new statement needs one line in each list of one of them.
 #![tactic(auto)]
 
 mod lists;

@@ -1,4 +1,4 @@
-//! Pieces that are lists with commas: each is the list's call of `elements`.
+//! Pieces that are lists: each is a call of `elements`.
 
 ghost use Rattle.std.specs.Prelude.{◌≤◌, length};
 ghost use Rattle.statement_rows.specs.declared.piece.Piece.TheVariants as piece;
@@ -11,7 +11,7 @@ use statement_lists::elements;
 use statement_parts::Read;
 use std::alloc::Global;
 
-/// One or more targets, and the place behind them.
+/// Reads one or more targets.
 #[tactic(auto, using(statement_lists::proofs::ListSteps::listed))]
 pub fn targets(
     alloc: Global,
@@ -29,7 +29,7 @@ pub fn targets(
     })
 }
 
-/// One or more channels, and the place behind them.
+/// Reads one or more channels.
 #[tactic(auto, using(statement_lists::proofs::ListSteps::listed))]
 pub fn channels(
     alloc: Global,
@@ -53,7 +53,7 @@ pub fn channels(
     })
 }
 
-/// One or more parts of a record, and the place behind them.
+/// Reads one or more parts of a record.
 #[tactic(auto, using(statement_lists::proofs::ListSteps::listed))]
 pub fn fields(
     alloc: Global,
@@ -77,7 +77,7 @@ pub fn fields(
     })
 }
 
-/// One or more numbers of lines, and the place behind them.
+/// Reads one or more line numbers.
 #[tactic(auto, using(statement_lists::proofs::ListSteps::listed))]
 pub fn lines(
     alloc: Global,
@@ -95,7 +95,7 @@ pub fn lines(
     })
 }
 
-/// One or more names of numeric arrays, and the place behind them.
+/// Reads one or more names of number arrays.
 #[tactic(auto, using(statement_lists::proofs::ListSteps::listed))]
 pub fn arrays(
     alloc: Global,
@@ -113,7 +113,7 @@ pub fn arrays(
     })
 }
 
-/// One or more arrays with their bounds, and the place behind them.
+/// Reads one or more arrays with their bounds.
 #[tactic(auto, using(statement_lists::proofs::ListSteps::listed))]
 pub fn shapes(
     alloc: Global,
@@ -131,7 +131,7 @@ pub fn shapes(
     })
 }
 
-/// One or more arrays of a file, and the place behind them.
+/// Reads one or more arrays of a file.
 #[tactic(auto, using(statement_lists::proofs::ListSteps::listed))]
 pub fn file_shapes(
     alloc: Global,

@@ -1,4 +1,4 @@
-//! What MAT stores in an array: a word alone, or what is made of other arrays.
+//! What MAT stores in an array: a constant, or what is computed from other arrays.
 
 ghost use Rattle.std.specs.Prelude.{◌+◌, ◌≤◌, length};
 ghost use Rattle.statement_rows.specs.declared.piece.Piece.TheVariants as piece;
@@ -11,7 +11,7 @@ use statement_operands::operands;
 use statement_parts::{Read, if_key};
 use std::alloc::Global;
 
-/// What MAT stores, and the place behind it.
+/// Reads what MAT stores.
 #[tactic(auto)]
 pub fn matrix(
     alloc: Global,

@@ -1,7 +1,7 @@
-//! Pieces that may stand or not, and choices: each says what stood there.
+//! Optional pieces, and choices: each says what was there.
 //!
-//! A match stands in place of `?` where it can: the type of what a piece gives is large, and each
-//! call at that type is dear to prove.
+//! A `match` replaces `?` where it can: the type of what a piece gives is large, and each call at
+//! that type is slow to prove.
 
 ghost use Rattle.std.specs.Prelude.{◌≤◌, length};
 ghost use Rattle.statement_rows.specs.declared.piece.Piece.TheVariants as piece;
@@ -16,7 +16,7 @@ use statement_parts::{
 };
 use std::alloc::Global;
 
-/// Which of two words stands there, and the place behind it.
+/// Reads one of two words.
 #[tactic(auto)]
 pub fn either(
     words: &Words<'_>,
@@ -43,7 +43,7 @@ pub fn either(
     }
 }
 
-/// Whether a sign stands there, and the place behind it.
+/// Reads a sign, if it is there.
 #[tactic(auto)]
 pub fn mark(
     words: &Words<'_>,
@@ -66,7 +66,7 @@ pub fn mark(
     })
 }
 
-/// A comma, a word and a number, where a comma stands there; and the place behind them.
+/// Reads a comma, a word and a number, if there is a comma.
 #[tactic(auto)]
 pub fn perhaps_number(
     alloc: Global,
@@ -85,7 +85,7 @@ pub fn perhaps_number(
     })
 }
 
-/// `#`, a channel and a comma, where `#` stands there; and the place behind them.
+/// Reads `#`, a channel and a comma, if there is a `#`.
 #[tactic(auto)]
 pub fn perhaps_channel(
     alloc: Global,
@@ -114,7 +114,7 @@ pub fn perhaps_channel(
     }
 }
 
-/// The number of a line or 0, where it stands there; and the place behind it.
+/// Reads a line number or 0, if it is there.
 #[tactic(auto)]
 pub fn perhaps_line(
     words: &Words<'_>,
@@ -136,7 +136,7 @@ pub fn perhaps_line(
     }
 }
 
-/// FOR INPUT or FOR OUTPUT, where FOR stands there; and the place behind it.
+/// Reads FOR INPUT or FOR OUTPUT, if there is a FOR.
 #[tactic(auto)]
 pub fn purpose(words: &Words<'_>, from: usize, levels: usize) -> Result<Read<Option<Part>>, Failure>
     requires { from ≤ length words.now }
@@ -164,7 +164,7 @@ pub fn purpose(words: &Words<'_>, from: usize, levels: usize) -> Result<Read<Opt
     })
 }
 
-/// The options of OPEN, as far as they stand there; and the place behind them.
+/// Reads the options of OPEN, as far as they are there.
 #[tactic(auto)]
 pub fn open_options(
     alloc: Global,
@@ -182,7 +182,7 @@ pub fn open_options(
     })
 }
 
-/// The separator at a place, where one stands there, and the place behind it.
+/// Reads the separator at a place, if there is one.
 #[tactic(auto)]
 pub fn perhaps_separator(
     words: &Words<'_>,

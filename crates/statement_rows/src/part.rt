@@ -9,7 +9,7 @@ use statement_lists::Assigned;
 use statement_operands::OpenOptions;
 use statement_parts::LoopRange;
 
-/// Where INPUT reads, and what it writes first.
+/// The channel of INPUT, or its prompt.
 #[derive(Drop)]
 pub struct Source {
     pub channel: Option<Expr>,

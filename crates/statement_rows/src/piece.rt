@@ -2,7 +2,7 @@
 
 use basic_tree::{Keyword, Sign, Want};
 
-/// What may stand at a place of a statement.
+/// What is allowed at a place of a statement.
 #[derive(Clone, Copy, PartialEq, Eq)]
 pub enum Piece {
     /// This word.
@@ -11,7 +11,7 @@ pub enum Piece {
     Sign(Sign),
     /// One of two words. Gives whether it is the first.
     Either(Keyword, Keyword),
-    /// This sign, or nothing. Gives whether it stands there.
+    /// This sign, or nothing. Gives whether it is there.
     Mark(Sign),
     /// An expression of this kind.
     Value(Want),
@@ -21,17 +21,17 @@ pub enum Piece {
     PerhapsChannel,
     /// The name of a variable of this kind.
     Variable(Want),
-    /// The number of a line.
+    /// A line number.
     Line,
-    /// The number of a line or 0, or nothing.
+    /// A line number or 0, or nothing.
     PerhapsLine,
     /// A literal from 0 to 32767.
     Bound,
     /// FOR INPUT or FOR OUTPUT, or nothing.
     Purpose,
-    /// The options of OPEN, as far as they stand there.
+    /// The options of OPEN, as far as they are there.
     OpenOptions,
-    /// Where INPUT reads: a channel, or behind a prompt, or neither.
+    /// A channel of INPUT, a prompt, or neither.
     Source,
     /// A comma or a semicolon, or nothing.
     PerhapsSeparator,
@@ -39,19 +39,19 @@ pub enum Piece {
     Matrix,
     /// The variable of a loop and the values that it takes.
     Range,
-    /// Targets of one kind, `=` and the value that they take.
+    /// Targets of one kind, `=` and the value.
     Assigned,
-    /// One or more variables and elements.
+    /// One or more variables and array elements.
     Targets,
-    /// One or more channels, each perhaps with its `#`.
+    /// One or more channels, each with an optional `#`.
     Channels,
     /// One or more parts of a record.
     Fields,
-    /// One or more numbers of lines.
+    /// One or more line numbers.
     Lines,
     /// One or more items of DATA.
     Items,
-    /// One or more names of numeric arrays.
+    /// One or more names of number arrays.
     Arrays,
     /// One or more arrays with their bounds.
     Shapes,

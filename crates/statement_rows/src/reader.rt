@@ -1,4 +1,4 @@
-//! One function that reads any row.
+//! The function that reads any row.
 
 ghost use Rattle.std.specs.Prelude.{◌≡◌, ℕ, [], ◌+◌, ◌<◌, ◌≤◌, length, option_map};
 ghost use Rattle.statement_rows.specs.Pieces.{PieceAdded, PieceRead, RowRead};
@@ -20,7 +20,7 @@ use basic_expr::{Failure, Words};
 use statement_parts::Read;
 use std::alloc::Global;
 
-/// What a piece gives at a place, and the place behind it.
+/// Reads a piece at a place.
 #[tactic(auto)]
 fn read_piece(
     alloc: Global,
@@ -62,9 +62,9 @@ fn read_piece(
     }
 }
 
-/// Reads a piece and adds what it gives to what was read; gives the place behind it.
-// Apart from `row`, and with a match in place of `?`: the type of what a piece gives is large, and
-// a loop over it is dear to prove.
+/// Reads a piece, adds what it gives to what was read, and returns the place after it.
+// Not a part of `row`, and with a `match` in place of `?`: the type of what a piece gives is large,
+// and a loop over it is slow to prove.
 #[tactic(auto, using(crate::proofs::RowSteps::adding))]
 fn add_piece(
     alloc: Global,
@@ -75,7 +75,8 @@ fn add_piece(
     slots: &mut Slots,
 ) -> Result<usize, Failure>
     requires { from ≤ length words.now }
-    ensures { PieceAdded levels words.now from piece (slots_of slots.old) (slots_of slots.new) result }
+    ensures { PieceAdded levels words.now from piece (slots_of slots.old) (slots_of slots.new)
+        result }
 {
     match read_piece(alloc, words, from, piece, levels) {
         Ok(Read { value: part, end }) => {
@@ -86,7 +87,7 @@ fn add_piece(
     }
 }
 
-/// What the pieces of a row give from a place on, and the place behind them.
+/// Reads the pieces of a row from a place on.
 #[tactic(auto, using(crate::proofs::RowSteps::reading))]
 pub fn row(
     alloc: Global,

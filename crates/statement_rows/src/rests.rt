@@ -1,4 +1,4 @@
-//! Statements whose second word chooses what stands behind it: ON, DIM, INPUT and MAT.
+//! Statements whose second word decides what follows: ON, DIM, INPUT and MAT.
 
 ghost use Rattle.std.specs.Prelude.{◌≡◌, ℕ, ◌+◌, ◌<◌, ◌≤◌, length};
 ghost use Rattle.grammar_machine.specs.MachineSentences.{dim_form, input_form, mat_form, on_form};
@@ -17,30 +17,30 @@ use statement_parts::{Read, if_key, if_sign, take_key};
 use std::alloc::Global;
 use std::mem;
 
-/// What stands behind the words that were read.
+/// What follows the words that were read.
 #[derive(Clone, Copy, PartialEq, Eq)]
 pub enum Rest {
-    /// Behind ON ERROR.
+    /// After ON ERROR.
     OnError,
-    /// Behind another ON.
+    /// After any other ON.
     OnLines,
-    /// Behind the `#` of a DIM.
+    /// After the `#` of a DIM.
     DimFile,
-    /// Behind another DIM.
+    /// After any other DIM.
     DimArrays,
-    /// Behind INPUT LINE.
+    /// After INPUT LINE.
     InputLine,
-    /// Behind another INPUT.
+    /// After any other INPUT.
     InputTargets,
-    /// Behind MAT READ.
+    /// After MAT READ.
     MatRead,
-    /// Behind MAT PRINT.
+    /// After MAT PRINT.
     MatPrint,
-    /// Behind another MAT.
+    /// After any other MAT.
     MatLet,
 }
 
-/// The row of such a rest.
+/// Returns the row of such a rest.
 fn rest_row(rest: Rest) -> &'static [Piece]
     ensures { result.now ≡ rest_row rest }
 {
@@ -65,7 +65,7 @@ fn rest_row(rest: Rest) -> &'static [Piece]
     }
 }
 
-/// ON .. GOTO or ON .. GOSUB.
+/// Builds ON .. GOTO or ON .. GOSUB.
 fn on_lines(goto: bool, selector: Expr, lines: Series<u16>) -> Statement
     ensures { statement_of result ≡ on_lines goto (tree_of selector) lines }
 {
@@ -76,7 +76,7 @@ fn on_lines(goto: bool, selector: Expr, lines: Series<u16>) -> Statement
     }
 }
 
-/// The statement of such a rest, of what was read of it.
+/// Builds the statement of such a rest from what was read of it.
 fn build(alloc: Global, rest: Rest, mut slots: Slots) -> Statement
     ensures { statement_of result ≡ rest_built rest (slots_of slots) }
 {
@@ -113,7 +113,7 @@ fn build(alloc: Global, rest: Rest, mut slots: Slots) -> Statement
     }
 }
 
-/// The statement of such a rest, and the place behind it.
+/// Reads such a rest, and returns its statement.
 #[tactic(auto, using(crate::proofs::RowSteps::making))]
 fn stated(
     alloc: Global,
@@ -132,7 +132,7 @@ fn stated(
     })
 }
 
-/// ON ERROR GOTO; or ON, a selector, GOTO or GOSUB, and the lines.
+/// Reads ON ERROR GOTO; or ON, a selector, GOTO or GOSUB, and the lines.
 #[tactic(auto)]
 pub fn on(
     alloc: Global,
@@ -150,7 +150,7 @@ pub fn on(
     stated(alloc, words, at, Rest::OnLines, levels)
 }
 
-/// DIM and its arrays, perhaps those in the file of a channel.
+/// Reads DIM and its arrays, which may be in the file of a channel.
 #[tactic(auto)]
 pub fn dim(
     alloc: Global,
@@ -168,7 +168,7 @@ pub fn dim(
     stated(alloc, words, at, Rest::DimArrays, levels)
 }
 
-/// INPUT: LINE and a variable, or perhaps a channel or a prompt, and the targets.
+/// Reads INPUT: LINE and a variable, or an optional channel or prompt, and the targets.
 #[tactic(auto)]
 pub fn input(
     alloc: Global,
@@ -186,7 +186,7 @@ pub fn input(
     stated(alloc, words, at, Rest::InputTargets, levels)
 }
 
-/// MAT: READ and arrays, PRINT and one, or an array, `=` and what it takes.
+/// Reads MAT: READ and arrays, PRINT and one array, or an array, `=` and its value.
 #[tactic(auto)]
 pub fn mat(
     alloc: Global,

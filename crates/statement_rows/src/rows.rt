@@ -1,4 +1,4 @@
-//! The rows of statements by their first words, and the statements that are made of them.
+//! The rows of statements by their first words, and the statements that are built from them.
 
 ghost use Rattle.std.specs.Prelude.{◌≡◌, ◌≤◌, None, Some, length, map, option_map, MatchOption};
 ghost use Rattle.grammar_machine.specs.MachineSentences.{key_sentence};
@@ -6,7 +6,8 @@ ghost use Rattle.basic_tree.specs.StatementViews.{statement_of};
 ghost use Rattle.basic_tree.specs.TreeViews.{tree_of};
 ghost use Rattle.statement_parts.specs.ParsedForms.{States};
 ghost use Rattle.statement_parts.specs.Sentences.{StatesAs};
-ghost use Rattle.statement_rows.specs.Rows.{built, gone, opened_of, row_of, statement_form};
+ghost use Rattle.statement_rows.specs.Rows.{built, file_built, gone, opened_of, row_of};
+ghost use Rattle.statement_rows.specs.Rows.{statement_form};
 ghost use Rattle.statement_rows.specs.Slots.{slots_of};
 
 use crate::piece::Piece;
@@ -17,7 +18,47 @@ use basic_tree::{Expr, Keyword, OpenFor, Sign, Statement, Want};
 use statement_parts::{Read, take_key};
 use std::alloc::Global;
 
-/// What stands behind a word, where its statement is a row.
+/// `OPEN file FOR INPUT AS FILE #channel`, with options.
+const OPEN: [Piece; 7] = [
+    Piece::Value(Want::Text),
+    Piece::Purpose,
+    Piece::Key(Keyword::As),
+    Piece::Key(Keyword::File),
+    Piece::Mark(Sign::Hash),
+    Piece::Value(Want::Number),
+    Piece::OpenOptions,
+];
+
+/// GET and PUT: `#channel`, with an optional RECORD.
+const BLOCK: [Piece; 3] = [
+    Piece::Sign(Sign::Hash),
+    Piece::Value(Want::Number),
+    Piece::Option(Keyword::Record),
+];
+
+/// `FIELD #channel`, with the fields.
+const FIELD: [Piece; 4] = [
+    Piece::Sign(Sign::Hash),
+    Piece::Value(Want::Number),
+    Piece::Sign(Sign::Comma),
+    Piece::Fields,
+];
+
+/// LSET and RSET: `variable = string`.
+const SET: [Piece; 3] = [
+    Piece::Variable(Want::Text),
+    Piece::Sign(Sign::Equal),
+    Piece::Value(Want::Text),
+];
+
+/// `NAME old AS new`.
+const NAME: [Piece; 3] = [
+    Piece::Value(Want::Text),
+    Piece::Key(Keyword::As),
+    Piece::Value(Want::Text),
+];
+
+/// Returns what follows the first word of a statement, if the statement is a row.
 pub fn row_of(key: Keyword) -> Option<&'static [Piece]>
     ensures { MatchOption result (row_of key ≡ None) (λ row. row_of key ≡ Some row.now) }
 {
@@ -32,46 +73,22 @@ pub fn row_of(key: Keyword) -> Option<&'static [Piece]>
         Keyword::Resume => &[Piece::PerhapsLine],
         Keyword::FnEnd | Keyword::Restore | Keyword::Return | Keyword::Stop | Keyword::End => &[],
         Keyword::Sleep => &[Piece::Value(Want::Number)],
-        Keyword::Open => &[
-            Piece::Value(Want::Text),
-            Piece::Purpose,
-            Piece::Key(Keyword::As),
-            Piece::Key(Keyword::File),
-            Piece::Mark(Sign::Hash),
-            Piece::Value(Want::Number),
-            Piece::OpenOptions,
-        ],
+        Keyword::Open => &OPEN,
         Keyword::Close => &[Piece::Channels],
-        Keyword::Get | Keyword::Put => &[
-            Piece::Sign(Sign::Hash),
-            Piece::Value(Want::Number),
-            Piece::Option(Keyword::Record),
-        ],
+        Keyword::Get | Keyword::Put => &BLOCK,
         Keyword::Unlock => &[Piece::Sign(Sign::Hash), Piece::Value(Want::Number)],
-        Keyword::Field => &[
-            Piece::Sign(Sign::Hash),
-            Piece::Value(Want::Number),
-            Piece::Sign(Sign::Comma),
-            Piece::Fields,
-        ],
-        Keyword::Lset | Keyword::Rset => &[
-            Piece::Variable(Want::Text),
-            Piece::Sign(Sign::Equal),
-            Piece::Value(Want::Text),
-        ],
+        Keyword::Field => &FIELD,
+        Keyword::Lset | Keyword::Rset => &SET,
         Keyword::Kill => &[Piece::Value(Want::Text)],
-        Keyword::Name => &[
-            Piece::Value(Want::Text),
-            Piece::Key(Keyword::As),
-            Piece::Value(Want::Text),
-        ],
+        Keyword::Name => &NAME,
         _ => return None,
     };
     Some(row)
 }
 
-/// The statement of such a word and of what was read behind it.
-// The slots are lent: where they are held, each of these forms goes through all of them once more.
+/// Builds the statement of such a word from what was read after it.
+// The slots are borrowed: of a function that owns them it is proved in each of these arms that it
+// drops them.
 fn build(alloc: Global, key: Keyword, slots: &mut Slots) -> Statement
     ensures { statement_of result ≡ built key (slots_of slots.old) }
 {
@@ -105,6 +122,15 @@ fn build(alloc: Global, key: Keyword, slots: &mut Slots) -> Statement
         Keyword::Resume => Statement::Resume(slots.perhaps_line),
         Keyword::Stop => Statement::Stop,
         Keyword::Sleep => Statement::Sleep(next_value(&mut slots.values)),
+        _ => build_file(alloc, key, slots),
+    }
+}
+
+/// Builds the statements on files and on fields of a record, and END.
+fn build_file(alloc: Global, key: Keyword, slots: &mut Slots) -> Statement
+    ensures { statement_of result ≡ file_built key (slots_of slots.old) }
+{
+    match key {
         Keyword::Open => opened(
             &mut slots.values,
             &mut slots.options,
@@ -142,7 +168,7 @@ fn build(alloc: Global, key: Keyword, slots: &mut Slots) -> Statement
     }
 }
 
-/// GO TO or GO SUB in two words.
+/// Builds a jump, which may be written as two words, GO TO or GO SUB.
 fn gone(to: bool, line: u16) -> Statement
     ensures { statement_of result ≡ gone to line }
 {
@@ -153,8 +179,8 @@ fn gone(to: bool, line: u16) -> Statement
     }
 }
 
-/// OPEN of what was read behind it.
-// Not of all slots: five calls over so many fields are dear to prove.
+/// Builds OPEN from what was read after it.
+// Not from all slots: five calls over that many fields are slow to prove.
 fn opened(
     values: &mut Vec<Expr>,
     options: &mut Vec<Option<Expr>>,
@@ -177,7 +203,7 @@ fn opened(
     }
 }
 
-/// The statement of a word and the row behind it.
+/// Reads the row after a word, and returns its statement.
 #[tactic(auto, using(crate::proofs::RowSteps::making))]
 fn stated(
     alloc: Global,
@@ -199,7 +225,7 @@ fn stated(
     Ok(Read { value, end })
 }
 
-/// The statement of a word that is a row, and the place behind it.
+/// Reads the statement of a word that has a row.
 #[tactic(auto, using(crate::proofs::RowSteps::rows))]
 pub fn by_row(
     alloc: Global,

@@ -1,7 +1,7 @@
-//! Pieces of one word or one part, which always stand there.
+//! Pieces of one word or one part, which must be there.
 //!
-//! A match stands in place of `?`: the type of what a piece gives is large, and each call at that
-//! type is dear to prove.
+//! A `match` replaces `?`: the type of what a piece gives is large, and each call at that type is
+//! slow to prove.
 
 ghost use Rattle.std.specs.Prelude.{◌≤◌, length};
 ghost use Rattle.statement_rows.specs.declared.piece.Piece.TheVariants as piece;
@@ -13,7 +13,7 @@ use basic_tree::{Keyword, Sign, Want};
 use statement_parts::{Literal, Read, expression, literal, name, take_key, take_sign};
 use std::alloc::Global;
 
-/// A word, which gives nothing, and the place behind it.
+/// Reads a keyword, which gives nothing.
 #[tactic(auto)]
 pub fn key(
     words: &Words<'_>,
@@ -30,7 +30,7 @@ pub fn key(
     }
 }
 
-/// A sign, which gives nothing, and the place behind it.
+/// Reads a sign, which gives nothing.
 #[tactic(auto)]
 pub fn sign(
     words: &Words<'_>,
@@ -47,7 +47,7 @@ pub fn sign(
     }
 }
 
-/// An expression of this kind, and the place behind it.
+/// Reads an expression of this kind.
 #[tactic(auto)]
 pub fn value(
     alloc: Global,
@@ -68,7 +68,7 @@ pub fn value(
     }
 }
 
-/// The name of a variable of this kind, and the place behind it.
+/// Reads the name of a variable of this kind.
 #[tactic(auto)]
 pub fn variable(
     words: &Words<'_>,
@@ -88,7 +88,7 @@ pub fn variable(
     }
 }
 
-/// The number of a line, and the place behind it.
+/// Reads a line number.
 #[tactic(auto)]
 pub fn line(words: &Words<'_>, from: usize, levels: usize) -> Result<Read<Option<Part>>, Failure>
     requires { from ≤ length words.now }
@@ -103,7 +103,7 @@ pub fn line(words: &Words<'_>, from: usize, levels: usize) -> Result<Read<Option
     }
 }
 
-/// A literal from 0 to 32767, and the place behind it.
+/// Reads a literal from 0 to 32767.
 #[tactic(auto)]
 pub fn bound(words: &Words<'_>, from: usize, levels: usize) -> Result<Read<Option<Part>>, Failure>
     requires { from ≤ length words.now }

@@ -1,9 +1,11 @@
 //! What was read of a statement, by kinds.
 
-ghost use Rattle.std.specs.Prelude.{◌≡◌, [], ◌++◌, ◌∷◌, OnOk, Some, map, option_map};
+ghost use Rattle.std.specs.Prelude.{◌≡◌, [], ◌++◌, ◌∷◌, OnErr, OnOk, Some, map, option_map};
 ghost use Rattle.basic_tree.specs.TreeViews.{tree_of};
 ghost use Rattle.statement_rows.specs.declared.part.Part.TheVariants as part;
-ghost use Rattle.statement_rows.specs.Slots.{added, behind_first, first_option, first_tree, nothing_read, part_of, slots_of};
+ghost use Rattle.statement_rows.specs.Slots.{HasNoExpression, added, behind_first};
+ghost use Rattle.statement_rows.specs.Slots.{first_option, first_tree, nothing_read};
+ghost use Rattle.statement_rows.specs.Slots.{part_of, slots_of};
 
 use crate::part::{Part, Source};
 use basic_tree::{
@@ -17,8 +19,8 @@ use statement_parts::LoopRange;
 use std::alloc::Global;
 use std::mem;
 
-/// What was read: expressions in their order, and of each other kind the last. A kind that no piece
-/// gave has a default.
+/// What was read: the expressions in order, and the last part of each other kind. A kind that no
+/// piece gave has a default.
 #[derive(Drop)]
 pub struct Slots {
     pub values: Vec<Expr>,
@@ -42,7 +44,7 @@ pub struct Slots {
 }
 
 impl Slots {
-    /// Nothing was read yet.
+    /// Returns empty slots.
     pub fn new(alloc: Global) -> Slots
         ensures { slots_of result ≡ nothing_read }
     {
@@ -72,11 +74,25 @@ impl Slots {
         }
     }
 
-    /// One more part, or none.
-    // The parts that need memory have functions of their own: each early end in this match is
-    // dear to prove.
+    /// Adds one more part, or none. If memory runs out, no expression is left.
     #[tactic(auto)]
     pub fn add(&mut self, part: Option<Part>) -> Result<(), NoMemory>
+        ensures added { OnOk result (slots_of self.new ≡
+            added (slots_of self.old) (option_map part_of part)) }
+        ensures memory { OnErr result (HasNoExpression (slots_of self.new)) }
+    {
+        let added = self.put(part);
+        if added.is_err() {
+            self.values.clear();
+            self.options.clear();
+        }
+        added
+    }
+
+    // The parts that need memory have functions of their own: each early exit in this match is slow
+    // to prove.
+    #[tactic(auto)]
+    fn put(&mut self, part: Option<Part>) -> Result<(), NoMemory>
         ensures { OnOk result (slots_of self.new ≡
             added (slots_of self.old) (option_map part_of part)) }
     {
@@ -107,7 +123,7 @@ impl Slots {
         Ok(())
     }
 
-    /// The options of OPEN.
+    /// Adds the options of OPEN.
     #[tactic(auto)]
     fn add_open_options(&mut self, options: OpenOptions) -> Result<(), NoMemory>
         ensures { OnOk result (slots_of self.new ≡
@@ -118,7 +134,7 @@ impl Slots {
         add_option(&mut self.options, options.mode)
     }
 
-    /// Where INPUT reads.
+    /// Adds the channel or the prompt of INPUT.
     #[tactic(auto)]
     fn add_source(&mut self, source: Source) -> Result<(), NoMemory>
         ensures { OnOk result (slots_of self.new ≡
@@ -128,7 +144,7 @@ impl Slots {
         add_option(&mut self.options, source.channel)
     }
 
-    /// The variable of a loop and its values.
+    /// Adds the variable of a loop and its values.
     #[tactic(auto)]
     fn add_range(&mut self, range: LoopRange) -> Result<(), NoMemory>
         ensures { OnOk result (slots_of self.new ≡
@@ -140,7 +156,7 @@ impl Slots {
         add_option(&mut self.options, range.step)
     }
 
-    /// Targets and the value that they take.
+    /// Adds targets and their value.
     #[tactic(auto)]
     fn add_assigned(&mut self, assigned: Assigned) -> Result<(), NoMemory>
         ensures { OnOk result (slots_of self.new ≡
@@ -151,7 +167,7 @@ impl Slots {
     }
 }
 
-/// One more expression.
+/// Adds one more expression.
 #[tactic(auto, using(crate::proofs::SlotSteps::adding))]
 fn add_value(values: &mut Vec<Expr>, value: Expr) -> Result<(), NoMemory>
     ensures { OnOk result (map tree_of values.new.items ≡
@@ -161,7 +177,7 @@ fn add_value(values: &mut Vec<Expr>, value: Expr) -> Result<(), NoMemory>
     Ok(())
 }
 
-/// One more expression that may be missing.
+/// Adds one more optional expression.
 #[tactic(auto, using(crate::proofs::SlotSteps::adding))]
 fn add_option(options: &mut Vec<Option<Expr>>, value: Option<Expr>) -> Result<(), NoMemory>
     ensures { OnOk result (map (option_map tree_of) options.new.items ≡
@@ -171,7 +187,7 @@ fn add_option(options: &mut Vec<Option<Expr>>, value: Option<Expr>) -> Result<()
     Ok(())
 }
 
-/// The first of the expressions, which is taken from them.
+/// Removes and returns the first of the expressions.
 #[tactic(auto, using(crate::proofs::SlotSteps::taking))]
 pub fn next_value(values: &mut Vec<Expr>) -> Expr
     ensures first { tree_of result ≡ first_tree (map tree_of values.old.items) }
@@ -183,7 +199,7 @@ pub fn next_value(values: &mut Vec<Expr>) -> Expr
     values.remove(0)
 }
 
-/// The first of the expressions that may be missing, which is taken from them.
+/// Removes and returns the first of the optional expressions.
 #[tactic(auto, using(crate::proofs::SlotSteps::taking))]
 pub fn next_option(options: &mut Vec<Option<Expr>>) -> Option<Expr>
     ensures first { option_map tree_of result ≡
@@ -197,8 +213,8 @@ pub fn next_option(options: &mut Vec<Option<Expr>>) -> Option<Expr>
     options.remove(0)
 }
 
-/// The list, which is taken from what was read.
-// In place of a move out of the slots, which leaves each other part of them to be dropped by itself.
+/// Removes the list from what was read, and returns it.
+// This replaces a move out of the slots, after which every other part would be dropped by itself.
 pub fn taken<T>(alloc: Global, list: &mut Series<T>) -> Series<T>
     ensures { result ≡ list.old }
 {

@@ -1,4 +1,4 @@
-//! Where INPUT reads: a channel, or behind a prompt.
+//! The channel of INPUT, or its prompt.
 
 ghost use Rattle.std.specs.Prelude.{◌≤◌, length, option_map};
 ghost use Rattle.statement_parts.specs.ParsedForms.{PartsFrom};
@@ -13,7 +13,7 @@ use basic_values::Text;
 use statement_parts::{Read, expression, if_quoted, if_sign, take_sign};
 use std::alloc::Global;
 
-/// Behind a prompt its separator, and the place behind it.
+/// Reads the separator after a prompt.
 #[tactic(auto)]
 fn prompted(
     words: &Words<'_>,
@@ -52,7 +52,7 @@ fn prompted(
     })
 }
 
-/// A channel and a comma behind `#`, or a prompt, or neither; and the place behind it.
+/// Reads `#`, a channel and a comma, or a prompt, or nothing.
 #[tactic(auto)]
 pub fn source(
     alloc: Global,

@@ -10,7 +10,7 @@ use statement_lists::assignment;
 use statement_parts::{Read, all_items, range};
 use std::alloc::Global;
 
-/// The variable of a loop and the values that it takes, and the place behind them.
+/// Reads the variable of a loop and the values that it takes.
 #[tactic(auto)]
 pub fn looped(
     alloc: Global,
@@ -28,7 +28,7 @@ pub fn looped(
     })
 }
 
-/// Targets and the value that they take, and the place behind it.
+/// Reads targets and their value.
 #[tactic(auto)]
 pub fn assigned(
     alloc: Global,
@@ -46,7 +46,7 @@ pub fn assigned(
     })
 }
 
-/// One or more items of DATA, and the place behind them.
+/// Reads one or more items of DATA.
 #[tactic(auto)]
 pub fn items(
     alloc: Global,

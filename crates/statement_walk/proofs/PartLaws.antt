@@ -118,7 +118,7 @@ mutual
   loop_parts_else NoElse = refl
   loop_parts_else (Else clause) = loop_parts_clause clause
 
--- WHO COLLECTS, COUNTS OR JUDGES THEM
+-- VISITORS THAT COLLECT, COUNT OR TEST
 
 pub collected : {A : Type 0} (f : StatementPart → List A) (xs : List A) (parts : List StatementPart)
     → visited (λ xs part. xs ++ f part) xs parts ≡ xs ++ flat_map f parts

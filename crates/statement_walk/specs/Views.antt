@@ -1,4 +1,4 @@
--- The parts of the code without where they lie in memory.
+-- The parts of the code, without pointers.
 use Rattle.std.specs.Prelude.{false}
 use Rattle.basic_tree.specs.StatementViews.{statement_of}
 use Rattle.basic_tree.specs.Trees.{Tree, StatementTree, Goto}

@@ -1,4 +1,4 @@
--- The parts of a statement, each once, in the order of the walk; and who has seen them.
+-- The parts of a statement, each once, in the order of the walk; and the visitor after them.
 use Rattle.std.specs.Prelude.{ℕ, ◌+◌, Bool, false, List, [], ◌∷◌, ◌++◌, map}
 use Rattle.basic_tree.specs.Trees.{Tree, ModifierTree, If, Unless, While, Until, ForModifier, ClauseTree, LineClause, StatementClause, ElseTree, NoElse, Else, StatementTree, IfThen, IfGoto, Modified, For, Goto}
 use Rattle.program_model.specs.Parts.{given, expressions_in}
@@ -68,13 +68,13 @@ abbrev pub loops_among : List StatementPart → ℕ
 loops_among [] = 0
 loops_among (part ∷ parts) = loops_by part + loops_among parts
 
--- WHO HAS SEEN THEM, given what it is after one part
+-- THE VISITOR AFTER PARTS, given what it is after one part
 
 abbrev pub visited : {S : Type 0} → (S → StatementPart → S) → S → List StatementPart → S
 visited after s [] = s
 visited after s (part ∷ parts) = visited after (after s part) parts
 
--- expressions alone
+-- expressions only
 abbrev pub visited_trees : {S : Type 0} → (S → StatementPart → S) → S → List Tree → S
 visited_trees after s [] = s
 visited_trees after s (e ∷ es) = visited_trees after (after s (Expression e)) es

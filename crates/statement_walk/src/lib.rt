@@ -1,9 +1,9 @@
 //! The parts of a statement: the statements without others inside, the expressions and the FORs.
 //!
-//! `visit_parts` is the one walk over a statement: it shows a `Visitor` each part once. What counts
-//! FORs, or looks for calls, lines and arrays is a visitor. The crate stands on the trees
-//! of `basic_tree` and on the parts of statements as `program_model` names them: `proofs/PartLaws`
-//! says that the parts of the walk are those. Each form of statement has its arm in `walk` alone.
+//! `visit_parts` is the only walk over a statement: it shows each part once to a `Visitor`.
+//! Whatever counts FORs, or looks for calls, lines and arrays, is a visitor. `proofs/PartLaws`
+//! proves that the parts of the walk are those that `program_model` defines. Only `walk` has an arm
+//! for each form of statement.
 #![tactic(auto)]
 
 mod parts;

@@ -1,4 +1,4 @@
-//! What a walk over a statement comes to, and who is shown it.
+//! The parts of a walk over a statement, and the visitor to which they are shown.
 
 ghost use Rattle.std.specs.Prelude.{◌≡◌, OnOk};
 ghost use Rattle.statement_walk.specs.Walk.{StatementPart};
@@ -6,7 +6,7 @@ ghost use Rattle.statement_walk.specs.Views.{part_seen};
 
 use basic_tree::{Expr, Statement, Target};
 
-/// A statement without others inside, or the line of a GOTO that stands as a line number.
+/// A statement without others inside, or a line number that stands for a GOTO.
 #[derive(Clone, Copy)]
 pub enum Simple<'a> {
     Statement(&'a Statement),
@@ -25,19 +25,19 @@ pub enum Expression<'a> {
 pub enum Part<'a> {
     Simple(Simple<'a>),
     Expression(Expression<'a>),
-    /// A FOR that stands behind a statement.
+    /// A FOR modifier.
     Loop,
 }
 
-/// What is shown the parts of a statement.
+/// A visitor, to which the parts of a statement are shown.
 pub trait Visitor {
-    /// Why it wants to see no more.
+    /// Why it ends the walk.
     type Stop;
 
-    /// What it is after a part.
+    /// Its state after a part.
     ghost after: { Self → StatementPart → Self };
 
-    /// Sees a part.
+    /// Visits a part.
     fn visit(&mut self, part: Part<'_>) -> Result<(), Self::Stop>
         ensures { OnOk result (self.new ≡ after self.old (part_seen part.entry)) };
 }

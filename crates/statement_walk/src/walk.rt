@@ -3,10 +3,13 @@
 ghost use Rattle.std.specs.Prelude.{◌≡◌, [], ◌∷◌, ◌++◌, map, option_map, true, OnOk};
 ghost use Rattle.basic_tree.specs.StatementViews.{statement_of, clause_of};
 ghost use Rattle.basic_tree.specs.Trees.{Modified, End};
-ghost use Rattle.basic_tree.specs.TreeViews.{tree_of, target_of, printed_of, item_of, print_channel_of, chain_line_of, close_channel_of, field_part_of, modifier_of, using_item_of, matrix_of};
+ghost use Rattle.basic_tree.specs.TreeViews.{tree_of, target_of, printed_of, item_of};
+ghost use Rattle.basic_tree.specs.TreeViews.{print_channel_of, chain_line_of, close_channel_of};
+ghost use Rattle.basic_tree.specs.TreeViews.{field_part_of, modifier_of, using_item_of, matrix_of};
 ghost use Rattle.program_model.specs.Parts.{given, printed_expression, matrix_expressions};
 ghost use Rattle.program_model.specs.Program.{loops_outside};
-ghost use Rattle.statement_walk.specs.Walk.{own_expressions, parts_alone, modifier_parts, parts_in, parts_in_clause, visited, visited_trees};
+ghost use Rattle.statement_walk.specs.Walk.{own_expressions, parts_alone, modifier_parts, parts_in};
+ghost use Rattle.statement_walk.specs.Walk.{parts_in_clause, visited, visited_trees};
 
 use crate::parts::{Expression, Part, Simple, Visitor};
 use basic_tree::{
@@ -86,7 +89,7 @@ fn visit_modifier<V: Visitor>(visitor: &mut V, modifier: &Modifier) -> Result<()
     }
 }
 
-/// How many FORs a modifier is.
+/// Returns the number of FORs that a modifier is, 0 or 1.
 pub fn own_loops(modifier: &Modifier) -> u32
     ensures { result ≡ loops_outside (Modified End (modifier_of modifier.now)) true }
 {
@@ -108,7 +111,8 @@ fn visit_simple<V: Visitor>(visitor: &mut V, statement: &Statement) -> Result<()
 }
 
 /// Shows the expressions of a statement without others inside.
-// Each arm is one call, and forms that do the same share one: the proof has an end for each of them.
+// Each arm is one call, and forms that do the same share one: each arm is one more case of the
+// proof.
 #[tactic(auto, using(crate::proofs::Showing::showing))]
 fn visit_expressions<V: Visitor>(visitor: &mut V, statement: &Statement) -> Result<(), V::Stop>
     ensures { OnOk result (visitor.new
@@ -186,7 +190,7 @@ fn visit_expressions<V: Visitor>(visitor: &mut V, statement: &Statement) -> Resu
 
 // Expressions of statements
 
-/// Shows what a PRINT names.
+/// Shows the expressions of a PRINT.
 #[tactic(auto, using(crate::proofs::Showing::showing))]
 fn visit_print<V: Visitor>(
     visitor: &mut V,
@@ -205,7 +209,7 @@ fn visit_print<V: Visitor>(
     visit_last(visitor, last)
 }
 
-/// Shows what a PRINT USING names.
+/// Shows the expressions of a PRINT USING.
 #[tactic(auto, using(crate::proofs::Showing::showing))]
 fn visit_print_using<V: Visitor>(
     visitor: &mut V,
@@ -225,7 +229,7 @@ fn visit_print_using<V: Visitor>(
     visit_given(visitor, last)
 }
 
-/// Shows what an INPUT names.
+/// Shows the expressions of an INPUT.
 #[tactic(auto, using(crate::proofs::Showing::showing))]
 fn visit_input<V: Visitor>(
     visitor: &mut V,
@@ -240,7 +244,7 @@ fn visit_input<V: Visitor>(
     visit_targets(visitor, targets)
 }
 
-/// Shows what a CHAIN names.
+/// Shows the expressions of a CHAIN.
 fn visit_chain<V: Visitor>(
     visitor: &mut V,
     program: &Expr,
@@ -257,7 +261,7 @@ fn visit_chain<V: Visitor>(
     }
 }
 
-/// Shows what an OPEN names.
+/// Shows the expressions of an OPEN.
 #[tactic(auto, using(crate::proofs::Showing::showing))]
 fn visit_open<V: Visitor>(
     visitor: &mut V,
@@ -278,7 +282,7 @@ fn visit_open<V: Visitor>(
     visit_given(visitor, mode)
 }
 
-/// Shows what a FIELD names.
+/// Shows the expressions of a FIELD.
 fn visit_field<V: Visitor>(
     visitor: &mut V,
     channel: &Expr,
@@ -323,7 +327,8 @@ fn visit_pair<V: Visitor>(
     second: &Option<Expr>,
 ) -> Result<(), V::Stop>
     ensures { OnOk result (visitor.new
-        ≡ visited_trees V.after visitor.old (tree_of first.now ∷ given (option_map tree_of second.now))) }
+        ≡ visited_trees V.after visitor.old
+        (tree_of first.now ∷ given (option_map tree_of second.now))) }
 {
     visit_tree(visitor, first)?;
     visit_given(visitor, second)
@@ -414,7 +419,8 @@ fn visit_items<V: Visitor>(visitor: &mut V, items: &[PrintItem]) -> Result<(), V
 
 fn visit_channels<V: Visitor>(visitor: &mut V, channels: &[CloseChannel]) -> Result<(), V::Stop>
     ensures { OnOk result (visitor.new
-        ≡ visited_trees V.after visitor.old (map (λ c. c.number) (map close_channel_of channels.now))) }
+        ≡ visited_trees V.after visitor.old
+        (map (λ c. c.number) (map close_channel_of channels.now))) }
 {
     for channel in channels {
         visit_tree(visitor, &channel.number)?;
@@ -424,7 +430,8 @@ fn visit_channels<V: Visitor>(visitor: &mut V, channels: &[CloseChannel]) -> Res
 
 fn visit_widths<V: Visitor>(visitor: &mut V, fields: &[FieldPart]) -> Result<(), V::Stop>
     ensures { OnOk result (visitor.new
-        ≡ visited_trees V.after visitor.old (map (λ part. part.width) (map field_part_of fields.now))) }
+        ≡ visited_trees V.after visitor.old
+        (map (λ part. part.width) (map field_part_of fields.now))) }
 {
     for field in fields {
         visit_tree(visitor, &field.width)?;
@@ -434,7 +441,8 @@ fn visit_widths<V: Visitor>(visitor: &mut V, fields: &[FieldPart]) -> Result<(),
 
 fn visit_values<V: Visitor>(visitor: &mut V, values: &[UsingItem]) -> Result<(), V::Stop>
     ensures { OnOk result (visitor.new
-        ≡ visited_trees V.after visitor.old (map (λ item. item.value) (map using_item_of values.now))) }
+        ≡ visited_trees V.after visitor.old
+        (map (λ item. item.value) (map using_item_of values.now))) }
 {
     for item in values {
         visit_tree(visitor, &item.value)?;

@@ -1,4 +1,5 @@
--- What is read the table says. A chain of tests on a code is taken apart by a lemma with a Bool for each test.
+-- What is read is a row of the table. A chain of tests on a code is split by a lemma with a Bool
+-- for each test.
 use Rattle.std.proofs.Common.{◌≡◌, ℕ, ◌≤◌, ◌+◌, Bool, true, false, cond, eqb, List, [], ◌∷◌, ◌++◌, length, get_or, take, drop, Option, Some, None, refl, sym, ap, subst, ◌∙◌, arith}
 use Rattle.std.specs.Prelude.{◌&&◌, nat_le}
 use Rattle.std.proofs.lemmas.Bool.{eqb-true, leb-true, ne_eqb}
@@ -21,7 +22,7 @@ none_found x e = absurd cc
 said_as : (text : List ℕ) (a b : SysCall) → Some a ≡ Some b → SaysCall text a → SaysCall text b
 said_as text a b e says = subst (λ (call : SysCall). SaysCall text call) (some_is a b e) says
 
--- ---- what stands behind the codes
+-- ---- what follows the codes
 
 only_takes : (a b : SysCall) (rest : List ℕ) → only_call a rest ≡ Some b → (rest ≡ []) × (Some a ≡ Some b)
 only_takes a b [] e = (refl, e)
@@ -110,7 +111,7 @@ send_said rest call e =
 
 -- ---- the codes
 
--- the code that was tested is the one in front
+-- the code that was tested is the first one
 code_is : (codes rest : List ℕ) (wanted code : ℕ) (call : SysCall) → eqb code wanted ≡ true → SaysCall (codes ++ wanted ∷ rest) call → SaysCall (codes ++ code ∷ rest) call
 code_is codes rest wanted code call e says =
     subst (λ (c : ℕ). SaysCall (codes ++ c ∷ rest) call) (sym (eqb-true code wanted e)) says

@@ -1,4 +1,4 @@
--- The name of a receiver in six bytes: what is said is found, and what is found is said.
+-- The name of a receiver in six bytes: what is spelled is found, and what is found is spelled.
 use Rattle.std.proofs.Common.{◌≡◌, ℕ, zero, suc, ◌≤◌, ◌+◌, ◌-◌, Bool, true, false, cond, eqb, List, [], ◌∷◌, ◌++◌, length, map, take, drop, Option, Some, None, refl, sym, ap, subst, ◌∙◌, arith}
 use Rattle.std.specs.Prelude.{◌&&◌, nat_le, replicate}
 use Rattle.std.specs.List.{list_all}
@@ -14,12 +14,12 @@ use Rattle.sys_calls.specs.CallFronts.{name_length, if_password, receiver_before
 pub some_is : {A : Type 0} (x y : A) → Some x ≡ Some y → x ≡ y
 some_is x y e = cc
 
--- what is found behind a test: the test holds
+-- what is found after a test: the test holds
 pub if_found : {A : Type 0} (b : Bool) (o : Option A) (y : A) → cond b o None ≡ Some y → (b ≡ true) × (o ≡ Some y)
 if_found true o y e = (refl, e)
 if_found false o y e = absurd cc
 
--- where the test holds, what stands behind it is found
+-- if the test holds, what follows it is found
 pub then_found : {A : Type 0} (b : Bool) (o : Option A) → b ≡ true → cond b o None ≡ o
 then_found b o e = ap (λ b. cond b o None) e
 
@@ -64,7 +64,7 @@ few_bytes name good =
 all_letters : (name : List ℕ) → is_password name ≡ true → list_all is_capital_or_digit name ≡ true
 all_letters name good = and_right (has_length name) (list_all is_capital_or_digit name) good
 
--- ---- what is said is found
+-- ---- what is spelled is found
 
 found_before_spaces : (name : List ℕ) (count : ℕ) → is_password name ≡ true → receiver_before (name ++ replicate count 32) ≡ Some name
 found_before_spaces name count good =
@@ -92,7 +92,7 @@ six_bytes_long six name says =
     let rest : length spaces ≡ 6 - length name = length-replicate (6 - length name) 32 in
     omega (arith, few, sum, rest)
 
--- ---- what is found is said
+-- ---- what is found is spelled
 
 pub receiver_said : (six name : List ℕ) → length six ≡ 6 → receiver_in six ≡ Some name → SaysReceiver six name
 receiver_said six name long e =

@@ -1,11 +1,11 @@
--- What the table says is read: from the front, code by code.
+-- What the table has is read: from the front, code by code.
 use Rattle.std.proofs.Common.{◌≡◌, ℕ, suc, ◌≤◌, ◌+◌, ◌-◌, true, false, cond, eqb, List, [], ◌∷◌, ◌++◌, length, get_or, take, drop, Option, Some, None, refl, sym, ap, ◌∙◌, arith, eq-eqb}
 use Rattle.std.specs.Prelude.{◌&&◌, nat_le}
 use Rattle.std.proofs.lemmas.Bool.{le-leb, ne_eqb}
 use Rattle.std.proofs.lemmas.List.{take_at, drop_at, take_rest, length-append}
 use Rattle.basic_values.proofs.CutLaws.{and_both}
 use Rattle.basic_values.specs.declared.limits.TheConstants.{LONGEST_MESSAGE, MOST_LETTERS}
-use Rattle.monitor_calls.specs.declared.calls.Request.TheVariants.{Login, Logout, OpenFile, CloseFile, Get, Put, GetRecord, PutRecord, Unlock, Kill, Rename, Directory, Declare, Remove, Send, Receive, Sleep, Tick, Assign, Deassign, OpenPrinter, Print, ClosePrinter, Status}
+use Rattle.monitor_calls.specs.declared.calls.Request.TheVariants.{Declare, Remove, Send, Receive, Status}
 use Rattle.sys_calls.specs.declared.calls.TheConstants.{MOST_COMMON}
 use Rattle.sys_calls.specs.declared.calls.SysCall.{SysCall}
 use Rattle.sys_calls.specs.declared.calls.SysCall.TheVariants.{ReadCommon, WriteCommon, ErrorText, Ask}
@@ -13,7 +13,7 @@ use Rattle.sys_calls.specs.Table.{SaysReceiver, SaysCall}
 use Rattle.sys_calls.specs.CallFronts.{receiver_in, declared_as, declare_in, sent_to, send_in, by_code, message_call_of, monitor_call_of, call_of, call_in}
 use Rattle.sys_calls.proofs.ReceiverLemmas.{then_found, receiver_found, six_bytes_long}
 
--- ---- a code in front
+-- ---- a code at the front
 
 pub not_empty : (n : ℕ) → eqb (suc n) 0 ≡ false
 not_empty n = ne_eqb (suc n) 0 (λ e. omega arith)
@@ -48,7 +48,7 @@ send_long rest least greatest =
     then_found (nat_le 6 (length rest) && nat_le (length rest) (6 + LONGEST_MESSAGE)) (sent_to (receiver_in (take 6 rest)) (drop 6 rest))
     (and_both (nat_le 6 (length rest)) (nat_le (length rest) (6 + LONGEST_MESSAGE)) (le-leb 6 (length rest) least) (le-leb (length rest) (6 + LONGEST_MESSAGE) greatest))
 
--- the same where the name was found, the message as a slice to the end
+-- the same if the name was found, with the message as a slice to the end
 pub send_found : (rest name : List ℕ) → 6 ≤ length rest → length rest ≤ 6 + LONGEST_MESSAGE → receiver_in (take 6 rest) ≡ Some name → send_in rest ≡ sent_to (Some name) (take (length rest - 6) (drop 6 rest))
 send_found rest name least greatest found =
     send_long rest least greatest
@@ -90,22 +90,4 @@ said_is_read text (Ask (Send name message)) says =
     ∙ send_read says.six name message says.named says.short
 said_is_read text (Ask Receive) says = ap call_in says
 said_is_read text (Ask Status) says = ap call_in says
-said_is_read text (Ask (Login account password)) says = absurd says
-said_is_read text (Ask Logout) says = absurd says
-said_is_read text (Ask (OpenFile channel name kind update code)) says = absurd says
-said_is_read text (Ask (CloseFile channel)) says = absurd says
-said_is_read text (Ask (Get channel block)) says = absurd says
-said_is_read text (Ask (Put channel block page)) says = absurd says
-said_is_read text (Ask (GetRecord channel block count)) says = absurd says
-said_is_read text (Ask (PutRecord channel block pages)) says = absurd says
-said_is_read text (Ask (Unlock channel)) says = absurd says
-said_is_read text (Ask (Kill name)) says = absurd says
-said_is_read text (Ask (Rename old new code)) says = absurd says
-said_is_read text (Ask (Directory owner index)) says = absurd says
-said_is_read text (Ask (Sleep seconds)) says = absurd says
-said_is_read text (Ask Tick) says = absurd says
-said_is_read text (Ask Assign) says = absurd says
-said_is_read text (Ask Deassign) says = absurd says
-said_is_read text (Ask OpenPrinter) says = absurd says
-said_is_read text (Ask (Print printed)) says = absurd says
-said_is_read text (Ask ClosePrinter) says = absurd says
+said_is_read text call says = absurd says

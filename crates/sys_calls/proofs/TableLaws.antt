@@ -1,8 +1,8 @@
--- The laws of the table, and what the code relies on.
+-- The laws of the table, and lemmas that the code uses.
 use Rattle.std.proofs.Common.{ℕ, List, Result, Ok, Err, refl, sym, ◌∙◌}
 use Rattle.basic_values.specs.declared.failures.Trouble.{Trouble}
 use Rattle.basic_values.specs.declared.failures.Trouble.TheVariants.{Refused, NoMemory}
-use Rattle.monitor_calls.specs.declared.calls.Reply.TheVariants.{Done, Opened, Block, Record, Name, Message, State, Failed, Expired}
+use Rattle.monitor_calls.specs.declared.calls.Reply.TheVariants.{Done, Message, State}
 use Rattle.sys_calls.specs.declared.calls.SysCall.{SysCall}
 use Rattle.sys_calls.specs.Table.{DecodesText}
 use Rattle.sys_calls.specs.Laws.{SaysOneCall, GivesOneText, FindsWhatIsSaid, GivesWhatIsTold}
@@ -11,7 +11,7 @@ use Rattle.sys_calls.proofs.ReceiverLemmas.{some_is}
 use Rattle.sys_calls.proofs.SaidIsRead.{said_is_read}
 use Rattle.sys_calls.proofs.ReadIsSaid.{none_found, read_is_said}
 
--- who reads from the front decodes by the table
+-- reading from the front decodes by the table
 pub decodes_by_reading : (text : List ℕ) (result : Result SysCall (Trouble ℕ)) → ReadsCall (call_in text) result → DecodesText text result
 decodes_by_reading text (Ok call) reads = read_is_said text call reads
 decodes_by_reading text (Err (Refused fault)) reads =
@@ -25,12 +25,7 @@ pub gives_one_text : GivesOneText
 gives_one_text Done a b gives_a gives_b = gives_a ∙ sym gives_b
 gives_one_text (Message job account message) a b gives_a gives_b = gives_a ∙ sym gives_b
 gives_one_text (State job account calls) a b gives_a gives_b = gives_a ∙ sym gives_b
-gives_one_text (Opened blocks read write) a b gives_a gives_b = absurd gives_a
-gives_one_text (Block page) a b gives_a gives_b = absurd gives_a
-gives_one_text (Record pages) a b gives_a gives_b = absurd gives_a
-gives_one_text (Name name code blocks) a b gives_a gives_b = absurd gives_a
-gives_one_text (Failed number) a b gives_a gives_b = absurd gives_a
-gives_one_text Expired a b gives_a gives_b = absurd gives_a
+gives_one_text reply a b gives_a gives_b = absurd gives_a
 
 pub finds_what_is_said : FindsWhatIsSaid
 finds_what_is_said text call = (read_is_said text call, said_is_read text call)
@@ -39,9 +34,4 @@ pub gives_what_is_told : GivesWhatIsTold
 gives_what_is_told Done is = refl
 gives_what_is_told (Message job account message) is = refl
 gives_what_is_told (State job account calls) is = refl
-gives_what_is_told (Opened blocks read write) is = absurd is
-gives_what_is_told (Block page) is = absurd is
-gives_what_is_told (Record pages) is = absurd is
-gives_what_is_told (Name name code blocks) is = absurd is
-gives_what_is_told (Failed number) is = absurd is
-gives_what_is_told Expired is = absurd is
+gives_what_is_told reply is = absurd is

@@ -1,5 +1,5 @@
--- The table of SYS as a function: a text is read from its front. `Laws` has it that it finds a call exactly where the
--- table has its row, so who knows the table need not read this file.
+-- The table of SYS as a function: a string is read from its front. `Laws` says that it finds a call
+-- exactly if the table has a row for it, so if you know the table, you need not read this file.
 use Rattle.std.specs.Prelude.{◌≡◌, ℕ, ◌+◌, ◌==◌, ◌&&◌, nat_le, if◌then◌else◌, List, length, map, take, drop, slice_index_or, Option, Some, None, Result, Ok, Err}
 use Rattle.std.specs.Char.{to_ascii_uppercase}
 use Rattle.std.specs.List.{list_all, prefix_len}
@@ -13,7 +13,7 @@ use Rattle.sys_calls.specs.declared.calls.TheConstants.{MOST_COMMON}
 use Rattle.sys_calls.specs.declared.calls.SysCall.{SysCall}
 use Rattle.sys_calls.specs.declared.calls.SysCall.TheVariants.{ReadCommon, WriteCommon, ErrorText, Ask}
 
--- the call that reading finds, or the error where it finds none; or memory ran out
+-- the call that reading finds, or the error if it finds none; or memory ran out
 abbrev pub ReadsCall : Option SysCall → Result SysCall (Trouble ℕ) → Type 0
 ReadsCall found (Ok call) = found ≡ Some call
 ReadsCall found (Err (Refused fault)) = (fault ≡ ILLEGAL_SYS) × (found ≡ None)
@@ -21,14 +21,14 @@ ReadsCall found (Err NoMemory) = Unit {0}
 
 -- THE NAME OF A RECEIVER
 
--- how many capital letters and digits stand in front
+-- how many capital letters and digits the text begins with
 abbrev pub name_length : List ℕ → ℕ
 name_length raised = prefix_len is_capital_or_digit raised
 
 abbrev pub if_password : List ℕ → Option (List ℕ)
 if_password name = if is_password name then Some name else None
 
--- the name before spaces alone
+-- the name, if only spaces follow it
 abbrev pub receiver_before : List ℕ → Option (List ℕ)
 receiver_before raised =
     if list_all (λ byte. byte == 32) (drop (name_length raised) raised)
@@ -38,9 +38,9 @@ receiver_before raised =
 abbrev pub receiver_in : List ℕ → Option (List ℕ)
 receiver_in six = receiver_before (map to_ascii_uppercase six)
 
--- WHAT STANDS BEHIND THE CODES
+-- WHAT FOLLOWS THE CODES
 
--- the call, where nothing stands there
+-- the call, if nothing follows
 abbrev pub only_call : SysCall → List ℕ → Option SysCall
 only_call call rest = if length rest == 0 then Some call else None
 
@@ -73,7 +73,7 @@ send_in rest =
 
 -- THE CODES
 
--- the code in front is taken off, and the rest is read by it
+-- the first code is split off, and the rest is read by it
 abbrev pub by_code : (ℕ → List ℕ → Option SysCall) → List ℕ → Option SysCall
 by_code read text =
     if length text == 0 then None else read (slice_index_or text 0 0) (drop 1 text)
@@ -90,7 +90,7 @@ message_call_of code rest =
 abbrev pub message_call_in : List ℕ → Option SysCall
 message_call_in text = by_code message_call_of text
 
--- the calls of the monitor
+-- the calls of the monitor, and of error texts
 unfoldable pub monitor_call_of : ℕ → List ℕ → Option SysCall
 monitor_call_of code rest =
     if code == 9 then error_in rest

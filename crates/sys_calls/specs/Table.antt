@@ -1,4 +1,4 @@
--- The table of SYS: which text asks what, and which text is given.
+-- The table of SYS: the call that each string makes, and the string that it returns.
 use Rattle.std.specs.Prelude.{◌≡◌, ℕ, ◌+◌, ◌-◌, ◌/◌, ◌%◌, ◌≤◌, ◌<◌, true, List, [], ◌∷◌, ◌++◌, length, map, replicate, Result, Ok, Err}
 use Rattle.std.specs.Char.{to_ascii_uppercase}
 use Rattle.basic_values.specs.declared.errors.TheConstants.{ILLEGAL_SYS}
@@ -14,14 +14,14 @@ use Rattle.sys_calls.specs.declared.calls.TheConstants.{MOST_COMMON}
 use Rattle.sys_calls.specs.declared.calls.SysCall.{SysCall}
 use Rattle.sys_calls.specs.declared.calls.SysCall.TheVariants.{ReadCommon, WriteCommon, ErrorText, Ask}
 
--- WHAT A TEXT ASKS
+-- THE CALL OF A STRING
 
--- six bytes say a name of 1 to 6 letters, which may be small, or digits: spaces stand behind it
+-- six bytes spell a name of 1 to 6 letters, of either case, or digits; spaces follow it
 pub record SaysReceiver (six name : List ℕ) : Type 0 where
   pub kind : is_password name ≡ true
   pub says : map to_ascii_uppercase six ≡ name ++ replicate (6 - length name) 32
 
--- the name, and how many messages may wait
+-- the name, and the most messages that can wait
 pub record SaysDeclare (text name : List ℕ) (most : ℕ) : Type 0 where
   pub six : List ℕ
   pub named : SaysReceiver six name
@@ -36,7 +36,7 @@ pub record SaysSend (text name message : List ℕ) : Type 0 where
   pub is : text ≡ 6 ∷ 22 ∷ 255 ∷ six ++ message
   pub short : length message ≤ LONGEST_MESSAGE
 
--- the rows of what the monitor is asked; no text asks it anything else
+-- the rows of requests to the monitor; no string makes another request
 abbrev pub SaysRequest : List ℕ → Request → Type 0
 SaysRequest text (Declare name most) = SaysDeclare text name most
 SaysRequest text Remove = text ≡ 6 ∷ 22 ∷ 0 ∷ []
@@ -45,23 +45,23 @@ SaysRequest text Receive = text ≡ 6 ∷ 22 ∷ 2 ∷ []
 SaysRequest text Status = text ≡ 6 ∷ 128 ∷ []
 SaysRequest text request = ⊥
 
--- THE TABLE: the text says the call
+-- THE TABLE: the string makes this call
 abbrev pub SaysCall : List ℕ → SysCall → Type 0
 SaysCall text ReadCommon = text ≡ 7 ∷ []
 SaysCall text (WriteCommon common) = (text ≡ 8 ∷ common) × (length common ≤ MOST_COMMON)
 SaysCall text (ErrorText number) = text ≡ 6 ∷ 9 ∷ number ∷ []
 SaysCall text (Ask request) = SaysRequest text request
 
--- the call that the text says, or the error, exactly where it says none; or memory ran out
+-- the call that the string makes, or the error, exactly if it makes none; or memory ran out
 abbrev pub DecodesText : List ℕ → Result SysCall (Trouble ℕ) → Type 0
 DecodesText text (Ok call) = SaysCall text call
 DecodesText text (Err (Refused fault)) =
     (fault ≡ ILLEGAL_SYS) × ((call : SysCall) → SaysCall text call → ⊥)
 DecodesText text (Err NoMemory) = Unit {0}
 
--- WHICH TEXT IS GIVEN
+-- WHICH STRING IS RETURNED
 
--- for what was done none. A job is told from 1 on, and calls as two bytes, the high one first
+-- For Done it is empty. Jobs count from 1, and a number of calls is two bytes, the high one first.
 abbrev pub GivesText : Reply → List ℕ → Type 0
 GivesText Done text = text ≡ []
 GivesText (Message job account message) text =
@@ -70,7 +70,8 @@ GivesText (State job account calls) text =
     text ≡ (job + 1) ∷ account.project ∷ account.programmer ∷ (calls / 256) ∷ (calls % 256) ∷ []
 GivesText reply text = ⊥
 
--- the same as a function, for a meaning that goes on by it; of another reply it is empty
+-- the same as a function, for a definition that continues with the string; for other replies it is
+-- empty
 abbrev pub told_by_sys : Reply → List ℕ
 told_by_sys (Message job account message) =
     (job + 1) ∷ account.project ∷ account.programmer ∷ message
@@ -78,7 +79,7 @@ told_by_sys (State job account calls) =
     (job + 1) ∷ account.project ∷ account.programmer ∷ (calls / 256) ∷ (calls % 256) ∷ []
 told_by_sys reply = []
 
--- the replies for which a text is given: a job's number and a message are such as the monitor tells
+-- the replies that have a string: a job's number and a message are such as the monitor replies
 abbrev pub IsToldBySys : Reply → Type 0
 IsToldBySys Done = Unit {0}
 IsToldBySys (Message job account message) = (job < MOST_JOBS) × (length message ≤ LONGEST_MESSAGE)

@@ -1,20 +1,20 @@
-//! What a text of SYS asks.
+//! The calls that a string of SYS makes.
 
 use basic_values::Text;
 use monitor_calls::Request;
 
-/// Bytes of core common, at the most.
+/// The most bytes of core common.
 pub const MOST_COMMON: usize = 127;
 
-/// What a text of SYS asks.
+/// The call that a string of SYS makes.
 #[derive(Drop)]
 pub enum SysCall {
-    /// Gives core common.
+    /// Returns core common.
     ReadCommon,
-    /// Core common becomes this text, of at most 127 bytes.
+    /// Sets core common to this string, of at most 127 bytes.
     WriteCommon(Text),
-    /// Gives the words of the error of this number.
+    /// Returns the text of the error with this number.
     ErrorText(u8),
-    /// Asks the monitor.
+    /// Makes a request to the monitor.
     Ask(Request),
 }

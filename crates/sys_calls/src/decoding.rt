@@ -1,12 +1,14 @@
-//! Finds what a text of SYS asks: the codes in front are taken off one behind the other, and each function here reads
-//! what stands behind its code.
+//! Decodes a string of SYS: its codes are read one after another, and each function here reads what
+//! follows its code.
 
 ghost use Rattle.std.specs.Prelude.{◌≡◌, ◌≤◌, Some, Err, length, IfOk};
 ghost use Rattle.basic_values.specs.declared.errors.TheConstants.{ILLEGAL_SYS};
 ghost use Rattle.basic_values.specs.declared.failures.Trouble.TheVariants.{Refused};
 ghost use Rattle.basic_values.specs.declared.limits.TheConstants.{LONGEST_MESSAGE};
 ghost use Rattle.sys_calls.specs.Table.{DecodesText};
-ghost use Rattle.sys_calls.specs.CallFronts.{ReadsCall, only_call, common_in, error_in, declare_in, sent_to, send_in, message_call_in, monitor_call_in, call_in};
+ghost use Rattle.sys_calls.specs.CallFronts.{ReadsCall, only_call, common_in, error_in, declare_in};
+ghost use Rattle.sys_calls.specs.CallFronts.{sent_to, send_in, message_call_in, monitor_call_in};
+ghost use Rattle.sys_calls.specs.CallFronts.{call_in};
 
 use crate::calls::{MOST_COMMON, SysCall};
 use crate::receivers::receiver_in;
@@ -19,17 +21,18 @@ use std::alloc::Global;
 /// Bytes of a receiver's name.
 const NAME_BYTES: usize = 6;
 
-/// What the text asks. A text of no row is error 18, the manual's "Illegal SYS() usage".
+/// Returns the call of the string. A string that fits no row of the table is error 18, the manual's
+/// "Illegal SYS() usage".
 pub fn decode(alloc: Global, text: &[u8]) -> Result<SysCall, Trouble<Fault>>
     ensures says { DecodesText text.now result }
 
-    // The same as an equation, for a meaning that goes on by what was found.
+    // The same as an equation, for a definition that continues with the call.
     ensures found { ReadsCall (call_in text.now) result }
 {
     call_in(alloc, text)
 }
 
-/// The call of a text by its first code.
+/// Returns the call of a string, by its first code.
 #[tactic(auto, unfolding(crate::specs::CallFronts::call_of))]
 fn call_in(alloc: Global, text: &[u8]) -> Result<SysCall, Trouble<Fault>>
     ensures { ReadsCall (call_in text.now) result }
@@ -46,21 +49,21 @@ fn call_in(alloc: Global, text: &[u8]) -> Result<SysCall, Trouble<Fault>>
     }
 }
 
-/// No row has the text.
+/// Returns error 18: the string fits no row.
 fn illegal() -> Result<SysCall, Trouble<Fault>>
     ensures { result ≡ Err (Refused ILLEGAL_SYS) }
 {
     Err(Trouble::Refused(Fault::new(ILLEGAL_SYS)))
 }
 
-/// The call, where nothing stands behind its codes.
+/// Returns the call, if nothing follows its codes.
 fn only_call(call: SysCall, rest: &[u8]) -> Result<SysCall, Trouble<Fault>>
     ensures { ReadsCall (only_call call rest.now) result }
 {
     if rest.is_empty() { Ok(call) } else { illegal() }
 }
 
-/// The new core common.
+/// Returns the call that sets core common.
 fn common_in(alloc: Global, rest: &[u8]) -> Result<SysCall, Trouble<Fault>>
     ensures { ReadsCall (common_in rest.now) result }
 {
@@ -70,7 +73,7 @@ fn common_in(alloc: Global, rest: &[u8]) -> Result<SysCall, Trouble<Fault>>
     Ok(SysCall::WriteCommon(copy_of(alloc, rest)?))
 }
 
-/// A copy of bytes that are no more than a message has.
+/// Returns a copy of bytes, at most as many as a message has.
 fn copy_of(alloc: Global, bytes: &[u8]) -> Result<Text, NoMemory>
     requires { length bytes.now ≤ LONGEST_MESSAGE }
     ensures { IfOk result (λ text. text ≡ bytes.now) }
@@ -81,7 +84,7 @@ fn copy_of(alloc: Global, bytes: &[u8]) -> Result<Text, NoMemory>
     }
 }
 
-/// The call behind code 6, that of calls of the monitor.
+/// Returns the call after code 6, a call of the monitor or of error texts.
 #[tactic(auto, unfolding(crate::specs::CallFronts::monitor_call_of))]
 fn monitor_call_in(alloc: Global, text: &[u8]) -> Result<SysCall, Trouble<Fault>>
     ensures { ReadsCall (monitor_call_in text.now) result }
@@ -98,7 +101,7 @@ fn monitor_call_in(alloc: Global, text: &[u8]) -> Result<SysCall, Trouble<Fault>
     }
 }
 
-/// The error whose words are asked.
+/// Returns the call for the text of an error.
 fn error_in(rest: &[u8]) -> Result<SysCall, Trouble<Fault>>
     ensures { ReadsCall (error_in rest.now) result }
 {
@@ -109,7 +112,7 @@ fn error_in(rest: &[u8]) -> Result<SysCall, Trouble<Fault>>
     }
 }
 
-/// The call behind codes 6 and 22, those of messages.
+/// Returns the call after codes 6 and 22, a call of messages.
 #[tactic(auto, unfolding(crate::specs::CallFronts::message_call_of))]
 fn message_call_in(alloc: Global, text: &[u8]) -> Result<SysCall, Trouble<Fault>>
     ensures { ReadsCall (message_call_in text.now) result }
@@ -127,7 +130,7 @@ fn message_call_in(alloc: Global, text: &[u8]) -> Result<SysCall, Trouble<Fault>
     }
 }
 
-/// The name of a receiver to be declared, and how many messages it takes.
+/// Returns the call that declares a receiver with this name, for this many messages.
 fn declare_in(rest: &[u8]) -> Result<SysCall, Trouble<Fault>>
     ensures { ReadsCall (declare_in rest.now) result }
 {
@@ -143,7 +146,7 @@ fn declare_in(rest: &[u8]) -> Result<SysCall, Trouble<Fault>>
     }
 }
 
-/// The name of a receiver, and the message to it.
+/// Returns the call that sends a message to the receiver with this name.
 fn send_in(alloc: Global, rest: &[u8]) -> Result<SysCall, Trouble<Fault>>
     ensures { ReadsCall (send_in rest.now) result }
 {
@@ -156,7 +159,7 @@ fn send_in(alloc: Global, rest: &[u8]) -> Result<SysCall, Trouble<Fault>>
     }
 }
 
-/// The message to a receiver.
+/// Returns the call that sends this message to a receiver.
 fn sent_to(alloc: Global, name: Short, message: &[u8]) -> Result<SysCall, Trouble<Fault>>
     requires { length message.now ≤ LONGEST_MESSAGE }
     ensures { ReadsCall (sent_to (Some name) message.now) result }

@@ -1,4 +1,4 @@
-//! Tells what the monitor replied, as the text that SYS gives.
+//! Encodes the monitor's replies as the strings that SYS returns.
 
 ghost use Rattle.std.specs.Prelude.{◌≡◌, ◌≤◌, ◌<◌, ◌+◌, [], ◌∷◌, ◌++◌, length, IfOk};
 ghost use Rattle.basic_values.specs.declared.limits.TheConstants.{LONGEST_MESSAGE, MOST_JOBS};
@@ -8,13 +8,13 @@ use basic_values::{NoMemory, Text, concat};
 use monitor_calls::{Account, Reply};
 use std::alloc::Global;
 
-/// The text that is given for a reply: empty for what was done; a message behind the job and the account that sent it;
-/// a job's calls behind its number and its account. Jobs are told from 1 on.
+/// Returns the string for a reply: empty for Done; a message after the job and the account that
+/// sent it; the number of a job's calls after the job and its account. Jobs count from 1.
 pub fn encode(alloc: Global, reply: &Reply) -> Result<Text, NoMemory>
     requires { IsToldBySys reply.now }
     ensures gives { IfOk result (λ text. GivesText reply.now text) }
 
-    // The same as an equation, for a meaning that goes on by it.
+    // The same as an equation, for a definition that continues with the string.
     ensures told { IfOk result (λ text. text ≡ told_by_sys reply.now) }
 {
     match reply {
@@ -30,7 +30,7 @@ pub fn encode(alloc: Global, reply: &Reply) -> Result<Text, NoMemory>
     }
 }
 
-/// A job, told from 1 on, and its account.
+/// Returns a job, counted from 1, and its account.
 fn whose(job: u32, account: &Account) -> [u8; 3]
     requires { job < MOST_JOBS }
     ensures { result ≡ (job + 1) ∷ account.now.project ∷ account.now.programmer ∷ [] }
@@ -38,7 +38,7 @@ fn whose(job: u32, account: &Account) -> [u8; 3]
     [job as u8 + 1, account.project, account.programmer]
 }
 
-/// A text of few bytes, in two parts.
+/// Returns a short string, joined from two parts.
 fn joined(alloc: Global, front: &[u8], behind: &[u8]) -> Result<Text, NoMemory>
     requires front { length front.now ≡ 3 }
     requires behind { length behind.now ≤ LONGEST_MESSAGE }

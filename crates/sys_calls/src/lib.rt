@@ -1,9 +1,9 @@
-//! The texts of SYS: what each asks, and the text that it gives.
+//! The strings of SYS: the call that each makes, and the string that the call returns.
 //!
-//! It stands on `monitor_calls`, whose requests a text may ask and whose replies are told as a text, and on
-//! `basic_values`. `specs/Table` is the table of the texts, a row for each call. `decode` carries that it finds the
-//! call of a text, and that exactly the texts of no row are error 18; `encode`, that it tells a reply as the table
-//! does; `laws`, that a text is one call at the most, and that one text is given.
+//! `specs/Table` is the table of the strings, a row for each call. `decode` promises to find the
+//! call of a string, and that exactly the strings that fit no row are error 18. `encode` promises
+//! the string of the table for a reply. `laws` says that a string is at most one call, and that a
+//! reply becomes one string. Requests and replies are those of `monitor_calls`.
 #![tactic(auto)]
 
 mod calls;

@@ -1,4 +1,4 @@
-//! The names of receivers, as they stand in a text of SYS.
+//! The names of receivers, as they are written in a string of SYS.
 
 ghost use Rattle.std.specs.Prelude.{◌≡◌, ◌≤◌, ◌==◌, length, map};
 ghost use Rattle.std.specs.Char.{to_ascii_uppercase};
@@ -8,7 +8,8 @@ ghost use Rattle.sys_calls.specs.CallFronts.{receiver_in, receiver_before};
 
 use monitor_calls::Short;
 
-/// The name that six bytes say: 1 to 6 letters, which are raised, or digits, and behind them spaces.
+/// Returns the name that six bytes spell: 1 to 6 letters, which become capitals, or digits, and
+/// then spaces.
 pub(crate) fn receiver_in(six: &[u8]) -> Option<Short>
     requires { length six.now ≡ 6 }
     ensures { result ≡ receiver_in six.now }
@@ -16,7 +17,7 @@ pub(crate) fn receiver_in(six: &[u8]) -> Option<Short>
     receiver_before(&raised(six))
 }
 
-/// The bytes with their letters raised.
+/// Returns the bytes with letters as capitals.
 fn raised(six: &[u8]) -> [u8; 6]
     requires { length six.now ≡ 6 }
     ensures { result ≡ map to_ascii_uppercase six.now }
@@ -27,7 +28,7 @@ fn raised(six: &[u8]) -> [u8; 6]
     bytes
 }
 
-/// The name that stands before spaces.
+/// Returns the name before the spaces.
 fn receiver_before(raised: &[u8]) -> Option<Short>
     ensures { result ≡ receiver_before raised.now }
 {
@@ -38,7 +39,7 @@ fn receiver_before(raised: &[u8]) -> Option<Short>
     Short::password(&raised[..count])
 }
 
-/// How many capital letters and digits the text begins with.
+/// Returns how many capital letters and digits the text begins with.
 fn capitals_and_digits_in_front(text: &[u8]) -> usize
     ensures count { result ≡ prefix_len is_capital_or_digit text.now }
     ensures within { result ≤ length text.now }

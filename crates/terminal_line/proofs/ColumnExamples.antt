@@ -1,10 +1,8 @@
--- Columns, and what moves them, worked out.
+-- Columns, and what changes them, computed.
 use Rattle.std.proofs.Common.{◌≡◌, [], ◌∷◌, replicate, refl}
 use Rattle.std.specs.Prelude.{codes, pos, negsuc}
 use Rattle.basic_values.specs.Texts.{space}
-use Rattle.terminal_line.specs.declared.keys.Key.TheVariants.{Line, ControlZ, End}
 use Rattle.terminal_line.specs.Columns.{column_behind, column_of, zone_text, tab_text, fresh_text}
-use Rattle.terminal_line.specs.Keys.{next_key}
 
 printed : column_of (codes " 1  2 ") ≡ 6
 printed = refl
@@ -16,7 +14,7 @@ behind_the_end_of_a_line = refl
 line_feed_alone : column_of (codes "AB\nC") ≡ 3
 line_feed_alone = refl
 
--- BEL, BS, TAB and DEL move nothing; bytes from 128 on do
+-- BEL, BS, TAB and DEL do not change the column; bytes from 128 on do
 control_bytes : column_of (65 ∷ 7 ∷ 8 ∷ 9 ∷ 127 ∷ 128 ∷ 255 ∷ []) ≡ 3
 control_bytes = refl
 
@@ -59,16 +57,3 @@ fresh = refl
 
 not_fresh : fresh_text 1 ≡ codes "\r\n"
 not_fresh = refl
-
-a_line : next_key (codes "RUN" ∷ codes "^Z" ∷ []) ≡ Line (codes "RUN")
-a_line = refl
-
-control_z : next_key (codes "^Z" ∷ []) ≡ ControlZ
-control_z = refl
-
--- a blank in front makes it a line like others
-no_control_z : next_key (codes " ^Z" ∷ []) ≡ Line (codes " ^Z")
-no_control_z = refl
-
-no_keys : next_key [] ≡ End
-no_keys = refl

@@ -1,4 +1,4 @@
--- Columns behind bytes that move them.
+-- Columns after bytes that change them.
 use Rattle.std.proofs.Common.{◌≡◌, ℕ, zero, suc, ◌+◌, ◌-◌, ◌%◌, ◌<◌, ◌≤◌, List, [], ◌∷◌, ◌++◌, replicate, ap, ◌∙◌, arith}
 use Rattle.std.specs.Prelude.{max, pos}
 use Rattle.std.specs.List.{fold}
@@ -23,7 +23,7 @@ pub ruleset most = (column_of-le)
 space_step : (column : ℕ) → column < MOST_COLUMN → column_behind column space ≡ column + 1
 space_step column h = grind (arith, nat_tests)
 
--- behind so many spaces
+-- after this many spaces
 pub spaced : (column count : ℕ) → column + count ≤ MOST_COLUMN → fold column_behind column (replicate count space) ≡ column + count
 spaced column zero h = omega arith
 spaced column (suc count) h = ap (λ (k : ℕ). fold column_behind k (replicate count space)) (space_step column (omega arith)) ∙ spaced (column + 1) count (omega arith) ∙ omega arith

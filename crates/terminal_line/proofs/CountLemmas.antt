@@ -1,4 +1,4 @@
--- The column counts the printed bytes behind the last CR.
+-- The column counts the printed bytes after the last CR.
 use Rattle.std.proofs.Common.{◌≡◌, ℕ, suc, ◌+◌, ◌-◌, ◌<◌, ◌≤◌, ◌⊎◌, inl, inr, Bool, true, false, cond, List, [], ◌∷◌, length, drop, refl, sym, ap, ◌∙◌, arith}
 use Rattle.std.specs.Prelude.{filter, min, not, nat_lt, ◌==◌, reverse}
 use Rattle.std.specs.List.{fold, suffix_len, after_last, prefix_len}
@@ -14,7 +14,7 @@ use Rattle.terminal_line.specs.Columns.{is_return, is_printed, column_behind, co
 abbrev stays : ℕ → Bool
 stays byte = not (is_return byte)
 
--- how many bytes stand behind the last CR
+-- how many bytes follow the last CR
 abbrev tail : List ℕ → ℕ
 tail bytes = suffix_len stays bytes
 
@@ -43,7 +43,7 @@ shape bytes = by (cases_lt (tail bytes) (length bytes))
     by (inl some) = inr some
     by (inr all) = inl (omega (arith, suffix_len-le-length stays bytes))
 
--- a byte that is no CR, and then the count of the others
+-- a byte that is not CR, and then the count of the others
 step_by : (column byte : ℕ) (bytes : List ℕ) (p b : Bool) → is_printed byte ≡ p → nat_lt column MOST_COLUMN ≡ b → column ≤ MOST_COLUMN → is_return byte ≡ false
     → min (column_behind column byte + length (filter is_printed bytes)) MOST_COLUMN ≡ min (column + length (filter is_printed (byte ∷ bytes))) MOST_COLUMN
 step_by column byte bytes false b printed less le no_cr = rw (no_cr, printed) refl
@@ -54,7 +54,7 @@ step_count : (column byte : ℕ) (bytes : List ℕ) → column ≤ MOST_COLUMN �
     → min (column_behind column byte + length (filter is_printed bytes)) MOST_COLUMN ≡ min (column + length (filter is_printed (byte ∷ bytes))) MOST_COLUMN
 step_count column byte bytes le no_cr = step_by column byte bytes (is_printed byte) (nat_lt column MOST_COLUMN) refl refl le no_cr
 
--- where no CR stands
+-- if there is no CR
 abbrev Counts : List ℕ → Type 0
 Counts bytes = (column : ℕ) → column ≤ MOST_COLUMN → tail bytes ≡ length bytes → fold column_behind column bytes ≡ min (column + length (filter is_printed bytes)) MOST_COLUMN
 
@@ -70,7 +70,7 @@ whole (byte ∷ bytes) column le all = whole_by byte bytes (is_return byte) refl
 whole_first : (bytes : List ℕ) → tail bytes ≡ length bytes → column_of bytes ≡ min (length (filter is_printed bytes)) MOST_COLUMN
 whole_first bytes all = whole bytes 0 (omega arith) all ∙ omega arith
 
--- where one stands
+-- if there is one
 abbrev CountsBehind : List ℕ → Type 0
 CountsBehind bytes = (column : ℕ) → column ≤ MOST_COLUMN → tail bytes < length bytes → fold column_behind column bytes ≡ min (length (filter is_printed (after_last is_return bytes))) MOST_COLUMN
 

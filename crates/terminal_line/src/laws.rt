@@ -1,19 +1,18 @@
-//! What a user relies on, as laws over the definitions: each is the contract of a function that
-//! does nothing.
+//! Laws about the definitions of this crate. Each is the contract of a function with an empty body.
 
 ghost use Rattle.terminal_line.specs.Laws.{ColumnCounts, TabsReach, ZonesReach};
 
-/// The column is the number of printed bytes behind the last CR, up to the greatest column.
+/// The column is the number of printed bytes after the last CR, up to the greatest column.
 pub fn column_counts()
     ensures { ColumnCounts }
 {}
 
-/// Behind TAB the column is the wanted one, where it was less, and else as it was.
+/// After TAB the column is the wanted one if it was less, and otherwise as it was.
 pub fn tabs_reach()
     ensures { TabsReach }
 {}
 
-/// Behind a comma the column is the next one that a zone begins at.
+/// After a comma the column is the next one at which a zone begins.
 pub fn zones_reach()
     ensures { ZonesReach }
 {}

@@ -1,16 +1,13 @@
-//! A terminal line: the keys that are typed at it, and the bytes that its screen was given.
+//! The screen of a terminal: the bytes that it was given, and the column of the next one.
 //!
-//! `Keys` carries that keys come in order, and behind the last one the end for ever. `Screen` is
-//! seen as the list of its bytes: each call carries which bytes it adds, and `column` where the
-//! next one will stand. `column_from` tells that of any bytes, for channels, which have columns
-//! too. It stands on `basic_values` alone.
+//! The view of a `Screen` is the list of its bytes. The contract of each call says which bytes it
+//! adds, and `column` returns the column of the next byte. `column_from` computes the column after
+//! any bytes, since channels have columns too. The crate depends on `basic_values` alone.
 #![tactic(auto)]
 
 mod columns;
-mod keys;
 pub mod laws;
 mod screen;
 
 pub use columns::{LAST_ZONE, MOST_COLUMN, ZONE_WIDTH, column_from};
-pub use keys::{Key, Keys};
 pub use screen::Screen;

@@ -1,9 +1,10 @@
 //! The screen of a terminal.
 
-ghost use Rattle.std.specs.Prelude.{◌≡◌, [], ◌++◌, ◌≤◌, codes, replicate};
+ghost use Rattle.std.specs.Prelude.{◌≡◌, [], ◌++◌, ◌≤◌, OnOk, OnErr, codes, replicate};
 ghost use Rattle.std.specs.List.{fold};
 ghost use Rattle.basic_values.specs.Texts.{space};
 ghost use Rattle.terminal_line.specs.Columns.{column_of, zone_text, tab_text, fresh_text};
+ghost use Rattle.terminal_line.specs.Columns.{on_fresh_line};
 ghost use Rattle.terminal_line.specs.Writing.{Writes};
 
 use crate::columns::{LAST_ZONE, MOST_COLUMN, ZONE_WIDTH, column_from};
@@ -11,7 +12,7 @@ use basic_values::{Int, NoMemory, Text2};
 use std::alloc::Global;
 use std::marker::Model;
 
-/// The bytes that a terminal was given so far. What is written where memory runs out adds nothing.
+/// The bytes that a terminal was given so far. A write during which memory runs out adds nothing.
 #[derive(Drop)]
 pub struct Screen {
     bytes: Vec<u8>,
@@ -30,7 +31,7 @@ impl Model for Screen {
 }
 
 impl Screen {
-    /// A screen without a byte. It takes no memory.
+    /// Returns a screen without bytes. It takes no memory.
     pub fn new(alloc: Global) -> Screen
         ensures { result ≡ [] }
     {
@@ -63,7 +64,7 @@ impl Screen {
         Ok(())
     }
 
-    /// What a comma of PRINT writes: spaces up to the next zone, or CR and LF in the last one.
+    /// Writes what a comma of PRINT does: spaces up to the next zone, or CR and LF in the last one.
     pub fn zone(&mut self) -> Result<(), NoMemory>
         ensures { Writes (zone_text (column_of self.old)) self.old self.new result }
     {
@@ -74,7 +75,7 @@ impl Screen {
         }
     }
 
-    /// What TAB of PRINT writes: spaces up to column `n`, where the column is less.
+    /// Writes what TAB of PRINT does: spaces up to column `n`, if the column is less.
     pub fn tab(&mut self, n: Int) -> Result<(), NoMemory>
         ensures { Writes (tab_text n (column_of self.old)) self.old self.new result }
     {
@@ -82,8 +83,25 @@ impl Screen {
         self.write_spaces(u32::from(wanted).saturating_sub(self.column))
     }
 
-    /// Begins a new line by CR and LF, unless the column is 0.
-    pub fn fresh_line(&mut self) -> Result<(), NoMemory>
+    /// Writes a text at the start of a line: CR and LF come first, unless the column is 0. If
+    /// memory runs out, the screen is as it was.
+    pub fn begin_line(&mut self, text: &[u8]) -> Result<(), NoMemory>
+        ensures written { OnOk result (self.new ≡ on_fresh_line text.now self.old) }
+        ensures refused { OnErr result (self.new ≡ self.old) }
+    {
+        let length = self.bytes.len();
+        let column = self.column;
+        self.fresh_line()?;
+        if self.write(text).is_err() {
+            self.bytes.truncate(length);
+            self.column = column;
+            return Err(NoMemory);
+        }
+        Ok(())
+    }
+
+    /// Writes CR and LF, unless the column is 0.
+    fn fresh_line(&mut self) -> Result<(), NoMemory>
         ensures { Writes (fresh_text (column_of self.old)) self.old self.new result }
     {
         if self.column == 0 {
@@ -93,7 +111,7 @@ impl Screen {
         }
     }
 
-    /// The column of the next byte.
+    /// Returns the column of the next byte.
     #[tactic(auto, using(crate::proofs::ColumnLemmas::most))]
     pub fn column(&self) -> u32
         ensures column { result ≡ column_of self.now }
@@ -102,14 +120,14 @@ impl Screen {
         self.column
     }
 
-    /// The bytes so far.
+    /// Returns the bytes so far.
     pub fn bytes(&self) -> &[u8]
         ensures { result.now ≡ self.now }
     {
         self.bytes.as_slice()
     }
 
-    /// The bytes, for the record of a run. It takes no memory.
+    /// Returns the bytes, and ends the screen. It takes no memory.
     pub fn close(self) -> Text2
         ensures { result ≡ self }
     {

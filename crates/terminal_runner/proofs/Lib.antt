@@ -1,3 +1,5 @@
+pub mod BatchLemmas
 pub mod Joins
 pub mod Paced
+pub mod PortLemmas
 pub mod Seated

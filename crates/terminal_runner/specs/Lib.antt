@@ -1,3 +1,6 @@
+pub mod Batches
+pub mod Keyboards
+pub mod Logs
 pub mod Paced
 pub mod Runs
 pub mod Seats

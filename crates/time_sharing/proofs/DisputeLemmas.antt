@@ -3,6 +3,7 @@ use Rattle.std.proofs.Common.{◌≡◌, ℕ, zero, suc, ◌+◌, ◌<◌, List,
 use Rattle.std.specs.Prelude.{slice_get}
 use Rattle.std.proofs.lemmas.Option.{slice_get_within}
 use Rattle.monitor_calls.specs.declared.calls.Entry.{Entry}
+use Rattle.monitor_calls.specs.Typing.{all_typed}
 use Rattle.monitor_model.specs.State.{State}
 use Rattle.monitor_model.specs.Answer.{next}
 use Rattle.monitor_model.specs.History.{after, IsAnswered, Legal, part_of}
@@ -58,15 +59,15 @@ one_reply m history p q w v =
 job_later : (deck : Deck) (history : List Entry) (p q : ℕ) (w : WrongRequest deck history p) (v : WrongRequest deck history q) → w.job < v.job → ⊥
 job_later deck history p q w v less =
     let talked = v.earlier w.job w.terminal less w.is_terminal in
-    not_otherwise w.terminal.keys (part_of w.job history) talked.0 w.place talked.1 w.otherwise
+    not_otherwise (all_typed w.terminal.keys) (part_of w.job history) talked.0 w.place talked.1 w.otherwise
 
 one_request : (deck : Deck) (history : List Entry) (p q : ℕ) → WrongRequest deck history p → WrongRequest deck history q → p ≡ q
 one_request deck history p q w v =
     let job : w.job ≡ v.job = same_unless w.job v.job (job_later deck history p q w v) (job_later deck history q p v w) in
     let terminal : w.terminal ≡ v.terminal = same_at deck.terminals v.job w.terminal v.terminal (subst (λ (j : ℕ). slice_get deck.terminals j ≡ Some w.terminal) job w.is_terminal) v.is_terminal in
-    let there = subst (λ (j : ℕ). TalksOtherwise w.terminal.keys (part_of j history) w.place) job w.otherwise in
-    let otherwise : TalksOtherwise v.terminal.keys (part_of v.job history) w.place = subst (λ (t : Terminal). TalksOtherwise t.keys (part_of v.job history) w.place) terminal there in
-    let place : w.place ≡ v.place = one_otherwise v.terminal.keys (part_of v.job history) w.place v.place otherwise v.otherwise in
+    let there = subst (λ (j : ℕ). TalksOtherwise (all_typed w.terminal.keys) (part_of j history) w.place) job w.otherwise in
+    let otherwise : TalksOtherwise (all_typed v.terminal.keys) (part_of v.job history) w.place = subst (λ (t : Terminal). TalksOtherwise (all_typed t.keys) (part_of v.job history) w.place) terminal there in
+    let place : w.place ≡ v.place = one_otherwise (all_typed v.terminal.keys) (part_of v.job history) w.place v.place otherwise v.otherwise in
     w.entry_is ∙ (λ i. entry_position (job i) (place i) history) ∙ sym v.entry_is
 
 -- in a run all terminals have talked
@@ -74,7 +75,7 @@ run_or_request : (deck : Deck) (history : List Entry) (screens : List (List ℕ)
 run_or_request deck history screens p run w =
     let within = slice_get_within deck.terminals w.job w.terminal w.is_terminal in
     let screen = some_at screens w.job (omega (arith, within, run.talks.as_many)) in
-    not_otherwise w.terminal.keys (part_of w.job history) screen.0 w.place (run.talks.each w.job w.terminal screen.0 w.is_terminal screen.1) w.otherwise
+    not_otherwise (all_typed w.terminal.keys) (part_of w.job history) screen.0 w.place (run.talks.each w.job w.terminal screen.0 w.is_terminal screen.1) w.otherwise
 
 -- ONE VERDICT ON A TEXT
 

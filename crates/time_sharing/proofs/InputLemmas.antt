@@ -9,7 +9,7 @@ use Rattle.std.proofs.lemmas.List.Splits.{length-slice_split}
 use Rattle.basic_values.specs.Cuts.{cut}
 use Rattle.basic_values.proofs.CutLaws.{Lacks, guard_some, cut_takes, cut_again, cut_nowhere}
 use Rattle.deck_model.specs.Lines.{parts_of, lines_in, last_in, whole_lines, cut_line}
-use Rattle.deck_reader.proofs.LineLemmas.{line_found, line_missed}
+use Rattle.deck_model.proofs.LineLaws.{line_found, line_missed}
 use Rattle.time_sharing.specs.Inputs.{HaveNoEnd, StopAtEnd, IsAll, Divided}
 
 -- LINES BEHIND LINES

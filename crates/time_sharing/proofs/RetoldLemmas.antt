@@ -9,26 +9,24 @@ use Rattle.monitor_calls.specs.declared.calls.Entry.{Entry}
 use Rattle.monitor_calls.specs.Pairs.{Pair}
 use Rattle.monitor_model.specs.State as monitor
 use Rattle.monitor_model.specs.History.{Legal, part_of}
-use Rattle.terminal_runner.specs.Runs.{does_at}
 use Rattle.deck_model.specs.Deck as model
-use Rattle.deck_model.specs.Histories.{request_text, reply_text, entry_line, entry_lines, history_text}
+use Rattle.deck_model.specs.Histories.{request_text, reply_text, entry_line, entry_lines, count_text, history_text}
 use Rattle.deck_model.specs.Report.{report}
 use Rattle.deck_reader.specs.declared.decks.Deck.{Deck}
 use Rattle.deck_reader.specs.Seen.{deck_of, terminal_of}
 use Rattle.history_reader.specs.EndedLines.{onto_line, ended_lines}
 use Rattle.history_reader.specs.HistoryReading.{TellsHistory, WrongAt}
-use Rattle.history_replay.specs.Disputes.{WrongReply, WrongMeaning, IsReplay, Replays}
+use Rattle.history_replay.specs.Disputes.{each_does, WrongReply, WrongMeaning, IsReplay, Replays}
 use Rattle.history_replay.specs.declared.disputes.Dispute.{Dispute}
 use Rattle.history_replay.specs.declared.disputes.Dispute.TheVariants as dispute
 use Rattle.history_replay.proofs.Positions.{position-le}
-use Rattle.time_sharing.specs.Sessions.{session_keys, typed_keys}
-use Rattle.time_sharing.specs.declared.runs.TerminalSession.{TerminalSession}
+use Rattle.time_sharing.specs.Sessions.{job_lines, typed_keys}
 use Rattle.time_sharing.specs.Disputes.{WrongRequest, Disputes}
 use Rattle.time_sharing.specs.InputEnds.{IsRetold, IsDisputed, RetoldBy, entry_of, fault_of}
 use Rattle.time_sharing.specs.Replays.{Retells}
 use Rattle.time_sharing.specs.Runs.{opening_of, names_in}
 use Rattle.time_sharing.proofs.DisputeLemmas.{some_at}
-use Rattle.time_sharing.proofs.RunLemmas.{as_many, as_many_sessions, session_does, did_talk, all_talk, opening_is}
+use Rattle.time_sharing.proofs.RunLemmas.{Job, job_does, as_many, as_many_jobs, did_talk, all_talk, opening_is}
 use Rattle.time_sharing.proofs.TalkLemmas.{departs_talk}
 
 -- BOUNDS
@@ -64,7 +62,7 @@ entries_few (entry ∷ history) =
 pub entries_within : (text : List ℕ) (history : List Entry) → TellsHistory text history → length history ≤ length text
 entries_within text history tells =
     let few = entries_few history in
-    let both = length-append (codes "HISTORY " ++ decimal (length history) ++ codes "\n") (entry_lines history) in
+    let both = length-append (codes "HISTORY " ++ count_text (length history) ++ codes "\n") (entry_lines history) in
     let same : length text ≡ length (history_text history) = ap length tells.text_is in
     omega arith
 
@@ -81,17 +79,17 @@ disputed_within deck history (dispute.Meaning job place entry) wrong =
 
 -- DISPUTES
 
-module _ (deck : Deck) (sessions : List TerminalSession) (opening : monitor.State) (jobs made : ℕ) (are : map session_keys sessions ≡ map typed_keys deck.terminals.items)
-    (opened : opening ≡ monitor.opening deck.volume.accounts.items deck.volume.blocks deck.volume.files.items jobs) (count : jobs ≡ length deck.terminals.items) (many : made ≡ length sessions) where
+module _ (deck : Deck) (jobs : List Job) (opening : monitor.State) (number made : ℕ) (are : map job_lines jobs ≡ map typed_keys deck.terminals.items)
+    (opened : opening ≡ monitor.opening deck.volume.accounts.items deck.volume.blocks deck.volume.files.items number) (count : number ≡ length deck.terminals.items) (many : made ≡ length jobs) where
   abbrev does : ℕ → List Pair → List ℕ → Type 0
-  does job pairs screen = does_at session_does sessions job pairs screen
+  does job pairs screen = each_does job_does jobs job pairs screen
 
   state : opening ≡ opening_of (deck_of deck)
-  state = opening_is deck opening jobs opened count
+  state = opening_is deck opening number opened count
 
   wrong_request : (history : List Entry) (job place position : ℕ) → Legal opening history → WrongMeaning does history made job place position → WrongRequest (deck_of deck) history position
   wrong_request history job place position legal wrong =
-      let within : job < length (map terminal_of deck.terminals.items) = let less = wrong.is_job in let all = as_many deck.terminals.items in let each = as_many_sessions deck sessions are in omega (arith, many) in
+      let within : job < length (map terminal_of deck.terminals.items) = let less = wrong.is_job in let all = as_many deck.terminals.items in let each = as_many_jobs deck jobs are in omega (arith, many) in
       let terminal = some_at (map terminal_of deck.terminals.items) job within in
       let departs = wrong.departs in
       record {
@@ -99,9 +97,9 @@ module _ (deck : Deck) (sessions : List TerminalSession) (opening : monitor.Stat
         job = job;
         terminal = terminal.0;
         is_terminal = terminal.1;
-        earlier = λ j other less is. let did = wrong.earlier j less in (did.0, did_talk deck sessions are j other (part_of j history) did.0 is did.1);
+        earlier = λ j other less is. let did = wrong.earlier j less in (did.0, did_talk deck jobs are j other (part_of j history) did.0 is did.1);
         place = place;
-        otherwise = departs_talk terminal.0.keys departs.pairs (part_of job history) departs.screen place (did_talk deck sessions are job terminal.0 departs.pairs departs.screen terminal.1 departs.done) departs.common departs.within_pairs departs.differs;
+        otherwise = departs_talk terminal.0.keys departs.pairs (part_of job history) departs.screen place (did_talk deck jobs are job terminal.0 departs.pairs departs.screen terminal.1 departs.done) departs.common departs.within_pairs departs.differs;
         entry_is = wrong.position_is;
       }
 
@@ -109,7 +107,7 @@ module _ (deck : Deck) (sessions : List TerminalSession) (opening : monitor.Stat
   pub retold : (history : List Entry) (screens : List (List ℕ)) → IsReplay does opening history made screens → IsRetold (deck_of deck) history screens
   retold history screens replayed = record {
     legal = subst (λ (m : monitor.State). Legal m history) state replayed.legal;
-    talks = all_talk deck sessions are history screens (replayed.one_each ∙ many ∙ as_many_sessions deck sessions are) replayed.all_did;
+    talks = all_talk deck jobs are history screens (replayed.one_each ∙ many ∙ as_many_jobs deck jobs are) replayed.all_did;
   }
 
   pub disputed : (history : List Entry) (why : Dispute) → Replays does opening made history (Err (trouble.Refused why)) → IsDisputed (deck_of deck) history why

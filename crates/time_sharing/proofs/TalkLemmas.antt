@@ -6,9 +6,12 @@ use Rattle.std.proofs.lemmas.List.{take-append-drop, take-append-le, take-map, m
 use Rattle.monitor_calls.specs.declared.calls.Request.{Request}
 use Rattle.monitor_calls.specs.declared.calls.Reply.{Reply}
 use Rattle.monitor_calls.specs.Pairs.{Pair, requests, replies}
+use Rattle.monitor_calls.specs.Typing.{Typing, Over, all_typed}
 use Rattle.basic_tree.specs.LineVerdicts.{Judge}
-use Rattle.job_model.specs.Play.{Outcome, Finished, Waits, Spent, Played}
+use Rattle.job_model.specs.Play.{Outcome, Finished, Waits, Listens, Spent, Played}
 use Rattle.job_model.specs.PlayLaws.{EndsWith, GrowsTo}
+use Rattle.job_model.proofs.Plays.{closed_typing}
+use Rattle.terminal_runner.proofs.BatchLemmas.{over_again}
 use Rattle.session_model.specs.Talk.{talk}
 use Rattle.session_model.proofs.Talks.{talk_ends_lem, talk_grows_lem}
 use Rattle.time_sharing.specs.Disputes.{DifferAt, TalksOtherwise}
@@ -60,34 +63,43 @@ agree_behind place made more other count =
     let next = λ (rest : List Request). get_front made rest place (omega (arith, count)) in
     (first more ∙ sym (first other), next more ∙ sym (next other))
 
-agree_longer : {E : Type 0} (given : List Reply) (made : List Request) (o : Outcome E) (longer other : Played E) → EndsWith made o given → GrowsTo made o longer → GrowsTo made o other → Agree (length given) longer.0 other.0
-agree_longer {E} given made (Finished end) longer other ends grows grows' =
+agree_longer : {E : Type 0} (lines : List (List ℕ)) (given : List Reply) (made : List Request) (o : Outcome E) (longer other : Played E) → EndsWith made o (all_typed lines) given → GrowsTo made o longer → GrowsTo made o other → Agree (length given) longer.0 other.0
+agree_longer {E} lines given made (Finished end) longer other ends grows grows' =
     let same : longer.0 ≡ other.0 = ap (λ (p : Played E). p.0) (grows ∙ sym grows') in
     (ap (take (length given)) same, ap (λ (l : List Request). slice_get l (length given)) same)
-agree_longer given made Waits longer other ends grows grows' =
+agree_longer lines given made Waits longer other ends grows grows' =
     let both = agree_behind (length given) made grows.0 grows'.0 ends in
     (ap (take (length given)) grows.1 ∙ both.0 ∙ ap (take (length given)) (sym grows'.1), ap (λ (l : List Request). slice_get l (length given)) grows.1 ∙ both.1 ∙ ap (λ (l : List Request). slice_get l (length given)) (sym grows'.1))
-agree_longer given made Spent longer other ends grows grows' = absurd ends
+agree_longer lines given made Listens longer other ends grows grows' = absurd (closed_typing lines ends.0)
+agree_longer lines given made Spent longer other ends grows grows' = absurd ends
+
+-- with more replies
+talk_on : (judge : Judge) (lines : List (List ℕ)) (given more : List Reply) → let played = talk judge (all_typed lines) given in GrowsTo played.0 played.1 (talk judge (all_typed lines) (given ++ more))
+talk_on judge lines given more =
+    let played = talk judge (all_typed lines) given in
+    subst (λ (keys : Typing). GrowsTo played.0 played.1 (talk judge keys (given ++ more))) (sym (over_again lines Over)) (talk_grows_lem judge (all_typed lines) Over given more)
 
 -- replies that begin alike
-talks_agree : (judge : Judge) (keys : List (List ℕ)) (given more other : List Reply) → Agree (length given) (talk judge keys (given ++ more)).0 (talk judge keys (given ++ other)).0
-talks_agree judge keys given more other =
+talks_agree : (judge : Judge) (lines : List (List ℕ)) (given more other : List Reply) → Agree (length given) (talk judge (all_typed lines) (given ++ more)).0 (talk judge (all_typed lines) (given ++ other)).0
+talks_agree judge lines given more other =
+    let keys = all_typed lines in
     let t = talk judge keys given in
-    agree_longer given t.0 t.1 (talk judge keys (given ++ more)) (talk judge keys (given ++ other)) (talk_ends_lem judge keys given) (talk_grows_lem judge keys given more) (talk_grows_lem judge keys given other)
+    agree_longer lines given t.0 t.1 (talk judge keys (given ++ more)) (talk judge keys (given ++ other)) (talk_ends_lem judge keys given) (talk_on judge lines given more) (talk_on judge lines given other)
 
 cut_replies : (place : ℕ) (pairs : List Pair) → replies pairs ≡ replies (take place pairs) ++ replies (drop place pairs)
 cut_replies place pairs = ap replies (sym (take-append-drop place pairs)) ∙ map-append (λ (pair : Pair). pair.1) (take place pairs) (drop place pairs)
 
 -- what the talk asks for where the body departs from a part
-departs_at : (judge : Judge) (keys : List (List ℕ)) (pairs part : List Pair) (screen : List ℕ) (place : ℕ) → talk judge keys (replies pairs) ≡ (requests pairs, Finished screen) → take place pairs ≡ take place part → place ≤ length pairs
-    → (slice_get (requests pairs) place ≡ slice_get (requests part) place → ⊥) → DifferAt place (talk judge keys (replies part)).0 (requests part)
-departs_at judge keys pairs part screen place is common within differs =
+departs_at : (judge : Judge) (lines : List (List ℕ)) (pairs part : List Pair) (screen : List ℕ) (place : ℕ) → talk judge (all_typed lines) (replies pairs) ≡ (requests pairs, Finished screen) → take place pairs ≡ take place part → place ≤ length pairs
+    → (slice_get (requests pairs) place ≡ slice_get (requests part) place → ⊥) → DifferAt place (talk judge (all_typed lines) (replies part)).0 (requests part)
+departs_at judge lines pairs part screen place is common within differs =
+    let keys = all_typed lines in
     let given = replies (take place pairs) in
     let count : length given ≡ place = length-map (take place pairs) (λ (pair : Pair). pair.1) ∙ length-take-le place pairs within in
     let own : (talk judge keys (given ++ replies (drop place pairs))).0 ≡ requests pairs = ap (λ (rs : List Reply). (talk judge keys rs).0) (sym (cut_replies place pairs)) ∙ ap (λ (t : Played (List ℕ)). t.0) is in
     let others : (talk judge keys (given ++ replies (drop place part))).0 ≡ (talk judge keys (replies part)).0 =
     ap (λ (rs : List Reply). (talk judge keys rs).0) (ap (λ (front : List Pair). replies front ++ replies (drop place part)) common ∙ sym (cut_replies place part)) in
-    let agree : Agree (length given) (talk judge keys (given ++ replies (drop place part))).0 (talk judge keys (given ++ replies (drop place pairs))).0 = talks_agree judge keys given (replies (drop place part)) (replies (drop place pairs)) in
+    let agree : Agree (length given) (talk judge keys (given ++ replies (drop place part))).0 (talk judge keys (given ++ replies (drop place pairs))).0 = talks_agree judge lines given (replies (drop place part)) (replies (drop place pairs)) in
     let here : Agree place (talk judge keys (replies part)).0 (requests pairs) =
     subst (λ (k : ℕ). Agree k (talk judge keys (replies part)).0 (requests pairs)) count
     (subst (λ (asked : List Request). Agree (length given) asked (requests pairs)) others
@@ -97,13 +109,13 @@ departs_at judge keys pairs part screen place is common within differs =
       differ = λ same. differs (sym here.1 ∙ same);
     }
 
-pub departs_talk : (keys : List (List ℕ)) (pairs part : List Pair) (screen : List ℕ) (place : ℕ) → Talks keys pairs screen → take place pairs ≡ take place part → place ≤ length pairs → (slice_get (requests pairs) place ≡ slice_get (requests part) place → ⊥) → TalksOtherwise keys part place
+pub departs_talk : (lines : List (List ℕ)) (pairs part : List Pair) (screen : List ℕ) (place : ℕ) → Talks (all_typed lines) pairs screen → take place pairs ≡ take place part → place ≤ length pairs → (slice_get (requests pairs) place ≡ slice_get (requests part) place → ⊥) → TalksOtherwise (all_typed lines) part place
 unfolding Talks
-departs_talk keys pairs part screen place is common within differs =
-    (is.0, λ judge by. departs_at judge keys pairs part screen place (is.1 judge by) common within differs)
+departs_talk lines pairs part screen place is common within differs =
+    (is.0, λ judge by. departs_at judge lines pairs part screen place (is.1 judge by) common within differs)
 
 -- who talked so does not talk otherwise
-pub not_otherwise : (keys : List (List ℕ)) (pairs : List Pair) (screen : List ℕ) (place : ℕ) → Talks keys pairs screen → TalksOtherwise keys pairs place → ⊥
+pub not_otherwise : (keys : Typing) (pairs : List Pair) (screen : List ℕ) (place : ℕ) → Talks keys pairs screen → TalksOtherwise keys pairs place → ⊥
 unfolding Talks
 not_otherwise keys pairs screen place is other =
     let judge = other.0.0 in
@@ -112,7 +124,7 @@ not_otherwise keys pairs screen place is other =
     (other.1 judge by).differ (ap (λ (l : List Request). slice_get l place) asked)
 
 -- it does so at one place
-pub one_otherwise : (keys : List (List ℕ)) (pairs : List Pair) (p q : ℕ) → TalksOtherwise keys pairs p → TalksOtherwise keys pairs q → p ≡ q
+pub one_otherwise : (keys : Typing) (pairs : List Pair) (p q : ℕ) → TalksOtherwise keys pairs p → TalksOtherwise keys pairs q → p ≡ q
 one_otherwise keys pairs p q at other =
     let judge = at.0.0 in
     let by = at.0.1 in

@@ -3,6 +3,7 @@ use Rattle.std.specs.Prelude.{◌≡◌, ℕ, ◌+◌, ◌<◌, List, take, slic
 use Rattle.monitor_calls.specs.declared.calls.Entry.{Entry}
 use Rattle.monitor_calls.specs.declared.calls.Request.{Request}
 use Rattle.monitor_calls.specs.Pairs.{Pair, requests, replies}
+use Rattle.monitor_calls.specs.Typing.{Typing, all_typed}
 use Rattle.monitor_model.specs.History.{Legal, part_of}
 use Rattle.session_model.specs.Talk.{ByGrammar, talk}
 use Rattle.deck_model.specs.Deck.{Deck, Terminal}
@@ -40,7 +41,7 @@ pub record DifferAt (place : ℕ) (asked told : List Request) : Type 0 where
 
 -- the talk of these keys, given the replies of the pairs, makes their requests up to this place, and
 -- another one there, or none where they go on, or one where they have ended
-abbrev pub TalksOtherwise : List (List ℕ) → List Pair → ℕ → Type 0
+abbrev pub TalksOtherwise : Typing → List Pair → ℕ → Type 0
 TalksOtherwise keys pairs place =
     ByGrammar (λ judge. DifferAt place (talk judge keys (replies pairs)).0 (requests pairs))
 
@@ -55,7 +56,7 @@ pub record WrongRequest (deck : Deck) (history : List Entry) (entry : ℕ) : Typ
   pub earlier : (j : ℕ) (other : Terminal) → j < job → slice_get deck.terminals j ≡ Some other
       → (screen : List ℕ) × HasTalked history j other screen
   pub place : ℕ
-  pub otherwise : TalksOtherwise terminal.keys (part_of job history) place
+  pub otherwise : TalksOtherwise (all_typed terminal.keys) (part_of job history) place
   pub entry_is : entry ≡ entry_position job place history
 
 -- BY THE CAUSE: the form; the first entry whose job is no terminal, or whose reply is not the

@@ -3,19 +3,21 @@ use Rattle.std.specs.Prelude.{◌≡◌, ℕ, List, length, map, slice_get, Some
 use Rattle.monitor_calls.specs.declared.calls.Entry.{Entry}
 use Rattle.monitor_calls.specs.Pairs.{Pair, requests, replies}
 use Rattle.monitor_calls.specs.Proper.{Proper}
+use Rattle.monitor_calls.specs.Typing.{Typing, all_typed}
 use Rattle.monitor_model.specs.State as monitor
 use Rattle.monitor_model.specs.History.{Legal, part_of}
 use Rattle.session_model.specs.Talk.{IsTalk}
-use Rattle.deck_model.specs.Deck.{Deck, Terminal, volume_files}
+use Rattle.deck_model.specs.Deck.{Deck, Terminal}
 
 -- the talk of these keys, given the replies of the pairs, makes their requests and ends with the
 -- screen
-unfoldable pub Talks : List (List ℕ) → List Pair → List ℕ → Type 0
+unfoldable pub Talks : Typing → List Pair → List ℕ → Type 0
 Talks keys pairs screen = IsTalk keys (replies pairs) (requests pairs) screen
 
 -- a job's part of the history is what the terminal's talk makes, and the screen is what it shows
 abbrev pub HasTalked : List Entry → ℕ → Terminal → List ℕ → Type 0
-HasTalked history job terminal screen = Talks terminal.keys (part_of job history) screen
+HasTalked history job terminal screen =
+    Talks (all_typed terminal.keys) (part_of job history) screen
 
 -- there are as many screens as terminals, and at each place the terminal has talked so, as the job
 -- of that number
@@ -28,7 +30,7 @@ pub record AllTalk (history : List Entry) (terminals : List Terminal) (screens :
 -- the state of the monitor that the deck gives, with a job for each terminal
 abbrev pub opening_of : Deck → monitor.State
 opening_of deck =
-    monitor.opening deck.accounts deck.blocks (volume_files deck) (length deck.terminals)
+    monitor.opening deck.accounts deck.blocks deck.files (length deck.terminals)
 
 -- the monitor answered one call at a time, from the deck's opening state, and each job asked what
 -- its terminal's keys make given the replies

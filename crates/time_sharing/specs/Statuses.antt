@@ -25,7 +25,7 @@ status_of (History fault) = 7
 
 abbrev pub cause_text : DeckCause → List ℕ
 cause_text Cut = codes "input ends early"
-cause_text Version = codes "not a version 1 or 2 deck"
+cause_text Version = codes "not a version 1, 2 or 3 deck"
 cause_text Shape = codes "wrong form"
 cause_text Range = codes "number or text out of range"
 cause_text Double = codes "name given twice"
@@ -48,7 +48,7 @@ line_of (Ok record_) = codes ""
 line_of Checked = codes ""
 line_of (Drilled drill) = codes ""
 line_of (Replayed record_) = codes ""
-line_of Usage = codes "usage: rsts run [--history] | check | drill N"
+line_of Usage = codes "usage: rsts run [--history] [--printer] | check | drill N | replay"
 line_of (Deck fault) = fault_line fault
 line_of ReadFault = codes "read fault"
 line_of TooLong = codes "input too long"

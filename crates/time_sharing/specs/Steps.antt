@@ -1,16 +1,25 @@
--- What the program does without waiting.
+-- What the program does without waiting, and what is left to do.
 use Rattle.std.specs.Prelude.{◌≡◌, ◌≤◌}
 use Rattle.program_words.specs.declared.words.Asked.{Asked}
-use Rattle.program_words.specs.declared.words.Asked.TheVariants.{Run, Drill}
+use Rattle.program_words.specs.declared.words.Asked.TheVariants as asked
 use Rattle.program_words.specs.declared.words.TheConstants.{MOST_DRILL_JOBS}
+use Rattle.time_sharing.specs.declared.top.Rest.{Rest}
+use Rattle.time_sharing.specs.declared.top.Rest.TheVariants.{Run, Drill}
 use Rattle.time_sharing.specs.declared.top.Step.{Step}
-use Rattle.time_sharing.specs.declared.top.Step.TheVariants as step
+use Rattle.time_sharing.specs.declared.top.Step.TheVariants.{Ended, Waits}
 use Rattle.time_sharing.specs.Headline.{Does}
 use Rattle.time_sharing.specs.TwoEnds.{Ends}
 
--- all that the words ask is done; or they ask for a run or a drill, and nothing was done yet
+-- the words that leave this to be done
+abbrev pub asked_by_rest : Rest → Asked
+asked_by_rest (Run wanted) = asked.Run wanted
+asked_by_rest (Drill jobs) = asked.Drill jobs
+
+abbrev pub IsRest : Rest → Type 0
+IsRest (Run wanted) = Unit {0}
+IsRest (Drill jobs) = jobs ≤ MOST_DRILL_JOBS
+
+-- all that the words ask is done; or this is what they ask, and nothing was done yet
 abbrev pub Begins : Asked → Ends → Ends → Step → Type 0
-Begins asked before after (step.Ended result) = Does asked before after result
-Begins asked before after (step.Runs wanted) = (asked ≡ Run wanted) × (after ≡ before)
-Begins asked before after (step.Drills jobs) =
-    (asked ≡ Drill jobs) × (after ≡ before) × (jobs ≤ MOST_DRILL_JOBS)
+Begins words before after (Ended result) = Does words before after result
+Begins words before after (Waits rest) = (words ≡ asked_by_rest rest) × (after ≡ before) × IsRest rest

@@ -1,7 +1,8 @@
 //! How a call of the program ends.
 
 ghost use Rattle.std.specs.Prelude.{◌≡◌, ◌≤◌, length};
-ghost use Rattle.time_sharing.specs.Statuses.{status_of, line_of, cause_text, fault_line, dispute_text, dispute_line};
+ghost use Rattle.time_sharing.specs.Statuses.{status_of, line_of, cause_text, fault_line};
+ghost use Rattle.time_sharing.specs.Statuses.{dispute_text, dispute_line};
 
 use arrayvec::ArrayVec;
 use deck_model::{DeckCause, DeckFault};
@@ -29,8 +30,8 @@ pub enum HistoryCause {
     Meaning,
 }
 
-/// Where the text behind a deck first fails to tell a run of it, by the line of the whole input, from
-/// 1, and why.
+/// Where the text behind a deck first fails to tell a run of it, by the line of the whole input,
+/// from 1, and why.
 #[derive(Clone, Copy, Debug, PartialEq, Eq)]
 pub struct HistoryFault {
     pub line: u32,
@@ -81,14 +82,16 @@ impl Outcome {
     }
 
     /// What the program says on standard error, without its LF: nothing where the status is 0.
-    pub fn line(&self) -> ArrayVec<u8, 64>
+    pub fn line(&self) -> ArrayVec<u8, 80>
         ensures { result.items ≡ line_of self.now }
     {
         match self {
             Outcome::Ok(_) | Outcome::Checked | Outcome::Drilled(_) | Outcome::Replayed(_) => {
                 words(b"")
             }
-            Outcome::Usage => words(b"usage: rsts run [--history] | check | drill N"),
+            Outcome::Usage => {
+                words(b"usage: rsts run [--history] [--printer] | check | drill N | replay")
+            }
             Outcome::Deck(fault) => fault_line(*fault),
             Outcome::ReadFault => words(b"read fault"),
             Outcome::TooLong => words(b"input too long"),
@@ -99,8 +102,8 @@ impl Outcome {
     }
 }
 
-fn words(text: &[u8]) -> ArrayVec<u8, 64>
-    requires { length text.now ≤ 64 }
+fn words(text: &[u8]) -> ArrayVec<u8, 80>
+    requires { length text.now ≤ 80 }
     ensures { result.items ≡ text.now }
 {
     let mut line = ArrayVec::new();
@@ -109,7 +112,7 @@ fn words(text: &[u8]) -> ArrayVec<u8, 64>
 }
 
 /// `deck line`, the line's number, and the cause.
-fn fault_line(fault: DeckFault) -> ArrayVec<u8, 64>
+fn fault_line(fault: DeckFault) -> ArrayVec<u8, 80>
     ensures { result.items ≡ fault_line fault }
 {
     let mut buffer = Buffer::new();
@@ -124,11 +127,11 @@ fn fault_line(fault: DeckFault) -> ArrayVec<u8, 64>
 /// The words of a cause.
 fn cause_text(cause: DeckCause) -> &'static [u8]
     ensures text { result.now ≡ cause_text cause }
-    ensures short { length result.now ≤ 27 }
+    ensures short { length result.now ≤ 28 }
 {
     match cause {
         DeckCause::Cut => b"input ends early",
-        DeckCause::Version => b"not a version 1 or 2 deck",
+        DeckCause::Version => b"not a version 1, 2 or 3 deck",
         DeckCause::Shape => b"wrong form",
         DeckCause::Range => b"number or text out of range",
         DeckCause::Double => b"name given twice",
@@ -138,7 +141,7 @@ fn cause_text(cause: DeckCause) -> &'static [u8]
 }
 
 /// `history line`, the line's number, and the cause.
-fn dispute_line(fault: HistoryFault) -> ArrayVec<u8, 64>
+fn dispute_line(fault: HistoryFault) -> ArrayVec<u8, 80>
     ensures { result.items ≡ dispute_line fault }
 {
     let mut buffer = Buffer::new();

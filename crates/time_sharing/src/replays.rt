@@ -5,7 +5,8 @@ ghost use Rattle.deck_model.specs.Deck.{IsDeck};
 ghost use Rattle.deck_reader.specs.Seen.{deck_of};
 ghost use Rattle.time_sharing.specs.TwoEnds.{ends};
 ghost use Rattle.time_sharing.specs.Replays.{Replays};
-ghost use Rattle.time_sharing.specs.InputEnds.{entry_of, fault_of, fault_outcome, RetellsBy, ToldBy};
+ghost use Rattle.time_sharing.specs.InputEnds.{entry_of, fault_of, fault_outcome, RetellsBy};
+ghost use Rattle.time_sharing.specs.InputEnds.{ToldBy};
 
 use crate::inputs::divided;
 use crate::outcomes::{HistoryCause, HistoryFault, Outcome};

@@ -4,7 +4,8 @@ ghost use Rattle.std.specs.Prelude.{◌≡◌, IfOk};
 ghost use Rattle.deck_model.specs.Deck.{IsDeck};
 ghost use Rattle.deck_reader.specs.Seen.{deck_of};
 ghost use Rattle.time_sharing.specs.Headline.{Reports, Runs, Checks};
-ghost use Rattle.time_sharing.specs.SourceEnds.{FoundInSource, MustFind, MustRefuse, MustStop, outcome_of};
+ghost use Rattle.time_sharing.specs.SourceEnds.{FoundInSource, MustFind, MustRefuse, MustStop};
+ghost use Rattle.time_sharing.specs.SourceEnds.{outcome_of};
 ghost use Rattle.time_sharing.specs.TwoEnds.{ends};
 
 use crate::outcomes::Outcome;

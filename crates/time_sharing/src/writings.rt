@@ -14,14 +14,14 @@ use print_spool::printed;
 use program_words::Wanted;
 use report_texts::{push_history, report};
 use std::alloc::Global;
-use terminal_runner::RunEnd;
+use terminal_runner::{BatchKeyboard, RunEnd};
 
 /// What is written of a run of these terminals.
 pub(crate) fn written(
     alloc: Global,
     wanted: Wanted,
     terminals: &[Terminal],
-    ran: &RunEnd,
+    ran: &RunEnd<BatchKeyboard>,
 ) -> Result<Vec<u8>, NoMemory>
     requires as_many { length ran.now.screens.items ≡ length terminals.now }
     requires named { AreNamed (names_of terminals.now) ran.now.run }

@@ -1,4 +1,4 @@
--- Elements of virtual arrays that are worked out.
+-- Elements of arrays in files, computed.
 use Rattle.std.proofs.Common.{◌≡◌, ℕ, [], ◌∷◌, Bool, true, false, Some, None, Ok, Err, refl}
 use Rattle.std.specs.Prelude.{pos, negsuc}
 use Rattle.basic_tree.specs.declared.names.Name.{Name}
@@ -27,7 +27,7 @@ first_of_block = refl
 past_its_bound : element_place numbers (pos 301) None ≡ Err 55
 past_its_bound = refl
 
--- DIM #1%, A%(300%), A$(2%,3%)=64%: behind 602 bytes, from the next multiple of 64 on
+-- DIM #1%, A%(300%), A$(2%,3%)=64%: after 602 bytes, from the next multiple of 64 on
 abbrev texts : VirtualShape
 texts = record { name = named true; channel = pos 1; first = 2; second = Some 3; start = 640; size = 64 }
 
@@ -66,7 +66,7 @@ minus_two_again = refl
 nothing_written : element_of false [] ≡ Number (pos 0)
 nothing_written = refl
 
--- zeros within a text stay, those at its end are left out
+-- zeros within a string stay, those at its end are dropped
 zeros_at_the_end : element_of true (65 ∷ 66 ∷ 0 ∷ 67 ∷ 0 ∷ 0 ∷ []) ≡ Text (65 ∷ 66 ∷ 0 ∷ 67 ∷ [])
 zeros_at_the_end = refl
 

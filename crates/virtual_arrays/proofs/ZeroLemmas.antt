@@ -1,4 +1,4 @@
--- Zeros at the end of a text.
+-- Zeros at the end of a string.
 use Rattle.std.proofs.Common.{◌≡◌, ℕ, ◌+◌, ◌<◌, inl, inr, Bool, true, false, List, [], ◌∷◌, ◌++◌, length, take, get_or, refl, ap, ◌∙◌, sym, add-one}
 use Rattle.std.proofs.Math.Seq.{take-suc}
 use Rattle.std.proofs.lemmas.Bool.Decides.{eqb_tells}
@@ -23,12 +23,12 @@ is_some byte some = elim (eqb_tells byte 0) [
   | inr p ↦ p.0
 ]
 
--- a last byte that is zero is left out
+-- a last byte that is zero is dropped
 pub left_out : (bytes : List ℕ) (i : ℕ) → i < length bytes → get_or bytes i 0 ≡ 0 → without_zeros (take (i + 1) bytes) ≡ without_zeros (take i bytes)
 left_out bytes i less is =
     ap without_zeros (ap (λ (k : ℕ). take k bytes) (add-one i) ∙ take-suc bytes i 0 less) ∙ zero_behind (take i bytes) (get_or bytes i 0) (ap (λ (b : ℕ). b == 0) is)
 
--- a last byte that is none keeps all
+-- a last byte that is not zero keeps all
 pub kept_up_to : (bytes : List ℕ) (i : ℕ) → i < length bytes → (get_or bytes i 0 ≡ 0 → ⊥) → without_zeros (take (i + 1) bytes) ≡ take (i + 1) bytes
 kept_up_to bytes i less some =
     let same : take (i + 1) bytes ≡ take i bytes ++ get_or bytes i 0 ∷ [] = ap (λ (k : ℕ). take k bytes) (add-one i) ∙ take-suc bytes i 0 less in

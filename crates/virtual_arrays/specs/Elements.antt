@@ -1,4 +1,4 @@
--- Elements of virtual arrays, read and written in the window of their channel.
+-- Elements of arrays in files, read and written in the window of their channel.
 use Rattle.std.specs.Prelude.{ℕ, ◌+◌, ◌*◌, ◌/◌, ◌%◌, ◌==◌, Bool, true, false, if◌then◌else◌, List, [], ◌∷◌, slice_index, Option, Result, Ok, Err, ℤ}
 use Rattle.basic_values.specs.Numbers.{low_bits, signed}
 use Rattle.basic_values.specs.declared.errors.TheConstants.{ILLEGAL_BYTE_COUNT}
@@ -15,7 +15,7 @@ use Rattle.virtual_arrays.specs.declared.elements.Element.{Element}
 use Rattle.virtual_arrays.specs.declared.elements.Element.TheVariants.{Number, Text}
 use Rattle.virtual_arrays.specs.Places.{element_place}
 
--- WHAT AN ELEMENT HOLDS
+-- THE VALUE OF AN ELEMENT
 
 -- a number is two bytes, the low one first
 abbrev pub low_first : ℤ → List ℕ
@@ -38,11 +38,12 @@ abbrev pub without_zeros : List ℕ → List ℕ
 without_zeros [] = []
 without_zeros (byte ∷ bytes) = without_last_zero byte (without_zeros bytes)
 
--- the value of an element's bytes, of a text or a number
+-- the value of an element's bytes, a string or a number
 abbrev pub element_of : Bool → List ℕ → Element
 element_of text bytes = if text then Text (without_zeros bytes) else Number (low_first_number bytes)
 
--- WHICH CHANNEL AND WHICH PLACE, or the number of the first error: of the channel; a channel with larger records; of the place
+-- WHICH CHANNEL AND WHICH PLACE, or the number of the first error: of the channel, of a channel
+-- with larger records, of the place
 
 abbrev pub placed_on : ℕ → Result Place ℕ → Result (ℕ × Place) ℕ
 placed_on c (Ok place) = Ok (c, place)
@@ -57,7 +58,7 @@ located shape i j channels = located_on shape i j channels (channel_opened shape
 
 -- AN ACCESS
 
--- what a part of the channel's window holds
+-- the value of a part of the channel's window
 abbrev pub element_at : Bool → ℕ → Place → Files → Element
 element_at text c place files = element_of text (part_of place.part (buffer_of c files.buffers))
 
@@ -68,7 +69,8 @@ reads_at text c place files = opens_window c place.block false files then λ _ f
 abbrev pub reads_element : VirtualShape → ℤ → Option ℤ → Files → FilesAct Element
 reads_element shape i j files = tested (located shape i j files.channels) files then λ at. reads_at shape.name.text at.0 at.1
 
--- a part of the channel's window takes a value: a longer one is cut, and zeros stand behind a shorter one
+-- a value is written to a part of the channel's window: a longer one is cut, and a shorter one is
+-- filled with zeros
 abbrev pub with_element : ℕ → Place → Element → Files → Files
 with_element c place value files = record files {
   buffers = with_buffer c (fill_part place.part (element_bytes value) (buffer_of c files.buffers)) files.buffers;

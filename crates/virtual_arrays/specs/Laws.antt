@@ -1,4 +1,4 @@
--- What a user of virtual arrays relies on, over the definitions alone.
+-- The law of arrays in files, about definitions alone.
 use Rattle.std.specs.Prelude.{◌≡◌, ◌*◌, ◌≤◌, ℕ, Option, Ok, ℤ}
 use Rattle.basic_values.specs.declared.limits.TheConstants.{BLOCK_BYTES, MOST_BLOCKS}
 use Rattle.record_fields.specs.Parts.{LiesIn}
@@ -6,7 +6,8 @@ use Rattle.virtual_arrays.specs.declared.places.VirtualShape.{VirtualShape}
 use Rattle.virtual_arrays.specs.declared.places.Place.{Place}
 use Rattle.virtual_arrays.specs.Places.{element_place}
 
--- as DIM declares arrays: some elements fill a block, and the array begins where so many elements could stand in front of it
+-- as a DIM # declares arrays: some elements fill a block, and the array begins at a multiple of its
+-- element size
 pub record IsDeclared (shape : VirtualShape) : Type 0 where
   pub in_block : ℕ
   pub fills : shape.size * in_block ≡ BLOCK_BYTES

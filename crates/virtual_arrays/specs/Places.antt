@@ -1,4 +1,5 @@
--- Where an element of a virtual array stands in its file: elements stand one behind the other, from the array's first byte on.
+-- The place of an element of a virtual array in its file: elements follow one another, from the
+-- array's first byte on.
 use Rattle.std.specs.Prelude.{ℕ, ◌+◌, ◌*◌, ◌/◌, ◌%◌, nat_lt, if◌then◌else◌, Option, Some, None, Result, Ok, Err, ℤ}
 use Rattle.basic_values.specs.declared.errors.TheConstants.{SUBSCRIPT_OUT_OF_RANGE}
 use Rattle.basic_values.specs.declared.limits.TheConstants.{BLOCK_BYTES, MOST_BLOCKS}
@@ -6,14 +7,14 @@ use Rattle.record_fields.specs.Bounds.{place_under}
 use Rattle.virtual_arrays.specs.declared.places.VirtualShape.{VirtualShape}
 use Rattle.virtual_arrays.specs.declared.places.Place.{Place}
 
--- the part of so many bytes that begins with this byte of the file: the blocks in front of it are full
+-- the part of this many bytes that begins at this byte of the file; the blocks before it are full
 abbrev pub place_from : ℕ → ℕ → Result Place ℕ
 place_from size byte =
     if nat_lt (byte / BLOCK_BYTES) MOST_BLOCKS
     then Ok (record { block = byte / BLOCK_BYTES + 1; part = record { offset = byte % BLOCK_BYTES; length = size } })
     else Err SUBSCRIPT_OUT_OF_RANGE
 
--- the place of the element with so many in front of it, where it is one of the array
+-- the place of the element with this many before it, if the array has it
 abbrev pub place_of_index : ℕ → ℕ → Option ℕ → Result Place ℕ
 place_of_index start size (Some index) = place_from size (start + index * size)
 place_of_index start size None = Err SUBSCRIPT_OUT_OF_RANGE

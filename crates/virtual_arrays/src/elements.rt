@@ -1,4 +1,4 @@
-//! Elements, read and written in the window of their channel.
+//! Elements of arrays in files, read and written in the window of their channel.
 
 ghost use Rattle.std.specs.Prelude.{◌≡◌, ◌≤◌, length, take, Some, IfOk};
 ghost use Rattle.job_model.specs.Follow.{Follows, answered_by};
@@ -8,7 +8,9 @@ ghost use Rattle.record_fields.specs.Parts.{part_of};
 ghost use Rattle.channels.specs.Files.{Files, tested};
 ghost use Rattle.channels.specs.Seen.{files, states_of};
 ghost use Rattle.virtual_arrays.specs.declared.elements.Element.TheVariants as element;
-ghost use Rattle.virtual_arrays.specs.Elements.{low_first, low_first_number, without_zeros, element_of, located, reads_at, reads_element, writes_at, writes_element};
+ghost use Rattle.virtual_arrays.specs.Elements.{low_first, low_first_number, without_zeros};
+ghost use Rattle.virtual_arrays.specs.Elements.{element_of, located, reads_at, reads_element};
+ghost use Rattle.virtual_arrays.specs.Elements.{writes_at, writes_element};
 
 use crate::places::{Place, VirtualShape, element_place};
 use basic_values::errors::ILLEGAL_BYTE_COUNT;
@@ -18,15 +20,15 @@ use monitor_calls::Port;
 use record_fields::Buffers;
 use std::alloc::Global;
 
-/// What an element of a virtual array holds.
+/// The value of an element of an array in a file.
 #[derive(Drop)]
 pub enum Element {
     Number(Int),
     Text(Text),
 }
 
-/// Reads an element. Errors 46 and 9 of its channel, 31 on a channel with larger records, 55 where
-/// it is outside; then as the window is replied.
+/// Reads an element. Errors: 46 and 9 of its channel; 31 if the channel has larger records; 55 if
+/// there is no such element; then those of the window's requests.
 pub fn read<P: Port>(
     alloc: Global,
     channels: &mut Channels,
@@ -64,7 +66,7 @@ fn read_at<P: Port>(
     Ok(element)
 }
 
-/// Writes an element: a longer text is cut, and zeros stand behind a shorter one. Errors as of
+/// Writes an element: a longer string is cut, and a shorter one is filled with zeros. Errors as for
 /// `read`.
 pub fn write<P: Port>(
     alloc: Global,
@@ -101,7 +103,7 @@ pub fn write<P: Port>(
     }
 }
 
-/// Writes a number to an element, as `write`.
+/// Writes a number to an element, as `write` does.
 pub fn write_number<P: Port>(
     alloc: Global,
     channels: &mut Channels,
@@ -113,14 +115,15 @@ pub fn write_number<P: Port>(
     number: Int,
 ) -> Result<(), Stop>
     ensures { (clock : play.Clock) → Follows P.who P.log port.old port.new clock clock
-        (writes_element shape.now first second (element.Number number) (files channels.old buffers.old))
+        (writes_element shape.now first second (element.Number number)
+        (files channels.old buffers.old))
         (answered_by result (files channels.new buffers.new)) }
 {
     let bytes = low_first(number);
     write_text(alloc, channels, buffers, port, shape, first, second, &bytes)
 }
 
-/// Writes the bytes of a text to an element, as `write`.
+/// Writes the bytes of a string to an element, as `write` does.
 pub fn write_text<P: Port>(
     alloc: Global,
     channels: &mut Channels,
@@ -132,7 +135,8 @@ pub fn write_text<P: Port>(
     bytes: &[u8],
 ) -> Result<(), Stop>
     ensures { (clock : play.Clock) → Follows P.who P.log port.old port.new clock clock
-        (writes_element shape.now first second (element.Text bytes.now) (files channels.old buffers.old))
+        (writes_element shape.now first second (element.Text bytes.now)
+        (files channels.old buffers.old))
         (answered_by result (files channels.new buffers.new)) }
 {
     let (channel, place) = locate(channels, shape, first, second)?;
@@ -158,7 +162,7 @@ fn write_at<P: Port>(
     Ok(())
 }
 
-/// Which part of which channel's file an element is; its error ends the statement.
+/// Returns the channel and the part of its file that an element is; an error ends the statement.
 fn locate(
     channels: &Channels,
     shape: &VirtualShape,
@@ -192,14 +196,14 @@ fn located(
     Ok((channel, place))
 }
 
-/// The two bytes of a number, the low one first.
+/// Returns the two bytes of a number, the low one first.
 fn low_first(number: Int) -> [u8; 2]
     ensures { result ≡ low_first number }
 {
     number.value().to_le_bytes()
 }
 
-/// The value of an element's bytes.
+/// Returns the value of an element's bytes.
 fn element_of(alloc: Global, text: bool, bytes: &[u8]) -> Result<Element, NoMemory>
     ensures { IfOk result (λ element. element ≡ element_of text bytes.now) }
 {
@@ -210,7 +214,7 @@ fn element_of(alloc: Global, text: bool, bytes: &[u8]) -> Result<Element, NoMemo
     }
 }
 
-/// The number of two bytes, the low one first; a byte that is not there counts as 0.
+/// Returns the number of two bytes, the low one first; a missing byte counts as 0.
 fn number_of(bytes: &[u8]) -> Int
     ensures { result ≡ low_first_number bytes.now }
 {
@@ -219,7 +223,7 @@ fn number_of(bytes: &[u8]) -> Int
     Int::new(i16::from_be_bytes([high, low]))
 }
 
-/// The bytes without the zeros at their end, as a text.
+/// Returns the bytes without the zeros at their end, as a string.
 fn text_of(alloc: Global, bytes: &[u8]) -> Result<Text, NoMemory>
     ensures { IfOk result (λ text. text ≡ without_zeros bytes.now) }
 {
@@ -229,7 +233,7 @@ fn text_of(alloc: Global, bytes: &[u8]) -> Result<Text, NoMemory>
     }
 }
 
-/// How many bytes there are without the zeros at their end.
+/// Returns the number of bytes without the zeros at their end.
 fn kept_bytes(bytes: &[u8]) -> usize
     ensures kept { take result bytes.now ≡ without_zeros bytes.now }
     ensures inside { result ≤ length bytes.now }

@@ -1,9 +1,9 @@
-//! Virtual arrays: arrays whose elements stand in the file of a channel.
+//! Virtual arrays: arrays whose elements are in the file of a channel.
 //!
-//! `element_place` carries where in its file an element stands, `read` and `write` along which path
-//! of its tree an access goes: the definitions are `specs/Places` and `specs/Elements`. `laws` has
-//! that an element lies in one block, for each array that DIM declares. It stands on the windows of
-//! `channels`, and on the places under bounds and the parts of `record_fields`.
+//! `element_place` promises where in its file an element is. `read` and `write` follow the
+//! interaction trees of `specs/Elements`. `laws` says that an element is in one block, for each
+//! array that a DIM # declares. The windows are those of `channels`; places under bounds and parts
+//! of buffers are those of `record_fields`.
 #![tactic(auto)]
 
 mod elements;

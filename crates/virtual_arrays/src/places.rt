@@ -1,4 +1,4 @@
-//! Where an element stands in its file.
+//! The place of an element in its file.
 
 ghost use Rattle.std.specs.Prelude.{◌≡◌, Some};
 ghost use Rattle.virtual_arrays.specs.Places.{place_of_index, element_place};
@@ -14,10 +14,10 @@ use record_fields::{BUFFER_BYTES, Part, place_under};
 pub struct VirtualShape {
     pub name: Name,
     pub channel: Int,
-    /// The greatest subscripts.
+    /// The first bound.
     pub first: u16,
     pub second: Option<u16>,
-    /// The byte of the file with which the array begins. Bytes are counted from 0.
+    /// The byte of the file at which the array begins. Bytes are counted from 0.
     pub start: u64,
     /// The bytes of an element.
     pub size: u16,
@@ -30,8 +30,8 @@ pub struct Place {
     pub part: Part,
 }
 
-/// The block and the part of an element. Error 55 where a subscript is outside its bound, where
-/// there are too few or too many of them, or where the block is past the greatest file.
+/// Returns the block and the part of an element. Error 55: a subscript is out of range, there are
+/// too few or too many, or the block is past the largest file.
 pub fn element_place(shape: &VirtualShape, first: Int, second: Option<Int>) -> Result<Place, Fault>
     ensures { result ≡ element_place shape.now first second }
 {
@@ -41,8 +41,8 @@ pub fn element_place(shape: &VirtualShape, first: Int, second: Option<Int>) -> R
     }
 }
 
-/// The place of the element with so many in front of it. A byte that has no number in 64 bits lies
-/// past the greatest file too.
+/// Returns the place of the element with this many before it. A byte whose number does not fit in
+/// 64 bits is also past the largest file.
 fn place_of_index(start: u64, size: u16, index: usize) -> Result<Place, Fault>
     ensures { result ≡ place_of_index start size (Some index) }
 {

@@ -14,7 +14,8 @@ static STORIES: [&[Step]; 4] = [
         "open 2 either true - 1 | opened | either 2 true 99; ok",
         "text 12 AB |  | ok",
         "window 1 3 true | failed 11 | get 1 3; ok",
-        "close_all | failed 4 failed 9 done failed 19 done | put 1 3 0 0 0; close 1; close 2; put 12 1 65 2 2 0 0 0; close 12; ok",
+        "close_all | failed 4 failed 9 done failed 19 done | put 1 3 0 0 0; close 1; close 2; \
+         put 12 1 65 2 2 0 0 0; close 12; ok",
         "tell 12 |  | has 1 0 0 0 -1 1 512",
         "close_all |  | ok",
     ],

@@ -81,7 +81,8 @@ static STORIES: [&[Step]; 6] = [
     // Texts are cut, or have zeros behind them; of these the last ones are cut on reading.
     &[
         OPEN_1,
-        "store_text texts 1 0 - AB\0C\0\0 | block 01234567890123456789012345678901PQRS | get 1 1; ok",
+        "store_text texts 1 0 - AB\0C\0\0 | block 01234567890123456789012345678901PQRS \
+         | get 1 1; ok",
         "fetch texts 1 0 - |  | line 'AB\0C'",
         "byte 1 15 |  | byte 53",
         "byte 1 20 |  | byte 0",

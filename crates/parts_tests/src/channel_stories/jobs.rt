@@ -11,7 +11,8 @@ use record_fields::{Buffers, RecordSize};
 use std::alloc::Global;
 use std::test::Fail;
 
-/// A step in words: what is done, the replies to it, and what comes of it, the requests and the end.
+/// A step in words: what is done, the replies to it, and what comes of it, the requests and the
+/// end.
 pub(crate) type Step = &'static str;
 
 /// Update, for records of one block, of a file that may be there.
@@ -283,7 +284,7 @@ fn told_of(job: &mut Job, done: &'static str) -> String {
     let before = job.port.log().len();
     let end = end_of(job, done);
     let mut told = Report::new(job.alloc);
-    told.asked(job.port.log().get(before..).unwrap_or(&[]));
+    told.events(job.port.log().get(before..).unwrap_or(&[]));
     told.push(end.as_str());
     told.into_text()
 }

@@ -70,7 +70,8 @@ static LONG: [&[Step]; 6] = [
     // 32,765 bytes, with zeros inside and over more than 64 blocks.
     &[
         OPEN_1,
-        "read 1 | blocks 65 40 blocks 0 30 blocks 66 23 ended 67 509 \nD\n | get 1 1 to get 1 94, 94; line 32765 65 67",
+        "read 1 | blocks 65 40 blocks 0 30 blocks 66 23 ended 67 509 \nD\n \
+         | get 1 1 to get 1 94, 94; line 32765 65 67",
         "read 1 |  | line 'D'",
     ],
     // 32,765 bytes and a return.

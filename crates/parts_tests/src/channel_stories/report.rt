@@ -1,7 +1,8 @@
 //! What comes of a step, as text.
 
 use basic_values::{Stop, Text};
-use monitor_calls::{OpenKind, Page, Reply, Request};
+use monitor_calls::{Event, OpenKind, Page, Request};
+use report_texts::push_request;
 use std::alloc::Global;
 
 /// A text that grows piece by piece. Without memory for a piece it is another text.
@@ -94,28 +95,33 @@ impl Report {
         self.push("'");
     }
 
-    /// What was asked, each request with its end. Of many the first is told, the last, and how many.
-    pub(crate) fn asked(&mut self, asked: &[(Request, Reply)]) {
-        match asked {
-            [(first, _), .., (last, _)] if asked.len() > 8 => {
-                self.many(first, last, size(asked.len()));
-            }
-            _ => self.each(asked),
+    /// Reports these events. Of more than 8 it reports the first, the last and how many there are.
+    pub(crate) fn events(&mut self, events: &[Event]) {
+        match events {
+            [first, .., last] if events.len() > 8 => self.many(first, last, size(events.len())),
+            _ => self.each(events),
         }
     }
 
-    fn many(&mut self, first: &Request, last: &Request, count: i32) {
-        self.request(first);
+    fn many(&mut self, first: &Event, last: &Event, count: i32) {
+        self.event(first);
         self.push(" to ");
-        self.request(last);
+        self.event(last);
         self.tell(",", &[count]);
         self.push("; ");
     }
 
-    fn each(&mut self, asked: &[(Request, Reply)]) {
-        for (request, _) in asked {
-            self.request(request);
+    fn each(&mut self, events: &[Event]) {
+        for event in events {
+            self.event(event);
             self.push("; ");
+        }
+    }
+
+    fn event(&mut self, event: &Event) {
+        match event {
+            Event::Asked { request, .. } => self.request(request),
+            Event::Typed { .. } => self.push("a key line"),
         }
     }
 
@@ -167,7 +173,16 @@ impl Report {
                 self.block("put", *channel, *block);
                 self.pages(pages.as_slice());
             }
-            _ => self.push("another"),
+            _ => self.history_text(request),
+        }
+    }
+
+    /// A request as it stands in a history.
+    fn history_text(&mut self, request: &Request) {
+        let mut text = Vec::new(self.alloc);
+        let _ = push_request(&mut text, request);
+        for byte in &text {
+            let _ = self.text.push(char::from(*byte));
         }
     }
 
@@ -181,7 +196,8 @@ impl Report {
         }
     }
 
-    /// The first byte of a page, where its last byte stands that is no zero, and how many such it has.
+    /// The first byte of a page, where its last byte stands that is no zero, and how many such it
+    /// has.
     fn page(&mut self, page: &Page) {
         let (mut place, mut last, mut written) = (0i32, 0, 0i32);
         for byte in page.as_bytes() {

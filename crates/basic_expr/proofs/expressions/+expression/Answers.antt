@@ -14,6 +14,7 @@ use Rattle.basic_tree.specs.TreeViews.{tree_of}
 use Rattle.grammar_machine.proofs.MachineSteps.{run_do}
 use Rattle.basic_expr.specs.declared.words.Word.TheVariants as word
 use Rattle.basic_expr.specs.Views.{as_word}
+use Rattle.basic_expr.specs.Precedences.{level_number}
 use Rattle.basic_expr.specs.ParsedSymbols.{always, begins_atom, exponents, fits_function, function_expected, number_atom, second_tree, signed_level, takes_number, takes_relations, trees_in}
 use Rattle.basic_expr.proofs.Compose as compose
 use Rattle.basic_expr.proofs.Compose.{inside, through}
@@ -129,30 +130,36 @@ pub parse_prefixed-returns-in_err-operand-in-Some-clause-reads : goal.parse_pref
 parse_prefixed-returns-in_err-operand-in-Some-clause-reads t c =
     let p = err_from_is_err_and c.from_residual.result c.from_residual.ensures.1 in
     let some : 0 < c.args.levels = omega arith in
-    let l = c.args.level in
+    let l = level_number c.args.precedence in
     let fits : takes c.args.want false ≡ true = search rules in
     rw (p.1, p.2) (compose.prefix_refused c.args.levels takes_number (signed_level l) (Level l want.Number) (signed_level (l - 1)) c.args.words.now c.args.from c.in-Some.prefix c.args.want c.in_err-operand-in-Some.field-0.0 some c.in-Some.ensures.prefix fits c.in_err-operand-in-Some.ensures.reads)
 
 pub parse_prefixed-returns-in_ok-prefixed-in-Some-clause-reads : goal.parse_prefixed-returns-in_ok-prefixed-in-Some-clause-reads
 parse_prefixed-returns-in_ok-prefixed-in-Some-clause-reads t c =
     let some : 0 < c.args.levels = omega arith in
-    let l = c.args.level in
+    let l = level_number c.args.precedence in
     let fits : takes c.args.want false ≡ true = search rules in
     let operand = c.in_ok-operand-in-Some.operand in
     compose.prefix_read c.args.levels takes_number (signed_level l) (Level l want.Number) (signed_level (l - 1)) c.args.words.now c.args.from operand.end c.in-Some.prefix c.args.want (tree_of operand.tree) (tree_of c.in_ok-prefixed-in-Some.field-0) some c.in-Some.ensures.prefix fits c.in_ok-operand-in-Some.ensures.reads c.in_ok-prefixed-in-Some.ensures
+
+pub parse_prefixed-returns-in-None-clause-reads : goal.parse_prefixed-returns-in-None-clause-reads
+parse_prefixed-returns-in-None-clause-reads t c =
+    let l = level_number c.args.precedence in
+    through c.args.levels c.args.words.now (Level l c.args.want ∷ []) [] c.args.from (Level (level_number c.tighter.result) c.args.want ∷ []) [] c.args.from c.parse_level.result
+    (λ k vs. compose.tighter_by c.args.levels l (level_number c.tighter.result) c.args.want _ k vs c.in-None.ensures.prefix c.tighter.ensures) c.parse_level.ensures.reads
 
 -- ---- chains and relations
 
 pub parse_chain-returns-in_err-left-clause-reads : goal.parse_chain-returns-in_err-left-clause-reads
 parse_chain-returns-in_err-left-clause-reads t c =
     let p = err_from_is_err_and c.from_residual.result c.from_residual.ensures.1 in
-    let l = c.args.level in
-    rw (p.1, p.2) (inside c.args.levels c.args.words.now (Level l c.args.want ∷ []) [] c.args.from c.args.levels (Level (l - 1) c.args.want ∷ []) [] c.args.from c.in_err-left.field-0.0
-    (λ k vs. (More l ∷ k, vs, compose.chained c.args.levels l c.args.want _ k vs c.requires.chain)) c.in_err-left.ensures.reads)
+    let l = level_number c.args.precedence in
+    rw (p.1, p.2) (inside c.args.levels c.args.words.now (Level l c.args.want ∷ []) [] c.args.from c.args.levels (Level (level_number c.tighter.result) c.args.want ∷ []) [] c.args.from c.in_err-left.field-0.0
+    (λ k vs. (More l ∷ k, vs, compose.chained c.args.levels c.args.precedence (level_number c.tighter.result) c.args.want _ k vs c.requires.chain c.tighter.ensures)) c.in_err-left.ensures.reads)
 
 pub parse_chain-operands-init : goal.parse_chain-operands-init
 parse_chain-operands-init t c = record {
-  runs = λ k vs. compose.chained c.args.levels c.args.level c.args.want _ k vs c.requires.chain ∙ c.in_ok-left.ensures.reads (More c.args.level ∷ k) vs;
+  runs = λ k vs. compose.chained c.args.levels c.args.precedence (level_number c.tighter.result) c.args.want _ k vs c.requires.chain c.tighter.ensures ∙ c.in_ok-left.ensures.reads (More (level_number c.args.precedence) ∷ k) vs;
   after = c.in_ok-left.ensures.ends.0;
   within = c.in_ok-left.ensures.ends.1;
   kind = c.in_ok-left.ensures.ends.2;
@@ -163,7 +170,7 @@ parse_chain-operands-preserved t c =
     let left = c.operands.left in
     let right = c.in_ok-right.right in
     let o = c.in-Some.operator in
-    let l = c.args.level in
+    let l = level_number c.args.precedence in
     let n = c.args.levels in
     let ts = drop right.end c.args.words.now in
     let kind : is_text (tree_of left.tree) ≡ left.text = sym c.operands.invariant.kind in
@@ -207,7 +214,7 @@ parse_relations-relations-preserved t c =
     let ts = drop right.end c.args.words.now in
     let rest = drop (left.end + 1) c.args.words.now in
     let some : takes_relations c.args.want ≡ true = search rules in
-    let wants : want_of (is_text (tree_of left.tree)) ≡ c.want_of.result = ap want_of (sym c.relations.invariant.kind) ∙ sym c.want_of.ensures in
+    let wants : want_of (is_text (tree_of left.tree)) ≡ c.want_of-want.result = ap want_of (sym c.relations.invariant.kind) ∙ sym c.want_of-want.ensures in
     record {
       runs = λ k vs.
           c.relations.invariant.runs k vs

@@ -4,6 +4,7 @@ use Rattle.grammar_machine.specs.MachineStarts.{more_expected, relations}
 use Rattle.basic_tree.specs.GrammarTables.{arguments_of}
 use Rattle.basic_tree.specs.Trees.{NoTrees}
 use Rattle.basic_tree.specs.declared.tokens.Sign.TheVariants.{Closing}
+use Rattle.basic_expr.specs.Precedences.{level_number}
 use Rattle.basic_expr.specs.ParsedSymbols.{Continues, Gathers, function_expected}
 use Rattle.basic_expr.proofs.expressions.+expression.Given as goal
 
@@ -17,13 +18,13 @@ abbrev pub decreases-parse_exponent : goal.decreases-parse_exponent
 decreases-parse_exponent l = 32 * (length l.words.now - l.from) + 2
 
 abbrev pub decreases-parse_level : goal.decreases-parse_level
-decreases-parse_level l = 32 * (length l.words.now - l.from) + 2 * l.level + 3
+decreases-parse_level l = 32 * (length l.words.now - l.from) + 2 * level_number l.precedence + 3
 
 abbrev pub decreases-parse_chain : goal.decreases-parse_chain
-decreases-parse_chain l = 32 * (length l.words.now - l.from) + 2 * l.level + 2
+decreases-parse_chain l = 32 * (length l.words.now - l.from) + 2 * level_number l.precedence + 2
 
 abbrev pub decreases-parse_prefixed : goal.decreases-parse_prefixed
-decreases-parse_prefixed l = 32 * (length l.words.now - l.from) + 2 * l.level + 2
+decreases-parse_prefixed l = 32 * (length l.words.now - l.from) + 2 * level_number l.precedence + 2
 
 abbrev pub decreases-parse_relations : goal.decreases-parse_relations
 decreases-parse_relations l = 32 * (length l.words.now - l.from) + 12
@@ -44,7 +45,7 @@ abbrev pub decreases-parse_function : goal.decreases-parse_function
 decreases-parse_function l = 32 * (length l.words.now - l.from) + 30
 
 abbrev pub invariant-parse_chain-operands : goal.invariant-parse_chain-operands
-invariant-parse_chain-operands l = Continues l.fn.levels l.words (Level l.fn.level l.fn.want) l.fn.from (More l.fn.level ∷ []) l.left
+invariant-parse_chain-operands l = Continues l.fn.levels l.words (Level (level_number l.fn.precedence) l.fn.want) l.fn.from (More (level_number l.fn.precedence) ∷ []) l.left
 
 abbrev pub decreases-parse_chain-operands : goal.decreases-parse_chain-operands
 decreases-parse_chain-operands l = length l.words - l.left.end

@@ -1,4 +1,4 @@
--- The words are those of the tokens, and where the machine stops says the rest.
+-- The words are those of the tokens, and the rest follows from where the machine stops.
 use Rattle.std.proofs.Common.{length, ◌≤◌, List, Err, ap, subst, arith}
 use Rattle.std.proofs.lemmas.List.{length-map}
 use Rattle.basic_tree.specs.SpellingWords.{Word, word_of}

@@ -1,5 +1,5 @@
 use Rattle.basic_expr.specs.Views.{as_word}
-use Rattle.basic_expr.proofs.KeyNumbers.{key_stands, no_key}
+use Rattle.basic_expr.proofs.WordTests.{key_stands, no_key}
 use Rattle.basic_expr.proofs.signs.next_is_key.Goals as goal
 
 pub returns-in-None-clause-stands : goal.returns-in-None-clause-stands

@@ -2,19 +2,21 @@ use Rattle.std.proofs.Common.{sym, subst}
 use Rattle.std.specs.Prelude.{Result}
 use Rattle.deck_model.specs.declared.faults.DeckCause.{DeckCause}
 use Rattle.deck_model.specs.Deck as model
+use Rattle.deck_model.specs.Hex.{hex_bytes}
 use Rattle.deck_model.specs.Fronts.{Front}
 use Rattle.deck_reader.specs.Seen.{file_texts_seen, deck_of, open_of, front_of, Decides}
-use Rattle.deck_reader.proofs.FrontLemmas.{filed, named, named_behind, next_file_behind, text_behind, text_lacks}
+use Rattle.deck_reader.proofs.FrontLemmas.{filed, named, named_behind, next_file_behind, text_behind, block_behind}
 use Rattle.deck_reader.proofs.fronts.behind_file.Goals as goal
-
-pub with_text-requires : goal.with_text-requires
-with_text-requires c =
-    text_lacks c.args.version (deck_of c.args.deck) (open_of c.args.file) c.args.line.now c.in-Some-Text.text.now (rw c.in-Some-Text.field-0-is at c.in-Some-Text.ensures) c.requires
 
 pub returns-in-Some-Text : goal.returns-in-Some-Text
 returns-in-Some-Text c =
     let behind = text_behind c.args.version (deck_of c.args.deck) (open_of c.args.file) c.args.line.now c.in-Some-Text.text.now (rw c.in-Some-Text.field-0-is at c.in-Some-Text.ensures) in
     subst (λ (r : Result Front DeckCause). Decides front_of c.with_text.result r) (sym behind) c.with_text.ensures
+
+pub returns-in-Some-Block : goal.returns-in-Some-Block
+returns-in-Some-Block c =
+    let behind = block_behind c.args.version (deck_of c.args.deck) (open_of c.args.file) c.args.line.now (hex_bytes c.in-Some-Block.digits.now) (rw c.in-Some-Block.field-0-is at c.in-Some-Block.ensures) in
+    subst (λ (r : Result Front DeckCause). Decides front_of c.with_block.result r) (sym behind) c.with_block.ensures
 
 pub returns-in_ok-before-in-Some-File : goal.returns-in_ok-before-in-Some-File
 returns-in_ok-before-in-Some-File c =

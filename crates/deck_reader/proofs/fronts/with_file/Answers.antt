@@ -9,7 +9,7 @@ use Rattle.deck_reader.proofs.fronts.with_file.Goals as goal
 pub returns-in-None : goal.returns-in-None
 returns-in-None c =
     let texts = file_texts_seen c.args.texts.now in
-    out_of_range (deck_of c.args.deck) texts (InFile c.args.version (deck_of c.args.deck) (new_file texts)) c.in-None.ensures
+    out_of_range c.args.version (deck_of c.args.deck) texts (InFile c.args.version (deck_of c.args.deck) (new_file texts)) c.in-None.ensures
 
 pub returns-in-Some : goal.returns-in-Some
 returns-in-Some c =

@@ -1,4 +1,4 @@
--- The machine reads or refuses the words from each place on.
+-- From each place on, the machine reads or rejects the words.
 use Rattle.grammar_machine.proofs.Judged.{expressions_read}
 use Rattle.grammar_machine.proofs.laws.expressions_are_read.Goals as goal
 

@@ -1,6 +1,6 @@
 use Rattle.std.proofs.Common.{◌≡◌, ℕ, List, ◌+◌, ◌-◌, ◌++◌, ◌∷◌, suc, [], ap, ◌∙◌, arith}
 use Rattle.deck_model.specs.Files.{pages_of}
-use Rattle.deck_reader.proofs.TextLemmas.{page_taken, pages_done}
+use Rattle.deck_reader.proofs.PageLemmas.{page_taken, pages_done}
 use Rattle.history_reader.proofs.hexes.pages_of.Goals as goal
 
 pub loop-init : goal.loop-init

@@ -17,14 +17,14 @@ returns-then-is_decimal_of c whole start =
     let entries = c.loop-rest.entries in
     let counted : c.len-good.result ≡ length entries.items = omega (arith, c.len-good.ensures, entries.ok.0) in
     let some = some_if (length c.loop-rest.rest.now) c.is_empty.result c.loop-rest-test.true c.is_empty.ensures in
-    wrong_behind whole c.args.count.now entries.items c.loop-rest.rest.now (c.loop-rest.invariant.told whole start) c.len-good.result counted c.len-good.type_inv (sym c.is_decimal_of.ensures ∙ c.if-is_decimal_of.true) some
+    wrong_behind whole c.args.count.now entries.items c.loop-rest.rest.now (c.loop-rest.invariant.told whole start) c.len-good.result counted (sym c.is_decimal_of.ensures ∙ c.if-is_decimal_of.true) some
 
 pub returns-in-Err : goal.returns-in-Err
 returns-in-Err c whole start =
     let entries = c.loop-rest.entries in
     let counted : c.len-good.result ≡ length entries.items = omega (arith, c.len-good.ensures, entries.ok.0) in
     rw c.at.ensures
-    (fails_here whole c.args.count.now entries.items c.loop-rest.rest.now (c.loop-rest.invariant.told whole start) c.len-good.result counted c.len-good.type_inv (λ (x : Entry × Bor (List ℕ)). (x.0, x.1.now)) c.in-Err.error (sym c.is_decimal_of.ensures ∙ c.if-is_decimal_of.false) c.in-Err.ensures)
+    (fails_here whole c.args.count.now entries.items c.loop-rest.rest.now (c.loop-rest.invariant.told whole start) c.len-good.result counted (λ (x : Entry × Bor (List ℕ)). (x.0, x.1.now)) c.in-Err.error (sym c.is_decimal_of.ensures ∙ c.if-is_decimal_of.false) c.in-Err.ensures)
 
 pub loop-rest-preserved : goal.loop-rest-preserved
 loop-rest-preserved c =
@@ -37,7 +37,7 @@ loop-rest-preserved c =
     record {
       told = λ whole start.
           let so_far = c.loop-rest.invariant.told whole start in
-          let unmet = still_open whole c.args.count.now entries.items c.loop-rest.rest.now so_far c.len-good.result counted c.len-good.type_inv (sym c.is_decimal_of.ensures ∙ c.if-is_decimal_of.false) in
+          let unmet = still_open whole c.args.count.now entries.items c.loop-rest.rest.now so_far c.len-good.result counted (sym c.is_decimal_of.ensures ∙ c.if-is_decimal_of.false) in
           subst (λ (l : List Entry). SoFar whole c.args.count.now l after) (sym c.in_ok-push.ensures)
           (one_more whole c.args.count.now entries.items c.loop-rest.rest.now so_far e after unmet c.in-Ok.ensures.0 c.in-Ok.ensures.1);
       few = let pushed : length c.push.new.entries.items ≡ length entries.items + 1 = ap length c.in_ok-push.ensures ∙ omega (arith, length-append entries.items (e ∷ [])) in omega arith;
@@ -48,11 +48,11 @@ returns-then-is_decimal_of-2 c whole start =
     let entries = c.loop-rest.entries in
     let counted : c.len-all.result ≡ length entries.items = omega (arith, c.len-all.ensures, entries.ok.0) in
     let ended = none_if (length c.loop-rest.rest.now) c.is_empty.result c.loop-rest-test.false c.is_empty.ensures in
-    whole_text_here whole c.args.count.now entries.items c.loop-rest.rest.now (c.loop-rest.invariant.told whole start) c.len-all.result counted c.len-all.type_inv (sym c.is_decimal_of-2.ensures ∙ c.if-is_decimal_of-2.true) ended
+    whole_text_here whole c.args.count.now entries.items c.loop-rest.rest.now (c.loop-rest.invariant.told whole start) c.len-all.result counted (sym c.is_decimal_of-2.ensures ∙ c.if-is_decimal_of-2.true) ended
 
 pub returns-else-is_decimal_of-2 : goal.returns-else-is_decimal_of-2
 returns-else-is_decimal_of-2 c whole start =
     let entries = c.loop-rest.entries in
     let counted : c.len-all.result ≡ length entries.items = omega (arith, c.len-all.ensures, entries.ok.0) in
     let ended = none_if (length c.loop-rest.rest.now) c.is_empty.result c.loop-rest-test.false c.is_empty.ensures in
-    ends_here whole c.args.count.now entries.items c.loop-rest.rest.now (c.loop-rest.invariant.told whole start) c.len-all.result counted c.len-all.type_inv (sym c.is_decimal_of-2.ensures ∙ c.if-is_decimal_of-2.false) ended
+    ends_here whole c.args.count.now entries.items c.loop-rest.rest.now (c.loop-rest.invariant.told whole start) c.len-all.result counted (sym c.is_decimal_of-2.ensures ∙ c.if-is_decimal_of-2.false) ended

@@ -3,7 +3,7 @@ use Rattle.std.specs.Prelude.{slice_get}
 use Rattle.std.proofs.lemmas.List.{get_or_read}
 use Rattle.std.proofs.lemmas.Option.{slice_get-get_or}
 use Rattle.monitor_calls.specs.declared.calls.Entry.{Entry}
-use Rattle.history_replay.specs.Ports.{IsIndex}
+use Rattle.history_replay.specs.Lists.{IsIndex}
 use Rattle.history_replay.proofs.Indexes.{index_none, index_more}
 use Rattle.history_replay.proofs.index.index_of.Goals as goal
 

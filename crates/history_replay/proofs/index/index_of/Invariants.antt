@@ -1,4 +1,4 @@
-use Rattle.history_replay.specs.Ports.{IsIndex}
+use Rattle.history_replay.specs.Lists.{IsIndex}
 use Rattle.history_replay.proofs.index.index_of.Given as goal
 
 -- the index of the entries from here on

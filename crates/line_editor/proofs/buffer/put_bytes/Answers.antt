@@ -6,7 +6,7 @@ use Rattle.std.proofs.lemmas.Iterator.{items_from_drains}
 use Rattle.std.proofs.lemmas.Iterator.Adapters.{YieldsList-from_vec}
 use Rattle.line_editor.proofs.buffer.put_bytes.Goals as goal
 
--- what is put in is the line
+-- what is inserted is the line
 pub returns-clause-ok : goal.returns-clause-ok
 returns-clause-ok c =
     let put = c.in_ok-splice.ensures.items in

@@ -4,7 +4,7 @@ use Rattle.line_editor.proofs.MapLemmas.{absent}
 use Rattle.line_editor.proofs.ProgramLemmas.{whole_stored, whole_same, taken_back}
 use Rattle.line_editor.proofs.text.store.Goals as goal
 
--- what was stored is taken out again
+-- what was stored is removed again
 pub returns-clause-memory : goal.returns-clause-memory
 returns-clause-memory c =
     taken_back c.args.number c.args.rest.now c.args.buffer.now c.store.new.self c.remove.new.self

@@ -21,7 +21,7 @@ with_last : (vs : List UsingItem) (e : Tree) → suc (length vs) ≡ used vs (So
 with_last [] e = refl
 with_last (v ∷ vs) e = ap suc (with_last vs e)
 
--- behind the test of what stands last
+-- after the test of the last item
 counts : (vs : List UsingItem) (last o : Option Expr) → last ≡ o → (n : ℕ) → n ≡ used vs (option_map tree_of o) → n ≡ used vs (option_map tree_of last)
 counts vs last o is n e = e ∙ ap (λ (o : Option Expr). used vs (option_map tree_of o)) (sym is)
 

@@ -15,7 +15,7 @@ loop-statement-init c = begun come c.args.all.now _ c.new-names.ensures.items
 
 pub loop-statement-preserved : goal.loop-statement-preserved
 loop-statement-preserved c =
-    added come (λ (r : Bor Statement). arrays_in (statement_of r.now)) c.args.all.now c.loop-statement.statement-index c.statement-item.result c.loop-statement.names.items c.add_arrays.new.names.items _ (λ r rs. refl) c.statement-item.is c.loop-statement-test.true c.in_ok-add_arrays.ensures c.loop-statement.invariant
+    added come (λ (r : Bor Statement). arrays_in (statement_of r.now)) c.args.all.now c.loop-statement.statement-index c.statement-item.result c.loop-statement.names.items c.add_arrays.new.names.items _ (λ r rs. refl) c.statement-item.is c.loop-statement-test.true c.in_ok-add_arrays.ensures.added c.loop-statement.invariant
 
 pub returns : goal.returns
 returns c = ended come c.args.all.now c.loop-statement.statement-index c.loop-statement.names.items _ refl c.loop-statement-test.false c.loop-statement.invariant

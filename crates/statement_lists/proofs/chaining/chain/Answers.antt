@@ -1,4 +1,4 @@
--- The text of CHAIN leads to its line.
+-- The string of CHAIN leads to its line.
 use Rattle.std.proofs.Common.{rules, arith}
 use Rattle.grammar_machine.specs.MachineSentences.{chain_form}
 use Rattle.statement_parts.specs.ParsedForms.{States}

@@ -1,4 +1,4 @@
--- A word with which a value may begin follows the text or does not.
+-- A word with which a value can begin may follow the string or not.
 use Rattle.std.proofs.Common.{rules, ◌≡◌, ◌∷◌, ◌+◌, true, drop, sym}
 use Rattle.basic_expr.specs.Views.{as_word}
 use Rattle.grammar_machine.specs.MachineForms.{begins_value}

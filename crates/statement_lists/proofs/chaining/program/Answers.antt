@@ -1,4 +1,4 @@
--- The last word of the text stands before the place behind it.
+-- The last word of the string is before the place after it.
 use Rattle.basic_tree.specs.TreeViews.{tree_of}
 use Rattle.statement_lists.proofs.ChainSteps.{ends_before}
 use Rattle.statement_lists.proofs.chaining.program.Goals as goal

@@ -9,7 +9,7 @@ use Rattle.statement_parts.specs.ParsedForms.{Parts}
 use Rattle.statement_parts.proofs.Steps.{on_err}
 use Rattle.statement_lists.proofs.list_elements.shape.Goals as goal
 
--- what is expected behind the second bound, the first, the parenthesis and the name
+-- what is expected after the second bound, the first, the parenthesis and the name
 abbrev behind_second : Name → ℕ → (Shape → Form) → Option ℕ → Form
 behind_second name first g second = TakeClosing (g (record { name = name; first = first; second = second }))
 

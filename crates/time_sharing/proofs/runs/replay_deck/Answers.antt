@@ -11,28 +11,28 @@ use Rattle.time_sharing.proofs.RetoldLemmas.{retold, undone}
 use Rattle.time_sharing.proofs.SystemLemmas.{names_are}
 use Rattle.time_sharing.proofs.runs.replay_deck.Goals as goal
 
-pub replay-requires : goal.replay-requires
-replay-requires c =
+pub replay-requires-clause-one_each : goal.replay-requires-clause-one_each
+replay-requires-clause-one_each c =
     let deck = c.args.deck in
-    let sessions = c.in_ok-sessions.sessions in
-    let count : c.len-jobs.result ≡ length deck.terminals.items = omega (arith, c.len-jobs.ensures, deck.terminals.ok.0) in
-    one_each deck sessions.items c.in_ok-monitor.monitor _ (vec_len sessions) c.in_ok-sessions.ensures.keys c.in_ok-monitor.ensures.opening count sessions.ok.0
+    let jobs = c.in_ok-jobs.jobs in
+    let count : c.len-count.result ≡ length deck.terminals.items = omega (arith, c.len-count.ensures, deck.terminals.ok.0) in
+    one_each deck jobs.items c.in_ok-monitor.monitor _ (vec_len jobs) c.in_ok-jobs.ensures.keys c.in_ok-monitor.ensures.opening count jobs.ok.0
 
 pub returns : goal.returns
 returns c =
     let deck = c.args.deck in
-    let sessions = c.in_ok-sessions.sessions in
-    let count : c.len-jobs.result ≡ length deck.terminals.items = omega (arith, c.len-jobs.ensures, deck.terminals.ok.0) in (
-      c.in_ok-sessions.ensures.names ∙ names_are deck.terminals.items,
-      retold deck sessions.items c.in_ok-monitor.monitor _ (vec_len sessions) c.in_ok-sessions.ensures.keys c.in_ok-monitor.ensures.opening count sessions.ok.0 c.args.history.now c.in_ok-screens.screens.items c.in_ok-screens.ensures,
+    let jobs = c.in_ok-jobs.jobs in
+    let count : c.len-count.result ≡ length deck.terminals.items = omega (arith, c.len-count.ensures, deck.terminals.ok.0) in (
+      c.in_ok-jobs.ensures.names ∙ names_are deck.terminals.items,
+      retold deck jobs.items c.in_ok-monitor.monitor _ (vec_len jobs) c.in_ok-jobs.ensures.keys c.in_ok-monitor.ensures.opening count jobs.ok.0 c.args.history.now c.in_ok-screens.screens.items c.in_ok-screens.ensures,
     )
 
 pub returns-in_err-screens : goal.returns-in_err-screens
 returns-in_err-screens c =
     let deck = c.args.deck in
-    let sessions = c.in_ok-sessions.sessions in
+    let jobs = c.in_ok-jobs.jobs in
     let history = c.args.history.now in
-    let count : c.len-jobs.result ≡ length deck.terminals.items = omega (arith, c.len-jobs.ensures, deck.terminals.ok.0) in
+    let count : c.len-count.result ≡ length deck.terminals.items = omega (arith, c.len-count.ensures, deck.terminals.ok.0) in
     let p = err_from_is_err_and c.from_residual-in_err-screens.result c.from_residual-in_err-screens.ensures.1 in
     subst (λ (r : Result (Vec Terminal × Vec (List ℕ)) (Trouble Dispute)). RetoldBy (deck_of deck) history r) (sym (p.1 ∙ ap (λ (e : Trouble Dispute). Err e) p.2))
-    (undone deck sessions.items c.in_ok-monitor.monitor _ (vec_len sessions) c.in_ok-sessions.ensures.keys c.in_ok-monitor.ensures.opening count sessions.ok.0 history c.in_err-screens.field-0.0 c.in_err-screens.ensures)
+    (undone deck jobs.items c.in_ok-monitor.monitor _ (vec_len jobs) c.in_ok-jobs.ensures.keys c.in_ok-monitor.ensures.opening count jobs.ok.0 history c.in_err-screens.field-0.0 c.in_err-screens.ensures)

@@ -1,7 +1,5 @@
 use Rattle.std.proofs.Common.{◌≡◌, ℕ, List, refl, sym, subst, ◌∙◌, arith, length, map}
-use Rattle.std.proofs.lemmas.List.{length-map}
 use Rattle.deck_model.specs.Report.{good_line}
-use Rattle.deck_reader.specs.Filed.{file_of}
 use Rattle.deck_reader.specs.Seen.{deck_of, terminal_of}
 use Rattle.time_sharing.proofs.RunLemmas.{as_many}
 use Rattle.time_sharing.specs.declared.outcomes.Outcome.{Outcome}
@@ -31,7 +29,7 @@ returns-in-Ok-give_all g c =
     let after = ends (g.S.Source.state c.read_system.new.source) (g.K.Sink.state c.give_all.new.sink) in
     let output = c.in-Ok-good_line.output.items in
     let accounts : c.len-accounts.result ≡ length c.in-Ok.deck.volume.accounts.items = omega (arith, c.len-accounts.ensures, c.in-Ok.deck.volume.accounts.ok.0) in
-    let files : c.len-files.result ≡ length (map file_of c.in-Ok.deck.volume.files.items) = omega (arith, c.len-files.ensures, c.in-Ok.deck.volume.files.ok.0, length-map c.in-Ok.deck.volume.files.items file_of) in
+    let files : c.len-files.result ≡ length c.in-Ok.deck.volume.files.items = omega (arith, c.len-files.ensures, c.in-Ok.deck.volume.files.ok.0) in
     let terminals : c.len.result ≡ length (map terminal_of c.in-Ok.deck.terminals.items) = omega (arith, c.len.ensures, c.in-Ok.deck.terminals.ok.0, as_many c.in-Ok.deck.terminals.items) in
     let line : IsGoodLine (deck_of c.in-Ok.deck) output = c.in-Ok-good_line.ensures ∙ (λ i. good_line (accounts i) (files i) (terminals i)) in
     record {
@@ -53,7 +51,7 @@ returns g c =
     let after = ends (g.S.Source.state c.read_system.new.source) (g.K.Sink.state c.give_all.new.sink) in
     let output = c.in-Ok-good_line.output.items in
     let accounts : c.len-accounts.result ≡ length c.in-Ok.deck.volume.accounts.items = omega (arith, c.len-accounts.ensures, c.in-Ok.deck.volume.accounts.ok.0) in
-    let files : c.len-files.result ≡ length (map file_of c.in-Ok.deck.volume.files.items) = omega (arith, c.len-files.ensures, c.in-Ok.deck.volume.files.ok.0, length-map c.in-Ok.deck.volume.files.items file_of) in
+    let files : c.len-files.result ≡ length c.in-Ok.deck.volume.files.items = omega (arith, c.len-files.ensures, c.in-Ok.deck.volume.files.ok.0) in
     let terminals : c.len.result ≡ length (map terminal_of c.in-Ok.deck.terminals.items) = omega (arith, c.len.ensures, c.in-Ok.deck.terminals.ok.0, as_many c.in-Ok.deck.terminals.items) in
     let line : IsGoodLine (deck_of c.in-Ok.deck) output = c.in-Ok-good_line.ensures ∙ (λ i. good_line (accounts i) (files i) (terminals i)) in
     record {

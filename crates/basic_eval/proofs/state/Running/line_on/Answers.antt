@@ -24,11 +24,9 @@ returns-then-is_terminal g c clock =
     let stack = c.args.stack.now in
     let channel = number (top stack) in
     let j = seen c.args.self.now in
-    let k = seen c.push_key_line.new.self in
-    let r = told c.push_key_line.new.self.exit c.push_key_line.new.stack c.push_key_line.result in
     let is : is_terminal channel ≡ true = ap is_terminal (sym c.take_number-channel.ensures.value) ∙ sym c.is_terminal.ensures ∙ c.if-is_terminal.true in
-    follows_from (by_kind channel (drop 1 stack) j true is)
-    (follows_acts r k (subst (λ (l : List Value). Acts (line_asked [] j then next l) k r) c.take_number-channel.ensures.rest c.push_key_line.ensures))
+    follows_from (by_kind channel (drop 1 stack) j true is ∙ ap (λ (l : List Value). line_asked [] j then next l) (sym c.take_number-channel.ensures.rest))
+    (c.push_key_line.ensures clock)
 
 pub returns-in-Ok : goal.returns-in-Ok
 returns-in-Ok g c clock =

@@ -2,12 +2,12 @@ use Rattle.std.proofs.Common.{ℕ, Option, ap, sym, ◌∙◌}
 use Rattle.basic_values.specs.declared.errors.TheConstants.{DATA_FORMAT_ERROR}
 use Rattle.grammar_machine.specs.MachineJudge.{judge_of}
 use Rattle.basic_tree.specs.ProgramLines.{Lines}
-use Rattle.session_model.specs.Talk.{answered, loaded, runs_loaded}
-use Rattle.session_model.specs.Texts.{fault_line}
+use Rattle.session_model.specs.Talk.{loaded, reports, runs_loaded}
+use Rattle.session_model.specs.Texts.{fault_report}
 use Rattle.command_level.specs.Seen.{seen}
 use Rattle.command_level.proofs.Ends.{ok_map}
 use Rattle.command_level.proofs.Lows.{loaded_low}
-use Rattle.command_level.proofs.Runs.{serves_lost, serves_answer}
+use Rattle.command_level.proofs.Runs.{serves_lost, serves_report}
 use Rattle.command_level.proofs.Serving.{serves_from}
 use Rattle.command_level.proofs.session.Session.run_pages.Goals as goal
 
@@ -31,5 +31,5 @@ returns-in_ok-load-in-Some g c s st =
 pub returns-in-None : goal.returns-in-None
 returns-in-None g c s st =
     serves_from (λ most. ap (λ (o : Option Lines). runs_loaded judge_of most c.args.name o s) (sym c.in_ok-found.ensures ∙ c.in-None.is))
-    (serves_answer c.args.self.now c.refuse_by.new.self s st (fault_line DATA_FORMAT_ERROR) c.refuse_by.result
-    (ok_map c.refuse_by.result (λ on same. ap (λ (n : ℕ). answered (fault_line n) (seen c.args.self.now)) (sym c.new.ensures) ∙ same) c.refuse_by.ensures))
+    (serves_report c.args.self.now c.refuse_by.new.self s st (fault_report DATA_FORMAT_ERROR) c.refuse_by.result
+    (ok_map c.refuse_by.result (λ on same. ap (λ (n : ℕ). reports (fault_report n) (seen c.args.self.now)) (sym c.new.ensures) ∙ same) c.refuse_by.ensures))
