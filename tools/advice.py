@@ -79,7 +79,7 @@ OTHER_WORDS = {
     "RTRIM$": "there is no RTRIM$; LEFT takes a part of a string",
     "SCREEN": "there is no screen control; leave it out",
     "SELECT": "there is no SELECT CASE; write ON n GOTO, or several IF",
-    "SEG$": "write MID(t,n,k)",
+    "SEG$": "write MID(t,n,k), where k is the number of bytes and not the last place",
     "SIN": f"there is no SIN: {NO_FLOATS}",
     "SPC": "write SPACE$(n)",
     "SQR": f"there is no SQR: {NO_FLOATS}",
@@ -184,6 +184,8 @@ def one_letter(spot):
         return f"delete the blank: {blank[1]} belongs to the name, as {name}{blank[1]}"
     if re.match(rf"{name}[!#&]", spot.rest):
         return f"there is no floating point, so no name ends in {spot.rest[len(name)]}; write {name}%"
+    if re.search(r"(?:FOR|NEXT)[ \t]*$", spot.head):
+        return f"{name} is a floating-point variable, and there are none; write {name}% (an integer)"
     return f"{name} is a floating-point variable, and there are none; write {name}% (an integer) or {name}$ (a string)"
 
 
@@ -235,6 +237,13 @@ def odd_sign(spot):
     return f"{spot.line[spot.place]} is not a sign of this BASIC"
 
 
+def next_many(spot):
+    """Writes a NEXT for each variable, in the order in which they close their loops."""
+    listed = spot.head.rpartition("NEXT")[2] + re.match("[^:]*", spot.rest)[0]
+    names = re.findall(r"([A-Z][0-9]?)%?[ \t]*(?=,|$)", listed)
+    return "NEXT takes one variable; write " + " : ".join(f"NEXT {it}%" for it in names)
+
+
 def wanted(spot):
     here = f"{spot.word} cannot be here" if spot.word else "the line ends too early"
     return f"{here}; expected: {spot.wanted}" if spot.wanted else here
@@ -267,9 +276,9 @@ MISTAKES = [
     Row("ampersand", (STRAY,), "& is not a sign of this BASIC; join strings by +, and do not continue a line in the next", rest="&"),
     Row("print_at", (STRAY,), "there is no screen control; write TAB(n) in PRINT", head="PRINT *", rest="@"),
     Row("keyword_name", (STRAY,), keyword_name, head="[A-Z]", rest="[%$]"),
-    Row("percent", (STRAY,), "% ends a name or a number; delete the blank before it", head=r"[ \t]", rest="%"),
-    Row("percent_more", (STRAY,), "% ends a name or a number, and here is none before it; delete it", rest="%"),
-    Row("dollar", (STRAY,), "$ ends a name; delete the blank before it", rest=r"\$"),
+    Row("percent", (STRAY,), "% ends a name or a number; delete the blank before it", head=r"[0-9][ \t]+", rest="%"),
+    Row("percent_more", (STRAY,), "% ends a name or a number, and there is none before it; delete it", rest="%"),
+    Row("dollar", (STRAY,), "$ ends a name, and there is none before it; delete it", rest=r"\$"),
     Row("brackets", (STRAY,), "write subscripts in parentheses: ( and )", rest=r"[\[\]{}]"),
     Row("point", (STRAY,), "there is no decimal point: all numbers are integers", rest=r"\."),
     Row("odd_sign", (STRAY,), odd_sign),
@@ -284,7 +293,7 @@ MISTAKES = [
     Row("text_truth", (SYNTAX,), "a string is not a condition; compare it, as A$<>\"\"", head=r"\b(?:IF|WHILE|UNTIL|UNLESS)\b((?!THEN).)*", where=lambda spot: spot.wanted == "a number, or a comparison"),
     # Loops.
     Row("next_alone", (SYNTAX,), "NEXT needs the variable of its FOR, as NEXT I%", head=r"NEXT[ \t]*", rest="$|:"),
-    Row("next_many", (SYNTAX,), "NEXT takes one variable; write NEXT J% : NEXT I%", head=r"NEXT[ \t]*[A-Z][0-9]?%[ \t]*", rest=","),
+    Row("next_many", (SYNTAX,), next_many, head=r"NEXT[ \t]*[A-Z][0-9]?%[ \t]*", rest=","),
     Row("for_while", (SYNTAX,), "FOR counts up to a number, as FOR I%=1% TO 5%; there is no FOR .. {word} over lines", head=r"FOR\b[^:]*", rest="WHILE|UNTIL", where=lambda spot: spot.wanted == "TO"),
     Row("for_text", (SYNTAX,), "FOR counts in an integer variable, as I%", head=r"FOR[ \t]*", rest=r"[A-Z][0-9]?\$"),
     Row("while_first", (SYNTAX,), "{word} comes after a statement, as its modifier: N%=N%+1% {word} condition", rest="WHILE|UNTIL|UNLESS", where=lambda spot: spot.wanted == "a statement"),

@@ -100,7 +100,7 @@ def account_comes_later(place):
     for number, line in enumerate(place.lines, 1):
         if later.match(line):
             return f"account {found[1]},{found[2]} comes only in {place.where(number)}; all ACCOUNT lines come before the FILE lines"
-    return f"no ACCOUNT line gives account {found[1]},{found[2]}; write ACCOUNT {found[1]},{found[2]} PASSWORD 1000 before the FILE lines"
+    return f"no ACCOUNT line gives account {found[1]},{found[2]}; write ACCOUNT {found[1]},{found[2]} DEMO {limits(place)} before the FILE lines (DEMO is the password)"
 
 
 def was_given(place):
@@ -123,11 +123,27 @@ def many_bytes(place):
 
 
 def odd_digits(place):
-    return f"two digits are one byte, and this line has {len(place.line) - 1}: one is missing, or too many"
+    return f"each byte is two digits, and this line has {len(place.line) - 1} digits; add one, or delete one"
 
 
-def needs_end(place):
-    return "the deck has no line END; its last line is END, and a line feed after it"
+def limits(place):
+    """Returns what may come after the password: a limit of calls, and a quota if the version has one."""
+    return "1000" if place.before.version == 1 else "1000 100"
+
+
+def no_calls(place):
+    missing = "the limit of calls is missing" if place.before.version == 1 else "the limit of calls and the quota are missing"
+    return f"{missing}; write {place.line} {limits(place)}"
+
+
+def no_password(place):
+    missing = "the password and the limit of calls" if place.before.version == 1 else "the password, the limit of calls and the quota"
+    return f"{missing} are missing; write {place.line} DEMO {limits(place)} (DEMO is the password)"
+
+
+def odd_byte(place):
+    sign = re.match("=[0-9a-f]*(.)", place.line)[1]
+    return f"{'a space' if sign == ' ' else sign} is not a hexadecimal digit; after = come only 0 to 9 and a to f"
 
 
 def comes_too_late(place):
@@ -160,7 +176,7 @@ def no_version(place):
 
 
 def no_heading(place):
-    return f"the first line of a deck is {place.headings()}, and this is not"
+    return f"the first line of a deck must be {place.headings()}"
 
 
 # THE TABLE
@@ -209,11 +225,11 @@ CAUSES = [
     Row("empty", (ENDS,), r"$", "the file is empty", lambda place: place.number == 1),
     Row("cr_alone", ANY, r"[^\n]*\r[^\n]*", "there is a CR (\\r) inside this line; save the file with Unix line ends (LF), or with those of Windows (one CR and LF)"),
     Row("no_last_lf", (ENDS,), r"END$", "the last line END has no line feed after it; press RETURN after END", is_cut),
-    Row("no_lf", (ENDS,), r".+$", "the file ends in this line, without a line feed; the last line is END, with a line feed", is_cut),
-    Row("no_end", (ENDS,), r"$", needs_end),
+    Row("no_lf", (ENDS,), r".+$", "the file ends here without a line feed, and END is missing; press RETURN after this line, and add END as the last line", is_cut),
+    Row("no_end", (ENDS,), r"$", "the line END is missing; add END as the last line, and press RETURN after it"),
     # Line 1.
-    Row("program", (VERSION,), r"\d+ *[A-Za-z?!]", "this is a BASIC program and not a deck; type it at ./rsts-terminal, or judge it by ./rsts-lint"),
-    Row("report", (VERSION,), r"TERMINAL |HISTORY ", "this is the output of a run and not a deck; ./rsts replay DECK RUN takes it"),
+    Row("program", (VERSION,), r"\d+ *[A-Za-z?!]", "this is a BASIC program, not a deck; type it at ./rsts-terminal, or check it with ./rsts-lint"),
+    Row("report", (VERSION,), r"TERMINAL |HISTORY ", "this is what a run wrote, not a deck; name the deck that was run (./rsts replay DECK RUN takes both, if RUN was written with --history)"),
     Row("version", (VERSION,), r"RSTS-DECK \d+$", no_version),
     Row("version_blanks", (VERSION,), r"[ \t]*(RSTS-DECK \d+)[ \t]*$", "delete the blanks before and after {1}"),
     Row("small_version", (VERSION,), r"[ \t]*[Rr][Ss][Tt][Ss][-_ ]*[Dd][Ee][Cc][Kk]", "spell the first line RSTS-DECK 1: capital letters, one space, nothing before or after"),
@@ -222,16 +238,16 @@ CAUSES = [
     # What is no line of a deck.
     Row("blank_after_end", (FORM,), r"[ \t]*$", "END is the last line of a deck; delete this empty line", after("END")),
     Row("after_end", (FORM,), r"", "END is the last line of a deck; put it below this line, or delete the line", after("END")),
-    Row("blank", (FORM,), r"[ \t]*$", "a deck has no empty lines, but its source for ./rsts-pack may; delete this line (an empty line that is typed is > alone)"),
-    Row("comment", (FORM,), r"[ \t]*(?:[!#;*]|//|--|REM\b)", "a deck has no comments, but its source for ./rsts-pack may, after !; delete this line"),
-    Row("include", (FORM,), r"@", "a deck includes no files, but its source for ./rsts-pack may; write the lines themselves"),
-    Row("blanks_first", (FORM,), r"[ \t]+(?:%s|>)" % WORD, "a line begins at its first byte; delete the blanks before the word"),
+    Row("blank", (FORM,), r"[ \t]*$", "a deck has no empty lines; delete this one (to type an empty line, write > alone; ./rsts-pack makes a deck of a file with empty lines)"),
+    Row("comment", (FORM,), r"[ \t]*(?:[!#;*]|//|--|REM\b)", "a deck has no comments; delete this line (./rsts-pack makes a deck of a file with comment lines, which begin with !)"),
+    Row("include", (FORM,), r"@", "a deck includes no files; write the lines of the file here, each after > (./rsts-pack makes a deck of a file with @ lines)"),
+    Row("blanks_first", (FORM,), r"[ \t]+(?:%s|>)" % WORD, "delete the blanks at the beginning of the line"),
     Row("blanks_last", (FORM,), r"%s\b.*[ \t]$" % WORD, "the line ends in blanks; delete them"),
     Row("tab", (FORM,), r"%s\b.*\t" % WORD, "put one space between the parts of a line, not a tab (\\t)"),
     Row("spaces", (FORM,), r"%s\b.*  " % WORD, "put one space between the parts of a line, not several"),
     Row("no_text", (FORM,), r">", "a > line follows a TERMINAL line (what is typed there) or a FILE line (the text of the file)"),
     # The order.
-    Row("no_disk", (FORM,), r"(?!DISK|disk)(?:%s|>)" % WORD, "line 2 is DISK and the number of blocks, as DISK 100", after("RSTS-DECK")),
+    Row("no_disk", (FORM,), r"(?!DISK|disk)(?:%s|>)" % WORD, "the second line of a deck is DISK and the number of blocks; write it before this line, as DISK 100", after("RSTS-DECK")),
     Row("account_late", (FORM,), r"ACCOUNT ", comes_too_late, after("FILE", "TERMINAL")),
     Row("file_late", (FORM,), r"FILE ", comes_too_late, after("TERMINAL")),
     Row("second_disk", (FORM,), r"(RSTS-DECK|DISK)\b", "a deck has one {1} line, and it is above", after("DISK", "ACCOUNT", "FILE", "TERMINAL")),
@@ -244,10 +260,10 @@ CAUSES = [
     Row("small_password", (FORM,), r"ACCOUNT \d+,\d+ (?=\S*[a-z])(\S+)", "the password {1} has small letters; it is 1 to 6 capital letters and digits (at HELLO either may be typed)"),
     Row("one_number", (FORM,), r"ACCOUNT (\d+) |FILE \[\d+\]", "an account has two numbers with a comma between them, as 100,5"),
     Row("slash", (FORM,), r"ACCOUNT (\d+)[/.;: ](\d+)\b", "put a comma between project and programmer number: {1},{2}"),
-    Row("brackets", (FORM,), r"ACCOUNT [\[(](\d+),(\d+)[\])]", "an ACCOUNT line has no brackets: ACCOUNT {1},{2} PASSWORD calls"),
+    Row("brackets", (FORM,), r"ACCOUNT [\[(](\d+),(\d+)[\])]", "an ACCOUNT line has no brackets; write ACCOUNT {1},{2}"),
     Row("semicolon", (FORM,), r"ACCOUNT \d+,\d+[;/:](\S+)", "put a space between account and password (the ; is for HELLO)"),
-    Row("no_calls", (FORM,), r"ACCOUNT \d+,\d+ [A-Z0-9]+$", "the limit of calls is missing; write {0} 1000"),
-    Row("no_password", (FORM,), r"ACCOUNT (\d+,\d+)$", "password and limit of calls are missing; write ACCOUNT {1} PASSWORD 1000"),
+    Row("no_calls", (FORM,), r"ACCOUNT \d+,\d+ [A-Z0-9]+$", no_calls),
+    Row("no_password", (FORM,), r"ACCOUNT \d+,\d+$", no_password),
     Row("no_quota", (FORM,), r"ACCOUNT \d+,\d+ [A-Z0-9]+ \d+$", "in version 2 a quota of blocks comes after the calls; write {0} 100, or RSTS-DECK 1 in the first line", version_is(2)),
     Row("no_quota_3", (FORM,), r"ACCOUNT \d+,\d+ [A-Z0-9]+ \d+$", "in version 3 a quota of blocks comes after the calls; write {0} 100", version_is(3)),
     Row("quota", (FORM,), r"(ACCOUNT \d+,\d+ [A-Z0-9]+ \d+) \d+$", "version 1 has no quota; write {1}, or RSTS-DECK 2 in the first line", version_is(1)),
@@ -266,19 +282,19 @@ CAUSES = [
     Row("no_stem", (RANGE,), r"FILE \[\d+,\d+\][.<]", "the name of the file is missing; it is 1 to 6 capital letters and digits"),
     Row("long_name", (RANGE,), r"FILE \[\d+,\d+\]([A-Za-z0-9]{7,})", "the name {1} has more than 6 letters and digits"),
     Row("long_extension", (RANGE,), r"FILE \[\d+,\d+\]\w*\.([A-Z0-9]{4,})", "the extension {1} has more than 3 letters and digits", version_is(1, 2)),
-    Row("no_extension", (RANGE,), r"FILE \[\d+,\d+\]\w*\.<", "after the point an extension of 1 to 3 letters is missing; write it, or no point", version_is(1, 2)),
+    Row("no_extension", (RANGE,), r"FILE \[\d+,\d+\]\w*\.<", "the extension after the point is missing; write 1 to 3 letters or digits, or delete the point", version_is(1, 2)),
     Row("owner", (OWNER,), r"FILE \[\d+,\d+\]", account_comes_later),
     Row("disk_room", (ROOM,), r"FILE ", no_room_on_disk, lambda place: is_file(place) and no_room_on_disk(place)),
     Row("quota_room", (ROOM,), r"FILE ", no_room_in_quota, lambda place: is_file(place) and no_room_in_quota(place)),
     Row("text_room", (ROOM,), r">", blocks_for_lines),
     Row("most_files", (ROOM,), r"FILE ", "a deck has at most 512 files"),
     Row("most_accounts", (ROOM,), r"ACCOUNT ", "a deck has at most 512 accounts"),
-    # Version 3. These are only advice beside the program's own line: a program without version 3 rejects its first line.
-    Row("bytes_version", (FORM,), r"=", "lines of bytes (=) are of version 3; if the program takes it, write RSTS-DECK 3 in the first line, and a quota in each ACCOUNT line", lambda place: after("FILE")(place) and place.before.version == 1),
-    Row("bytes_version_2", (FORM,), r"=", "lines of bytes (=) are of version 3; if the program takes it, write RSTS-DECK 3 in the first line", lambda place: after("FILE")(place) and place.before.version == 2),
+    # Version 3.
+    Row("bytes_version", (FORM,), r"=", "lines of bytes (=) need version 3; write RSTS-DECK 3 in the first line, and a quota at the end of each ACCOUNT line", lambda place: after("FILE")(place) and place.before.version == 1),
+    Row("bytes_version_2", (FORM,), r"=", "lines of bytes (=) need version 3; write RSTS-DECK 3 in the first line", lambda place: after("FILE")(place) and place.before.version == 2),
     Row("bytes_alone", (FORM,), r"=", "a line of bytes (=) follows a FILE line, or another line of the file", after("RSTS-DECK", "DISK", "ACCOUNT", "TERMINAL")),
     Row("capital_digits", (FORM,), r"=[0-9a-fA-F]*[A-F]", "hexadecimal digits are 0 to 9 and small letters a to f; this line has capital ones"),
-    Row("bytes_sign", (FORM,), r"=[0-9a-f]*([^0-9a-f])", "{1} is not a hexadecimal digit; after = come only 0 to 9 and a to f"),
+    Row("bytes_sign", (FORM,), r"=[0-9a-f]*[^0-9a-f]", odd_byte),
     Row("odd_digits", (FORM,), r"=[0-9a-f]*$", odd_digits),
     Row("many_bytes", (RANGE,), r"=", many_bytes),
     Row("bytes_room", (ROOM,), r"=", blocks_for_lines),

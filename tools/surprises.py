@@ -147,20 +147,20 @@ def is_not_reached(program, entries=()):
             warned = False
         elif statement and statement.kind not in ("DATA", "DIM", "DEF", "FNEND", "END") and not warned:
             warned = True
-            yield line, statement.place, f"nothing comes here: {why_not_reached(program, flow, at)}"
+            yield line, statement.place, f"this is never reached: {why_not_reached(program, flow, at)}"
 
 
 def why_not_reached(program, flow, at):
     """Says why nothing reaches a step, the first of those that are not reached."""
     line, statement = flow.steps[at]
     if statement is not line.statements[0]:
-        return "the statement before it goes elsewhere"
+        return "the statement before it jumps away or ends the program"
     if any(jump.line == line.number for other in program.counted for it in other.all() for jump in it.jumps):
-        return "the line before it goes elsewhere, and nothing comes to the lines that name this one"
+        return "the line before it jumps away or ends the program, and the lines that jump here are never reached either"
     before = flow.steps[at - 1][1]
     if before and before.kind == "ON GOTO":
-        return "ON goes elsewhere or ends with error 58, and no line names this one"
-    return "the line before it goes elsewhere, and no line names this one"
+        return "ON jumps away or fails with error 58, and no line jumps here"
+    return "the line before it jumps away or ends the program, and no line jumps here"
 
 
 def entries_by(programs):
@@ -213,8 +213,8 @@ FORMAT_SIGNS = [
     (r"\$\$#?", "there is no $$ in a format: both are printed as they are"),
     (r"\^\^\^\^", "there is no exponent in a format: ^^^^ is printed as it is"),
     (r"[+]#", "there is no + in a format: it is printed as it is"),
-    (r"&", "& is no field of a format: it is printed as it is; a string has ! or \\ \\"),
-    (r"'[LRCE]+", "' is no field of a format: it is printed as it is; a string has ! or \\ \\"),
+    (r"&", "& is not a field of a format: it is printed as it is; for a string write ! or \\ \\"),
+    (r"'[LRCE]+", "' is not a field of a format: it is printed as it is; for a string write ! or \\ \\"),
 ]
 
 
