@@ -33,7 +33,7 @@ class Example:
         return [it[1:] for it, other in zip(self.lines, behind) if it.startswith(">") and not re.match(r"\?\S", other)]
 
     def is_session(self, session):
-        """Whether it is all that the terminal types and shows, between login and BYE where it has no login of its own."""
+        """Returns whether it is all that the terminal types and shows, between login and BYE if it has no login of its own."""
         lines = session if any(LOGIN.match(it) for it in self.lines) else inside(session)
         if "Ready" not in self.lines:
             lines = [it for it in lines if it != "Ready"]
@@ -47,7 +47,7 @@ def examples_of(page):
 
 
 def blocks(page, lines):
-    """Each indented block is an example, but for lines of the shell."""
+    """Yields each indented block as an example, except for lines of the shell."""
     numbered = enumerate(lines, 1)
     for indented, block in itertools.groupby(numbered, lambda it: it[1].startswith("    ")):
         block = [(number, line[4:].rstrip()) for number, line in block] if indented else []
@@ -57,7 +57,7 @@ def blocks(page, lines):
 
 
 def rows(page, lines):
-    """Each row of a table whose last columns are Example, or Program, and Shown, and where both are filled in."""
+    """Yields each row of a table whose last columns are Example, or Program, and Shown, if both are filled in."""
     heads = []
     for number, line in enumerate(lines, 1):
         if not line.startswith("| "):
@@ -76,13 +76,13 @@ def rows(page, lines):
 
 
 def inside(session):
-    """What stands between the login and BYE."""
+    """Returns what is between the login and BYE."""
     front = 1 + session.index("Ready") if "Ready" in session else len(session)
     return session[front:-2] if session[-2:] == [">BYE", "Bye"] else session[front:]
 
 
 def keys_of(deck):
-    """The key lines of each terminal."""
+    """Returns the key lines of each terminal."""
     terminals = []
     for line in deck.read_text("latin-1").split("\n"):
         if line.startswith("TERMINAL "):
@@ -93,7 +93,7 @@ def keys_of(deck):
 
 
 def screens_of(report):
-    """The bytes of each screen, of which the line in front tells the number."""
+    """Returns the bytes of each screen. The line before a screen gives their number."""
     rest = report
     while rest.startswith("TERMINAL "):
         head, _, rest = rest.partition("\n")
@@ -103,13 +103,13 @@ def screens_of(report):
 
 
 def sessions_of(folder):
-    """What each terminal of a deck types and shows."""
+    """Returns what each terminal of a deck types and shows."""
     report = (folder / "stdout").read_bytes().decode("latin-1")
     return [session(keys, screen) for keys, screen in zip(keys_of(folder / "deck"), screens_of(report))]
 
 
 def session(keys, screen):
-    """The lines of a screen, with `>` before those that are typed, and without spaces at their ends."""
+    """Returns the lines of a screen, with `>` before those that are typed, and without spaces at their ends."""
     lines, keys = [], list(keys)
     for line in re.sub("\r\n$", "", screen).split("\r\n"):
         if keys and line == keys[0]:

@@ -127,7 +127,7 @@ class Spot:
         return found[1] if found else None
 
     def free_name(self, word, mark):
-        """A name for a long one: its letter, or the letter and a digit, which is not in use."""
+        """Returns a name for a long one: its letter, or the letter and a digit, which is not in use."""
         names = [word[0] + mark] + [f"{word[0]}{digit}{mark}" for digit in range(10)]
         return next((it for it in names if it not in self.names), names[0])
 
@@ -154,7 +154,7 @@ class Row:
         return self.text.format(word=spot.word, wanted=spot.wanted)
 
 
-# ROWS THAT LOOK CLOSER
+# ENTRIES THAT LOOK CLOSER
 
 def other_word(spot):
     """Explains a word of another BASIC, at the place or over it."""
@@ -352,7 +352,7 @@ MISTAKES = [
 
 
 def advice(spot):
-    """Returns the name of the row that fits, and what it says."""
+    """Returns the name of the entry that fits, and what it says."""
     for row in MISTAKES:
         text = row.says(spot)
         if text:

@@ -1,4 +1,4 @@
-"""Why a deck is rejected: one table of causes, CAUSES, of which the first row that fits the line is the explanation."""
+"""Why a deck is rejected: one table of causes, CAUSES, of which the first entry that fits the line is the explanation."""
 import re
 
 from decks import (ACCOUNT, BLOCK, DISK, ENDS, FORM, FORMS, HEADING, MOST_BLOCKS, MOST_CALLS, MOST_KEYS, MOST_NUMBER, OWNER, RANGE, ROOM, TWICE,
@@ -36,7 +36,7 @@ class Place:
         return f"{', '.join(front)} or {last}"
 
 
-# ROWS THAT COUNT
+# ENTRIES THAT COUNT
 
 def is_within(text, least, most):
     return len(text) < 10 and least <= int(text) <= most
@@ -190,7 +190,7 @@ class Row:
         self.name, self.cause, self.pattern, self.text, self.where = name, cause, re.compile(pattern, re.S), text, where
 
     def says(self, place):
-        """Returns what this row says of the place, or None if it does not fit."""
+        """Returns what this entry says of the place, or None if it does not fit."""
         found = self.pattern.match(place.line)
         if place.cause not in self.cause or not found or self.where and not self.where(place):
             return None
@@ -321,7 +321,7 @@ CAUSES = [
 
 
 def why(place):
-    """Returns the first explanation that fits, with the name of its row."""
+    """Returns the first explanation that fits, with the name of its entry."""
     for row in CAUSES:
         text = row.says(place)
         if text:

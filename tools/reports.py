@@ -10,7 +10,7 @@ DISK = re.compile(rb"DISK (%s)\n" % NUMBER)
 
 
 def screens_of(report):
-    """Returns the name and the bytes of each screen at the front, and the place after them."""
+    """Returns the name and the bytes of each screen at the start, and the place after them."""
     screens, at = [], 0
     head = SCREEN.match(report)
     while head:
@@ -24,7 +24,7 @@ def screens_of(report):
 def history_in(run):
     """Returns where the history begins and where it ends, or None if there is none.
 
-    It comes after the screens, or at the front. If it has fewer lines than it says, it goes on to the end."""
+    It comes after the screens, or at the start. If it has fewer lines than it says, it goes on to the end."""
     at = screens_of(run)[1]
     head = HISTORY.match(run, at)
     if not head:

@@ -14,7 +14,7 @@ OPEN_STRING, STRAY = "Open string", "Stray byte"
 
 
 def capitals(text):
-    """The text with ASCII letters raised, as long as it was."""
+    """Returns the text with ASCII letters raised, as long as it was."""
     return text.translate(CAPITALS)
 
 
@@ -43,7 +43,7 @@ def keyword_at(line, place):
 
 
 def word_at(line, place):
-    """The token at a letter."""
+    """Returns the token at a letter."""
     word = keyword_at(line, place)
     if word:
         return Token("comment" if word == "REM" else "keyword", place, line[place:place + len(word)])
@@ -91,7 +91,7 @@ def token_at(line, place):
 
 
 def tokens_of(line, place=0):
-    """The tokens from a place on, up to a comment; what comes after DATA is one token. Raises Refused."""
+    """Returns the tokens from a place on, up to a comment; what comes after DATA is one token. Raises Refused."""
     tokens = []
     while place < len(line):
         if line[place] in " \t":

@@ -11,14 +11,14 @@ def text_of(path):
 
 
 def table_of(name):
-    """The rows of a table of the scanner: the name of each entry and its spelling."""
+    """Returns the entries of a table of the scanner: the name of each and its spelling."""
     source = text_of("basic_scanner/src/words.rt")
     rows = re.search(rf"static {name}: .*?= \[\n(.*?)\n\];", source, re.S)[1]
     return [(entry, word.replace("\\\\", "\\")) for entry, word in re.findall(r'\(\w+::(\w+), b"(.+)"\),', rows)]
 
 
 def keywords():
-    """Every keyword, the names of functions too."""
+    """Returns every keyword, the names of functions too."""
     return [word for _, word in table_of("KEYWORDS")]
 
 
@@ -27,16 +27,16 @@ def signs():
 
 
 def functions():
-    """The spellings of the functions."""
+    """Returns the spellings of the functions."""
     entries = re.findall(r"Keyword::(\w+) => Some\(Function::", text_of("basic_expr/src/tables.rt"))
     return [word for entry, word in table_of("KEYWORDS") if entry in entries]
 
 
 def commands():
-    """The words of the command level."""
+    """Returns the words of the command level."""
     return sorted(set(re.findall(r'is_word\(word, b"([A-Z]+)"\)', text_of("command_level/src/commands.rt"))))
 
 
 def deck_words():
-    """The words that lines of a deck begin with."""
+    """Returns the words that lines of a deck begin with."""
     return list(dict.fromkeys(re.findall(r'b"([A-Z][A-Z-]+)', text_of("deck_reader/src/forms.rt"))))

@@ -14,7 +14,7 @@ use Rattle.block_files.proofs.RowLemmas.{file_at-file_of, remove-file_of, make-f
 use Rattle.monitor_model.proofs.FileLemmas.{apart_make, apart_remove, apart_replace, removed_gone}
 use Rattle.block_files.proofs.ReadLemmas.{the_file-file_of}
 
--- a place is at most once in all, and only one of the disk's
+-- a place is at most once in all, and only a place of the disk is in one
 pub once_at_most : (n p : ℕ) → cond (nat_lt p n) 1 0 ≤ 1
 once_at_most n p = elim (nat_lt p n) as (λ v. cond v 1 0 ≤ 1) [ true ↦ omega arith | false ↦ omega arith ]
 

@@ -1,4 +1,4 @@
--- Where the pages of the files lie.
+-- The places of the pages of the files.
 use Rattle.std.proofs.Common.{◌≡◌, ◌≢◌, ℕ, ◌+◌, ◌<◌, ◌≤◌, zero, suc, true, false, cond, List, [], ◌∷◌, length, slice_get, Some, None, refl, sym, ap, ◌∙◌, subst, arith, inl, inr, ◌⊎◌}
 use Rattle.std.specs.Prelude.{Option, option_map}
 use Rattle.std.proofs.lemmas.Bool.{cases_eq, ne_eqb, cases_lt, lt-ltb}
@@ -28,7 +28,7 @@ place_in-none pages (f ∷ es) name block e =
       | false ↦ λ h. place_in-none pages es name block h
     ] e
 
--- a place that is told is that of a page
+-- the place of a block is that of a page
 record IsAt (es : List Entry) (name : FileName) (block p : ℕ) : Type 0 where
   was : FileBody
   there : body_at es name ≡ Some was
@@ -62,7 +62,7 @@ index_of (q ∷ places) p h = by (cases_eq q p) (λ c. index_of places p c) wher
   by (inl same) rest = (zero, ap Some same)
   by (inr ne) rest = let r = rest (omega (arith, h, ap (λ b. cond {A = ℕ} b 1 0) (ne_eqb q p ne))) in (suc r.0, r.1)
 
--- and one in the rows is told
+-- and one in the places of some file is the place of a block
 told_by : (pages : List (List ℕ)) (es : List Entry) (p : ℕ) → AreApart (files_of pages es) → 1 ≤ total (times p) (rows es) → (name : FileName) × ((v : FileBody) × ((k : ℕ) × ((body_at es name ≡ Some v) × (slice_get v.places.items k ≡ Some p))))
 told_by pages [] p apart h = absurd (omega (arith, h))
 told_by pages (f ∷ es) p apart h = by (cases_lt 0 (times p f.1.places.items)) (λ c. told_by pages es p apart.1 c) where

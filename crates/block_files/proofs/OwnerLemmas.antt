@@ -1,4 +1,4 @@
--- The blocks of each owner behind what is done to a file.
+-- The blocks of each owner after a change of a file.
 use Rattle.std.proofs.Common.{◌≡◌, ◌≢◌, ℕ, ◌+◌, ◌-◌, ◌*◌, ◌<◌, ◌≤◌, ◌^◌, Bool, true, false, List, [], ◌∷◌, length, set, get_or, Some, None, Result, Ok, Err, refl, sym, ap, ◌∙◌, subst, arith}
 use Rattle.std.specs.Prelude.{not, is_ok, OnOk, OnErr}
 use Rattle.std.proofs.lemmas.List.{get_or-set_same, get_or-set_other}
@@ -44,7 +44,7 @@ module _ (counts : List ℕ) (wide : length counts ≡ 2 ^ 16) (own : Account) (
   count_other : (owner : Account) → IsAccount owner → owner ≢ own → count_at (with_count counts own count) owner ≡ count_at counts owner
   count_other owner it ne = get_or-set_other counts (slot own) (slot owner) count 0 (λ same. ne (same_slot owner own it is same))
 
-  -- where only that account's blocks change, by so much
+  -- if only that account's blocks change, by this much
   pub recounted :
       (old new : List File) → AreCounted counts old → blocks_owned new own ≡ count →
       ((owner : Account) → same_account own owner ≡ false → blocks_owned new owner ≡ blocks_owned old owner) →
@@ -58,7 +58,7 @@ module _ (counts : List ℕ) (wide : length counts ≡ 2 ^ 16) (own : Account) (
 
 -- WHAT WAS DONE
 
--- where a call is done its promise holds, and no test refuses it
+-- if a call is done, its promise holds, and no test refuses it
 pub when_ok : {T E P : Type 0} (r : Result T E) → is_ok r ≡ true → OnOk r P → P
 when_ok (Ok x) is p = p
 when_ok (Err e) is p = absurd (cc)
@@ -83,7 +83,7 @@ counted_empty counts files counted name code owner it =
     let same : blocks_owned files owner ≡ blocks_owned (make files (empty_file name code)) owner = omega (arith, made, none) in
     counted owner it ∙ same
 
--- the counts stay where nothing is done, and where an empty file is made
+-- the counts stay if nothing is done, and if an empty file is made
 pub counted_created : {T E : Type 0} (r : Result T E) (counts : List ℕ) (old new : Disk) (name : FileName) (code : ℕ) → OnOk r (new.files ≡ make old.files (empty_file name code)) → OnErr r (new ≡ old) → AreCounted counts old.files → AreCounted counts new.files
 counted_created (Ok x) counts old new name code ok err counted = λ owner it.
     counted_empty counts old.files counted name code owner it ∙ sym (ap (λ fs. blocks_owned fs owner) ok)

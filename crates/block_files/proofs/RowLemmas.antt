@@ -78,7 +78,7 @@ total-at m es name was e = omega (arith, total-without m es name was e)
 
 -- PAGES
 
--- pages that a list of places does not tell apart
+-- pages that agree at all places of a list
 pub same_pages : (pages others : List (List ℕ)) (places : List ℕ) → ((p : ℕ) → 1 ≤ times p places → get_or others p [] ≡ get_or pages p []) → pages_in others places ≡ pages_in pages places
 same_pages pages others [] same = refl
 same_pages pages others (q ∷ places) same =
@@ -91,7 +91,7 @@ same_files pages others (e ∷ es) same =
     let here = same_pages pages others e.1.places.items (λ p h. same p (omega (arith, h))) in
     (λ i. record { name = e.0; code = e.1.code; pages = here i } ∷ same_files pages others es (λ p h. same p (omega (arith, h))) i)
 
--- the file of the name alone changes, where the pages of the others stay
+-- the file of the name alone changes, if the pages of the others stay
 pub replace-file_of : (pages others : List (List ℕ)) (es : List Entry) (name : FileName) (was now : FileBody) → body_at es name ≡ Some was → ((p : ℕ) → 1 ≤ total (times p) (rows (without es name)) → get_or others p [] ≡ get_or pages p []) → files_of others (with_body es name now) ≡ replace (files_of pages es) name (file_of others (name, now))
 replace-file_of pages others [] name was now e same = absurd (cc)
 replace-file_of pages others (f ∷ es) name was now e same =

@@ -1,4 +1,4 @@
--- What each call is refused for, in its order.
+-- The refusals of each call, in order.
 use Rattle.std.specs.Prelude.{ℕ, ◌-◌, Bool, not, ◌&&◌, ◌==◌, nat_lt, nat_le, List, [], ◌∷◌, length}
 use Rattle.basic_values.specs.declared.errors.TheConstants.{NO_ROOM, NO_SUCH_FILE, END_OF_FILE, NAME_EXISTS, ILLEGAL_BYTE_COUNT}
 use Rattle.basic_values.specs.declared.limits.TheConstants.{MOST_FILES}
@@ -7,7 +7,7 @@ use Rattle.monitor_calls.specs.FileNames.{same_name}
 use Rattle.block_files.specs.Disks.{Disk}
 use Rattle.monitor_model.specs.Files.{File, is_file, is_block, size_at, blocks_of}
 
--- the name is there; the disk has as many files as it takes
+-- the name exists; the disk has as many files as it takes
 abbrev pub create_refusals : List File → FileName → List (Bool × ℕ)
 create_refusals files name = (is_file files name, NAME_EXISTS) ∷ (nat_le MOST_FILES (length files), NO_ROOM) ∷ []
 
@@ -25,7 +25,7 @@ abbrev pub read_refusals : List File → FileName → ℕ → List (Bool × ℕ)
 read_refusals files name block =
     (not (is_file files name), NO_SUCH_FILE) ∷ (not (is_block files name block), END_OF_FILE) ∷ []
 
--- no such file; block 0; more blocks are wanted than are free
+-- no such file; block 0; the file needs more blocks than are free
 abbrev pub write_refusals : Disk → FileName → ℕ → List (Bool × ℕ)
 write_refusals d name block =
     (not (is_file d.files name), NO_SUCH_FILE)

@@ -1,10 +1,10 @@
--- A disk: its blocks and files, and the places where their pages lie.
+-- A disk: its blocks and files, and the places of their pages.
 use Rattle.std.specs.Prelude.{◌≡◌, ◌⊎◌, ℕ, ◌+◌, ◌<◌, zero, suc, ◌==◌, nat_lt, if◌then◌else◌, List, [], ◌∷◌, length, slice_get, Option, Some, None}
 use Rattle.monitor_calls.specs.declared.files.FileName.{FileName}
 use Rattle.monitor_calls.specs.FileNames.{same_name}
 use Rattle.monitor_model.specs.Files.{File, AreApart}
 
--- beside the files stand the places of each one's pages, and the places that are free
+-- the blocks and files, with the places of each file's pages, and the places that are free
 pub record Disk : Type 0 where
   pub blocks : ℕ
   pub files : List File
@@ -48,8 +48,8 @@ IsFree d p = (k : ℕ) × (slice_get d.free k ≡ Some p)
 abbrev pub IsTold : Disk → ℕ → Type 0
 IsTold d p = (name : FileName) × ((block : ℕ) × (place_of d name block ≡ Some p))
 
--- places are below the disk's blocks, the free ones too; those of two blocks differ, and each free
--- one is listed once; each is free or told, not both
+-- Places are below the disk's blocks, the free ones too. Those of two blocks differ, and each free
+-- one is listed once. Each is free or that of a block, not both.
 pub record IsLaidOut (d : Disk) : Type 0 where
   pub below : (name : FileName) (block p : ℕ) → place_of d name block ≡ Some p → p < d.blocks
   pub apart :

@@ -83,7 +83,7 @@ nth_name (e ∷ es) owner index =
     then name_or index e.0 (nth_name es owner (index - 1))
     else nth_name es owner index
 
--- with so many blocks of zeros more at the file of a name
+-- with this many blocks of zeros added to the file of a name
 abbrev pub grow_file : List File → FileName → ℕ → List File
 grow_file files name more = replace files name (grown (the_file files name) more)
 

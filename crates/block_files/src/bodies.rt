@@ -10,7 +10,7 @@ use basic_values::NoMemory;
 use indexmap::IndexMap;
 use monitor_calls::FileName;
 
-/// What is kept of a file beside its name: its code, and the places of its pages.
+/// What is kept of a file in addition to its name: its code, and the places of its pages.
 #[derive(Drop)]
 pub(crate) struct FileBody {
     pub(crate) code: u8,
@@ -20,14 +20,14 @@ pub(crate) struct FileBody {
 /// The files by their names.
 pub(crate) type Directory = IndexMap<FileName, FileBody>;
 
-/// What is kept of a name.
+/// Returns what is kept of a name.
 pub(crate) fn body_of<'a>(files: &'a Directory, name: &FileName) -> Option<&'a FileBody>
     ensures { option_copied result ≡ body_at files.now.entries name.now }
 {
     files.get(name)
 }
 
-/// The place of a block, which count from 1.
+/// Returns the place of a block. Blocks count from 1.
 pub(crate) fn place_in(places: &[u16], block: u16) -> Option<u16>
     ensures { result ≡ place_at places.now block }
 {
@@ -37,7 +37,7 @@ pub(crate) fn place_in(places: &[u16], block: u16) -> Option<u16>
     places.get(block as usize - 1).copied()
 }
 
-/// Takes a name out. The others keep their order.
+/// Removes a name. The others keep their order.
 pub(crate) fn take_out(files: &mut Directory, name: &FileName) -> Option<FileBody>
     ensures value { result ≡ body_at files.old.entries name.now }
     ensures entries { files.new.entries ≡ without files.old.entries name.now }
@@ -46,7 +46,7 @@ pub(crate) fn take_out(files: &mut Directory, name: &FileName) -> Option<FileBod
     files.shift_remove(name)
 }
 
-/// Takes the room for one name more.
+/// Takes the memory for one name more.
 pub(crate) fn make_room(files: &mut Directory) -> Result<(), NoMemory>
     ensures entries { files.new.entries ≡ files.old.entries }
     ensures room { OnOk result (0 < spare files.new) }
@@ -55,7 +55,7 @@ pub(crate) fn make_room(files: &mut Directory) -> Result<(), NoMemory>
     Ok(())
 }
 
-/// Puts a new name behind the others, in room that is there.
+/// Puts a new name after the others. The memory for it was taken before.
 pub(crate) fn put_last(files: &mut Directory, name: FileName, body: FileBody)
     requires fresh { body_at files.old.entries name ≡ None }
     requires room { 0 < spare files.old }

@@ -1,4 +1,4 @@
-//! The disk, which counts what each owner has.
+//! The disk, with a count of each owner's blocks.
 
 ghost use Rattle.std.specs.Prelude.{◌≡◌, true, [], map, is_some, option_map, IfOk};
 ghost use Rattle.std.specs.Prelude.{IsOk, OnOk, OnErr};
@@ -37,7 +37,7 @@ impl Model for Disk {
 }
 
 impl Disk {
-    /// A disk of so many blocks, and no file. It takes all of its pages.
+    /// Returns a disk of this many blocks, with no file. It takes all of its pages.
     pub fn new(alloc: Global, blocks: u16) -> Result<Disk, NoMemory>
         ensures blocks { IfOk result (λ d. d.blocks ≡ blocks) }
         ensures files { IfOk result (λ d. d.files ≡ []) }
@@ -47,35 +47,36 @@ impl Disk {
         Ok(Disk { store, owners })
     }
 
-    /// The size of a file in blocks. None where it is not there.
+    /// Returns the size of a file in blocks. None if the file does not exist.
     pub fn size(&self, name: &FileName) -> Option<u16>
         ensures { result ≡ option_map size (file_at self.now.files name.now) }
     {
         self.store.size(name)
     }
 
-    /// The code of a file. None where it is not there.
+    /// Returns the code of a file. None if the file does not exist.
     pub fn code(&self, name: &FileName) -> Option<u8>
         ensures { result ≡ option_map (λ file. file.code) (file_at self.now.files name.now) }
     {
         self.store.code(name)
     }
 
-    /// The name of the file at an index among those of an owner, in the order of making.
+    /// Returns the name of the file at an index among those of an owner, in the order of making.
     pub fn nth(&self, owner: Account, index: u16) -> Option<FileName>
         ensures { result ≡ option_map (λ file. file.name) (nth_of self.now.files owner index) }
     {
         self.store.nth(owner, index)
     }
 
-    /// How many blocks the files of an owner have. It is counted as they change, and not here.
+    /// Returns how many blocks the files of an owner have. The count is kept up to date as the
+    /// files change, and read here.
     pub fn used_by(&self, owner: Account) -> u32
         ensures { result ≡ blocks_owned self.now.files owner }
     {
         u32::from(self.owners.count(owner))
     }
 
-    /// The place of a block among the disk's pages.
+    /// Returns the place of a block among the disk's pages.
     pub fn place(&self, name: &FileName, block: u16) -> Option<u16>
         ensures value { result ≡ place_of self.now name.now block }
         ensures some { is_some result ≡ is_block self.now.files name.now block }
@@ -119,7 +120,7 @@ impl Disk {
         self.store.create(name, code)
     }
 
-    /// Takes a file out, and its places are free. It takes no memory.
+    /// Deletes a file, and its places are free. It takes no memory.
     pub fn remove(&mut self, name: &FileName) -> Result<(), Fault>
         ensures refused { RefusedBy (there_refusals self.old.files name.now) result }
         ensures ok { OnOk result (self.new.files ≡ remove self.old.files name.now) }
@@ -149,7 +150,7 @@ impl Disk {
         done
     }
 
-    /// Gives a file another name and a code. It stands last, also where the name stays.
+    /// Gives a file another name and a code. It becomes the last one, even if the name stays.
     pub fn rename(&mut self, old: &FileName, new: FileName, code: u8) -> Result<(), Trouble<Fault>>
         ensures refused { RefusedByOrNoMemory (rename_refusals self.old.files old.now new) result }
         ensures ok { OnOk result (self.new.files ≡ rename self.old.files old.now new code) }

@@ -12,10 +12,10 @@ use std::marker::Model;
 /// Programmers of a project, and projects.
 const PROGRAMMERS: usize = 256;
 
-/// Accounts that there can be.
+/// The number of accounts that can exist.
 const ACCOUNTS: usize = PROGRAMMERS * 256;
 
-/// A count of blocks for each account that there can be, so that none is looked for.
+/// A count of blocks for each account that can exist, so that none is searched for.
 #[derive(Drop)]
 pub(crate) struct Owners {
     counts: Vec<u16>,
@@ -32,7 +32,7 @@ impl Model for Owners {
 }
 
 impl Owners {
-    /// No owner has a block. It takes all room.
+    /// Returns counts of 0 for all owners. It takes all of its memory.
     pub(crate) fn new(alloc: Global) -> Result<Owners, NoMemory>
         ensures { IfOk result (λ owners. (owner : AccountValue) → count_at owners owner ≡ 0) }
     {
@@ -40,7 +40,7 @@ impl Owners {
         Ok(Owners { counts })
     }
 
-    /// How many blocks an owner has.
+    /// Returns how many blocks an owner has.
     pub(crate) fn count(&self, owner: Account) -> u16
         ensures count { result ≡ count_at self.now owner }
         ensures account { IsAccount owner }
@@ -48,7 +48,7 @@ impl Owners {
         self.counts[slot(owner)]
     }
 
-    /// An owner has so many blocks more.
+    /// Adds this many blocks to an owner's count.
     pub(crate) fn more(&mut self, owner: Account, blocks: u16)
         requires { IsAccount owner → count_at self.old owner + blocks < 2 ^ 16 }
         ensures counts { self.new ≡ with_count self.old owner (count_at self.old owner + blocks) }
@@ -59,7 +59,7 @@ impl Owners {
         self.counts[slot] = self.counts[slot] + blocks;
     }
 
-    /// An owner has so many blocks less.
+    /// Subtracts this many blocks from an owner's count.
     pub(crate) fn less(&mut self, owner: Account, blocks: u16)
         ensures counts { self.new ≡ with_count self.old owner (count_at self.old owner - blocks) }
         ensures account { IsAccount owner }
@@ -70,7 +70,7 @@ impl Owners {
     }
 }
 
-/// The place of an account's count.
+/// Returns the place of an account's count.
 fn slot(owner: Account) -> usize
     ensures place { result ≡ slot owner }
     ensures within { result < 2 ^ 16 }
@@ -78,7 +78,7 @@ fn slot(owner: Account) -> usize
     owner.project as usize * PROGRAMMERS + owner.programmer as usize
 }
 
-/// So many zeros.
+/// Returns this many zeros.
 fn zeros(alloc: Global, count: usize) -> Result<Vec<u16>, NoMemory>
     ensures count { IfOk result (λ zeros. length zeros.items ≡ count) }
     ensures zero { IfOk result (λ zeros. (k : ℕ) → get_or zeros.items k 0 ≡ 0) }

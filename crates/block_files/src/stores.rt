@@ -52,7 +52,7 @@ impl Model for Store {
 }
 
 impl Store {
-    /// A disk of so many blocks, and no file. It takes all of its pages.
+    /// Returns a disk of this many blocks, with no file. It takes all of its pages.
     pub(crate) fn new(alloc: Global, blocks: u16) -> Result<Store, NoMemory>
         ensures blocks { IfOk result (λ d. d.blocks ≡ blocks) }
         ensures files { IfOk result (λ d. d.files ≡ []) }
@@ -67,7 +67,7 @@ impl Store {
         })
     }
 
-    /// The size of a file in blocks. None where it is not there.
+    /// Returns the size of a file in blocks. None if the file does not exist.
     pub(crate) fn size(&self, name: &FileName) -> Option<u16>
         ensures { result ≡ option_map size (file_at self.now.files name.now) }
     {
@@ -77,7 +77,7 @@ impl Store {
         }
     }
 
-    /// The code of a file. None where it is not there.
+    /// Returns the code of a file. None if the file does not exist.
     pub(crate) fn code(&self, name: &FileName) -> Option<u8>
         ensures { result ≡ option_map (λ file. file.code) (file_at self.now.files name.now) }
     {
@@ -87,7 +87,7 @@ impl Store {
         }
     }
 
-    /// The name of the file at an index among those of an owner, in the order of making.
+    /// Returns the name of the file at an index among those of an owner, in the order of making.
     pub(crate) fn nth(&self, owner: Account, index: u16) -> Option<FileName>
         ensures { result ≡ option_map (λ file. file.name) (nth_of self.now.files owner index) }
     {
@@ -105,7 +105,7 @@ impl Store {
         None
     }
 
-    /// The place of a block among the disk's pages.
+    /// Returns the place of a block among the disk's pages.
     pub(crate) fn place(&self, name: &FileName, block: u16) -> Option<u16>
         ensures value { result ≡ place_of self.now name.now block }
         ensures some { is_some result ≡ is_block self.now.files name.now block }
@@ -170,7 +170,7 @@ impl Store {
         Ok(())
     }
 
-    /// Takes a file out, and its places are free. It takes no memory.
+    /// Deletes a file, and its places are free. It takes no memory.
     pub(crate) fn remove(&mut self, name: &FileName) -> Result<(), Fault>
         ensures refused { RefusedBy (there_refusals self.old.files name.now) result }
         ensures ok { OnOk result (self.new.files ≡ remove self.old.files name.now) }
@@ -198,7 +198,7 @@ impl Store {
         Ok(())
     }
 
-    /// Gives a file another name and a code. It stands last, also where the name stays.
+    /// Gives a file another name and a code. It becomes the last one, even if the name stays.
     pub(crate) fn rename(
         &mut self,
         old: &FileName,
@@ -269,7 +269,7 @@ impl Store {
         }
     }
 
-    /// How many blocks a file has, which are none where it is not there.
+    /// Returns how many blocks a file has, and 0 if the file does not exist.
     pub(crate) fn size_at(&self, name: &FileName) -> u16
         ensures { result ≡ size_at self.now.files name.now }
     {
@@ -279,7 +279,7 @@ impl Store {
         }
     }
 
-    /// The files have no more blocks than the disk, whose number is one of 16 bits.
+    /// States that the files have no more blocks than the disk, whose number has 16 bits.
     pub(crate) fn fits(&self)
         ensures blocks { blocks_of self.now.files ≤ self.now.blocks }
         ensures small { self.now.blocks < 2 ^ 16 }
@@ -287,7 +287,7 @@ impl Store {
         let _blocks = self.pages.len();
     }
 
-    /// How many blocks are to be taken for this block of the file.
+    /// Returns how many blocks are needed for this block of the file.
     pub(crate) fn missing(&self, name: &FileName, block: u16) -> usize
         ensures { result ≡ block - size_at self.now.files name.now }
     {
@@ -367,7 +367,7 @@ impl Store {
         Ok(())
     }
 
-    /// Gives a file so many blocks of zeros more. With none it takes no memory.
+    /// Gives a file this many blocks of zeros more. With none it takes no memory.
     fn grow(&mut self, name: &FileName, more: usize) -> Result<(), NoMemory>
         requires there { is_file self.old.files name.now ≡ true }
         requires enough { more ≤ length self.old.free }
@@ -408,7 +408,7 @@ fn clear_pages(pages: &mut [Page], places: &[u16])
     }
 }
 
-/// So many pages of zeros.
+/// Returns this many pages of zeros.
 fn zero_pages(alloc: Global, blocks: u16) -> Result<Vec<Page>, NoMemory>
     ensures { IfOk result (λ pages. pages.items ≡ replicate blocks zeros) }
 {
@@ -419,7 +419,7 @@ fn zero_pages(alloc: Global, blocks: u16) -> Result<Vec<Page>, NoMemory>
     Ok(pages)
 }
 
-/// All places below the number, in room for them alone.
+/// Returns all places below the number, with memory for them alone.
 fn all_places(alloc: Global, blocks: u16) -> Result<Vec<u16>, NoMemory>
     ensures places { IfOk result (λ places. places.items ≡ first_places blocks) }
     ensures room { IfOk result (λ places. blocks ≤ vec_capacity places) }

@@ -286,7 +286,7 @@ map_held job channel run fields index left grown g looks =
           ∙ ap (λ h. holder h name block) (sym (map_released job channel fields index left g)) ∙ holder-map_of left name block)
     ] refl))
 
--- what no other channel holds is free once the channel has let go
+-- what no other channel holds is free once the channel has released it
 pub let_go_free : (job channel : ℕ) (fields : List (Option Run)) (index left : List Hold) (name : FileName) (block : ℕ) → LetsGo job channel index fields left → is_held (map_of index) job channel name block ≡ false → look left name block ≡ None
 let_go_free job channel fields index left name block g free =
     g.looks name block ∙ freed (look index name block) (ap (λ o. is_some o && not (is_channel job channel o)) (sym (holder-map_of index name block)) ∙ free) where
@@ -355,7 +355,7 @@ module _ (fields : List (Option Run)) (index : List Hold) (room : ℕ) (k : IsKe
     few None e = tt
     few (Some run) e = short_at fields (slot job channel) run k.short e
 
-  -- and nothing, where it has none
+  -- and nothing, if it has none
   pub held_by_nobody : (HasField fields job channel → ⊥) → IsHeldBy (map_of index) job channel None
   held_by_nobody none = record {
     short = tt;

@@ -1,5 +1,5 @@
--- The index behind each block of a run that is taken out or put in: what is said of the first so
--- many blocks is true of one block more.
+-- The index after each block of a run that is removed or added: what is true of the first blocks of
+-- the run is true of one block more.
 use Rattle.std.proofs.Common.{◌≡◌, ◌≢◌, ℕ, ◌+◌, ◌<◌, Bool, true, false, cond, List, length, Some, None, refl, sym, ap, ◌∙◌, arith}
 use Rattle.std.specs.Prelude.{Option, ◌&&◌, ◌||◌, ◌==◌, nat_le, nat_lt}
 use Rattle.std.proofs.lemmas.Bool.Decides.{nat_tests}
@@ -12,7 +12,7 @@ use Rattle.block_interlock.specs.Index.{look, is_block, nth_block, Rises, AreFre
 use Rattle.block_interlock.specs.Runs.{has_block}
 use Rattle.block_interlock.proofs.IndexLemmas.{is_self}
 
--- the first so many blocks of a run
+-- the first blocks of a run
 abbrev pub first : Run → ℕ → Run
 first run count = record { name = run.name; block = run.block; count = count }
 
@@ -52,7 +52,7 @@ next_is_own run n lt = by run.block run.count lt (same_name run.name run.name) (
   by from count lt true e = grind (arith, nat_tests)
   by from count lt false e = absurd (cc)
 
--- a choice by two tests, one behind the other
+-- a choice by two tests, one after the other
 by_either : {X : Type 0} (a b : Bool) (x y : X) → cond a x (cond b x y) ≡ cond (a || b) x y
 by_either true b x y = refl
 by_either false b x y = refl
@@ -61,7 +61,7 @@ or_right : (a b : Bool) → b ≡ true → (a || b) ≡ true
 or_right true b e = refl
 or_right false b e = e
 
--- TAKEN OUT
+-- REMOVED
 
 pub drops_none : (run : Run) (old : List Hold) → Rises old → DropsAll (first run 0) old old
 drops_none run old rises = record {
@@ -96,7 +96,7 @@ drops_more run n old mid new before step = record {
   by_look None is some fewer = absurd (some refl)
   by_look (Some p) is some fewer = omega (arith, fewer, step.less p.0 p.1 is)
 
--- PUT IN
+-- ADDED
 
 pub adds_none :
     (run : Run) (job channel : ℕ) (old : List Hold) →

@@ -36,7 +36,7 @@ HasField fields job channel = (slot job channel < length fields) × (channel < J
 abbrev pub HasFields : List (Option Run) → ℕ → Type 0
 HasFields fields job = slot job JOB_CHANNELS ≤ length fields
 
--- the index tells of each block what the fields tell, and has room for all that they may say
+-- the index says of each block what the fields say, and has space for all that they may say
 pub record IsKept (fields : List (Option Run)) (index : List Hold) (room : ℕ) : Type 0 where
   pub rises : Rises index
   pub told :

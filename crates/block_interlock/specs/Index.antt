@@ -32,18 +32,19 @@ abbrev pub AreAbove : Block → List Hold → Type 0
 AreAbove block [] = Unit {0}
 AreAbove block (hold ∷ holds) = (block_order block (block_of hold) ≡ Less) × AreAbove block holds
 
--- each block is below those behind it
+-- each block is below those after it
 abbrev pub Rises : List Hold → Type 0
 Rises [] = Unit {0}
 Rises (hold ∷ holds) = AreAbove (block_of hold) holds × Rises holds
 
--- the block stands at the place
+-- the block is at the place
 abbrev pub IsAt : Block → List Hold → ℕ → Type 0
 IsAt block [] place = ⊥
 IsAt block (hold ∷ holds) zero = block_of hold ≡ block
 IsAt block (hold ∷ holds) (suc place) = IsAt block holds place
 
--- it belongs there: what stands in front is below it, and what stands behind above it
+-- it belongs there: the blocks before the place are below it, and those from the place on are above
+-- it
 abbrev pub Belongs : Block → List Hold → ℕ → Type 0
 Belongs block holds zero = AreAbove block holds
 Belongs block [] (suc place) = ⊥
@@ -54,7 +55,7 @@ abbrev pub IsSought : FileName → ℕ → List Hold → Result ℕ ℕ → Type
 IsSought name block holds (Ok place) = IsAt (name, block) holds place
 IsSought name block holds (Err place) = Belongs (name, block) holds place
 
--- the hold of a block is taken out, where there is one
+-- the hold of a block is removed, if there is one
 pub record Drops (held : Held) (old new : List Hold) : Type 0 where
   pub rises : Rises new
   pub looks :
@@ -64,7 +65,7 @@ pub record Drops (held : Held) (old new : List Hold) : Type 0 where
       (job channel : ℕ) →
       look old held.name held.block ≡ Some (job, channel) → length old ≡ length new + 1
 
--- a hold is put in
+-- a hold is added
 pub record Adds (hold : Hold) (old new : List Hold) : Type 0 where
   pub rises : Rises new
   pub looks : (name : FileName) (block : ℕ) → look new name block ≡ look (hold ∷ old) name block
@@ -86,7 +87,7 @@ abbrev pub AreHeld : Run → List Hold → Type 0
 AreHeld run holds =
     (name : FileName) (block : ℕ) → has_block run name block ≡ true → look holds name block ≢ None
 
--- the holds of all of them are taken out
+-- the holds of all of them are removed
 pub record DropsAll (run : Run) (old new : List Hold) : Type 0 where
   pub rises : Rises new
   pub looks :
@@ -101,7 +102,7 @@ HeldByOne run job channel old new =
     look new name block
     ≡ (if has_block run name block then Some (job, channel) else look old name block)
 
--- a hold of each of them is put in
+-- a hold of each of them is added
 pub record AddsAll (run : Run) (job channel : ℕ) (old new : List Hold) : Type 0 where
   pub rises : Rises new
   pub looks : HeldByOne run job channel old new

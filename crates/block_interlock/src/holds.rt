@@ -18,7 +18,7 @@ use monitor_calls::FileName;
 use std::alloc::Global;
 use std::marker::Model;
 
-/// What the channels of so many jobs hold: a field for each, and an index by name and block.
+/// What the channels of all jobs hold: a field for each channel, and an index by name and block.
 #[derive(Drop)]
 pub struct Holds {
     jobs: u32,
@@ -43,7 +43,8 @@ impl Model for Holds {
 }
 
 impl Holds {
-    /// No block is held. It takes all room for the channels of so many jobs.
+    /// Returns the state in which no block is held. It takes all memory for the channels of this
+    /// many jobs.
     pub fn new(alloc: Global, jobs: u32) -> Result<Holds, NoMemory>
         requires { jobs ≤ MOST_JOBS }
         ensures jobs { IfOk result (λ h. h.jobs ≡ jobs) }
@@ -60,14 +61,14 @@ impl Holds {
         })
     }
 
-    /// How many jobs there are.
+    /// Returns how many jobs there are.
     pub fn jobs(&self) -> u32
         ensures { result ≡ self.now.jobs }
     {
         self.jobs
     }
 
-    /// The job and the channel that hold a block.
+    /// Returns the job and the channel that hold a block.
     pub fn holder(&self, name: &FileName, block: u16) -> Option<(u32, u8)>
         ensures { result ≡ holder self.now.held name.now block }
     {
@@ -80,7 +81,7 @@ impl Holds {
         }
     }
 
-    /// The blocks that a channel holds. None where it holds none, or is not there.
+    /// Returns the blocks that a channel holds. None if it holds none, or does not exist.
     pub fn held_by(&self, job: u32, channel: u8) -> Option<Run>
         ensures { IsHeldBy self.now.held job channel result }
     {
@@ -90,7 +91,7 @@ impl Holds {
         self.fields[job as usize * JOB_CHANNELS + channel as usize]
     }
 
-    /// What a channel holds is free. It takes no memory.
+    /// Releases what a channel holds. It takes no memory.
     pub fn release(&mut self, job: u32, channel: u8)
         requires job { job < self.old.jobs }
         requires channel { channel < JOB_CHANNELS }
@@ -100,7 +101,7 @@ impl Holds {
         let_go(&mut self.fields, &mut self.index, job, channel);
     }
 
-    /// What all channels of a job hold is free. It takes no memory.
+    /// Releases what all channels of a job hold. It takes no memory.
     pub fn release_job(&mut self, job: u32)
         requires { job < self.old.jobs }
         ensures jobs { self.new.jobs ≡ self.old.jobs }
@@ -109,8 +110,8 @@ impl Holds {
         let_all_go(&mut self.fields, &mut self.index, job);
     }
 
-    /// A channel holds so many blocks of a file from this one on, and no other. None of them may be
-    /// another channel's. It takes no memory.
+    /// Makes a channel hold this many blocks of a file from this one on, and no other. None of them
+    /// may be another channel's. It takes no memory.
     pub fn hold(&mut self, job: u32, channel: u8, name: FileName, block: u16, count: u8)
         requires job { job < self.old.jobs }
         requires channel { channel < JOB_CHANNELS }
@@ -125,7 +126,7 @@ impl Holds {
     }
 }
 
-/// A channel lets go of what it holds.
+/// Releases what a channel holds.
 fn let_go(fields: &mut Vec<Option<Run>>, index: &mut Vec<Hold>, job: u32, channel: u8)
     requires kept { IsKept fields.old.items index.old.items (vec_capacity index.old) }
     requires field { HasField fields.old.items job channel }
@@ -140,7 +141,7 @@ fn let_go(fields: &mut Vec<Option<Run>>, index: &mut Vec<Hold>, job: u32, channe
     }
 }
 
-/// All channels of a job let go of what they hold.
+/// Releases what all channels of a job hold.
 fn let_all_go(fields: &mut Vec<Option<Run>>, index: &mut Vec<Hold>, job: u32)
     requires kept { IsKept fields.old.items index.old.items (vec_capacity index.old) }
     requires fields { HasFields fields.old.items job }
@@ -153,7 +154,7 @@ fn let_all_go(fields: &mut Vec<Option<Run>>, index: &mut Vec<Hold>, job: u32)
     }
 }
 
-/// A channel that holds nothing takes blocks up that nobody holds.
+/// Makes a channel that holds nothing hold blocks that nobody holds.
 fn take_up(fields: &mut Vec<Option<Run>>, index: &mut Vec<Hold>, job: u32, channel: u8, run: &Run)
     requires kept { IsKept fields.old.items index.old.items (vec_capacity index.old) }
     requires field { HasField fields.old.items job channel }

@@ -17,7 +17,7 @@ pub(crate) struct Hold {
     pub(crate) channel: u8,
 }
 
-/// Takes the hold of a block out, which is there.
+/// Removes the hold of a block, if there is one.
 pub(crate) fn drop_hold(index: &mut Vec<Hold>, held: &Held)
     requires { Rises index.old.items }
     ensures drops { Drops held.now index.old.items index.new.items }
@@ -28,7 +28,7 @@ pub(crate) fn drop_hold(index: &mut Vec<Hold>, held: &Held)
     }
 }
 
-/// Puts a hold at its place, in room that is there.
+/// Inserts a hold at its place. The memory for it was taken before.
 pub(crate) fn add_hold(index: &mut Vec<Hold>, hold: Hold)
     requires rises { Rises index.old.items }
     requires free { look index.old.items hold.held.name hold.held.block ≡ None }
@@ -41,7 +41,7 @@ pub(crate) fn add_hold(index: &mut Vec<Hold>, hold: Hold)
     }
 }
 
-/// Takes the holds of all blocks of a run out, which are there.
+/// Removes the holds of all blocks of a run.
 pub(crate) fn drop_all(index: &mut Vec<Hold>, run: &Run)
     requires rises { Rises index.old.items }
     requires numbered { run.now.block + run.now.count ≤ 2 ^ 16 }
@@ -53,7 +53,7 @@ pub(crate) fn drop_all(index: &mut Vec<Hold>, run: &Run)
     }
 }
 
-/// Puts a hold of each block of a run at its place, in room that is there.
+/// Inserts a hold of each block of a run at its place. The memory for them was taken before.
 pub(crate) fn add_all(index: &mut Vec<Hold>, run: &Run, job: u32, channel: u8)
     requires rises { Rises index.old.items }
     requires numbered { run.now.block + run.now.count ≤ 2 ^ 16 }
@@ -68,7 +68,7 @@ pub(crate) fn add_all(index: &mut Vec<Hold>, run: &Run, job: u32, channel: u8)
     }
 }
 
-/// Where a block stands, or else where it belongs.
+/// Returns the place of a block, or else the place where it belongs.
 pub(crate) fn seek(index: &[Hold], name: &FileName, block: u16) -> Result<usize, usize>
     requires { Rises index.now }
     ensures { IsSought name.now block index.now result }

@@ -1,7 +1,8 @@
 //! The interlock: which channel holds a block.
 //!
-//! It stands on `monitor_model`, whose `Holds` is one map of blocks to channels. `Holds::holder`
-//! and `held_by` carry that both tell that map; `hold` and `release` change it, and take no memory.
+//! The crate depends on `monitor_model`, whose `Holds` is one map of blocks to channels.
+//! `Holds::holder` and `held_by` are proved to return what that map says. `hold` and `release`
+//! change it, and take no memory.
 #![tactic(auto)]
 
 mod holds;

@@ -1,11 +1,11 @@
-//! Blocks of one file that stand next to each other.
+//! Consecutive blocks of one file.
 
 ghost use Rattle.std.specs.Prelude.{◌≡◌, ◌+◌, ◌<◌, ◌^◌};
 ghost use Rattle.block_interlock.specs.Index.{nth_block};
 
 use monitor_calls::FileName;
 
-/// So many blocks of a file, from this one on.
+/// This many blocks of a file, from this one on.
 #[derive(Clone, Copy)]
 pub struct Run {
     pub name: FileName,
@@ -21,7 +21,7 @@ pub(crate) struct Held {
 }
 
 impl Run {
-    /// The block at a place, counted from 0.
+    /// Returns the block at a place, counted from 0.
     pub(crate) fn nth(&self, place: u8) -> Held
         requires { self.now.block + place < 2 ^ 16 }
         ensures { result ≡ nth_block self.now place }

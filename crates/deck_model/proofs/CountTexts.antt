@@ -40,7 +40,7 @@ more_signs j n some =
     ap (λ (b : Bool). cond b (last_sign n ∷ []) (digits_onto j 10 false (n / 10) (last_sign n ∷ []))) (ne_eqb (n / 10) 0 some)
     ∙ onto j (n / 10) (last_sign n ∷ []) ∙ ap (λ (c : ℕ). shown j (n / 10) ++ c ∷ []) (last_is n)
 
--- ---- all digits are shown where there is room for them
+-- ---- all digits are shown if there is space for them
 
 below_power : (j : ℕ) → j < 10 ^ j
 below_power zero = omega arith
@@ -104,7 +104,7 @@ digits_both [] ys l r = r
 digits_both (x ∷ xs) ys l r =
     and_both (is_ascii_digit x) (list_all is_ascii_digit (xs ++ ys)) (and_left (is_ascii_digit x) (list_all is_ascii_digit xs) l) (digits_both xs ys (and_right (is_ascii_digit x) (list_all is_ascii_digit xs) l) r)
 
--- digits, of which the first is no 0 but for 0 itself
+-- digits, of which the first is no 0 except for 0 itself
 pub record IsNumberText (n : ℕ) (text : List ℕ) : Type 0 where
   pub all : list_all is_ascii_digit text ≡ true
   pub some : 0 < length text

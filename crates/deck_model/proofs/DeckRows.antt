@@ -1,4 +1,4 @@
--- Small decks, computed: what they say, and where and why others are rejected.
+-- Small decks, computed: what they say, and the line and the cause for which others are rejected.
 use Rattle.std.proofs.Common.{◌≡◌, ℕ, List, [], ◌∷◌, ◌++◌, replicate, refl}
 use Rattle.std.specs.Prelude.{codes}
 use Rattle.std.specs.Fmt.{digits}
@@ -137,7 +137,7 @@ a_block_in_version_one = refl
 abbrev third : List ℕ
 third = codes "RSTS-DECK 3\nDISK 2\nACCOUNT 100,5 DEMO 9 2\n"
 
--- a file with a text and a block, a name that has no stem, and the greatest code
+-- a file with a text and a block, a name that has no stem, and the largest code
 lines_of_both_kinds : verdict (third ++ codes "FILE [100,5].Basic7<255> 2\n>10 END\n=0aff\nEND\n")
     ≡ Yields (record {
       blocks = 2;

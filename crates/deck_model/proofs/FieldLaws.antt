@@ -29,7 +29,7 @@ digits_are (d ∷ ds) all =
     let range : IsInRange 48 57 d = digit_from_value d all.0 in
     and_both (is_ascii_digit d) (is_plain ds) (and_both (nat_le 48 d) (nat_le d 57) (le-leb 48 d (omega arith)) (le-leb d 57 (omega arith))) (digits_are ds all.1)
 
--- digits are a numeral where the first is no zero, or the only one
+-- digits are a numeral if the first is no zero, or the only one
 numeral_from : (ds : List ℕ) → 0 < length ds → is_plain ds ≡ true → (48 < get_or ds 0 0) ⊎ (length ds ≡ 1) → is_numeral ds ≡ true
 numeral_from [] some plain first = absurd (omega arith)
 numeral_from (d ∷ ds) some plain first =
@@ -130,7 +130,7 @@ texts_take version line t e =
     let line_is : line ≡ plain_text made = behind_takes (codes "ACCOUNT ") line a.0 a.1 ∙ ap (λ t. codes "ACCOUNT " ++ t) first in
     subst (λ (x : AccountTexts). MayTell version x.quota × (line ≡ account_text x)) (some_is made t f.2) (limits.0, line_is ∙ sym (text_is made))
 
--- no field has a byte at which the line is cut behind it
+-- no field has a byte at which the line is cut after it
 pub record IsPlain (version : Version) (t : AccountTexts) : Type 0 where
   pub may : MayTell version t.quota
   pub project : Lacks 44 t.project
@@ -196,7 +196,7 @@ file_texts_take line t e =
     subst (λ (x : FileTexts). line ≡ plain_file x) (some_is made t g.2) (behind_takes (codes "FILE [") line a.0 a.1 ∙ ap (λ t. codes "FILE [" ++ t) second)
     ∙ sym (file_is t)
 
--- no field has a byte at which the line is cut behind it
+-- no field has a byte at which the line is cut after it
 pub record IsPlainFile (t : FileTexts) : Type 0 where
   pub project : Lacks 44 t.project
   pub programmer : Lacks 93 t.programmer

@@ -26,7 +26,7 @@ took_has : (front : Front) (line : List ℕ) (made form : LineForm) → May fron
 took_has front line made form may took same =
     subst (λ (f : LineForm). HasForm front line f) same (record { may = may; is_formed = took.formed; line_is = took.line_is })
 
--- a line is that of a version, or something is found behind that test
+-- a line is that of a version, or something is found after that test
 heading_take : (version : Version) (line : List ℕ) (rest : Option LineForm) (form : LineForm) → cond (bytes_eq line (heading version)) (Some (Heading version)) rest ≡ Some form → (Took One line (Heading version) × (Heading version ≡ form)) ⊎ (rest ≡ Some form)
 heading_take version line rest form e = go (bytes_eq line (heading version)) refl e
   where

@@ -1,4 +1,5 @@
--- The lines that are written of a file's pages: what they give, that they are found again, and how long they are.
+-- The lines that are written of a file's pages: what they give, that they are found again, and how
+-- long they are.
 use Rattle.std.proofs.Common.{◌≡◌, ℕ, suc, ◌+◌, ◌-◌, ◌*◌, ◌<◌, ◌≤◌, Bool, true, false, cond, eqb, List, [], ◌∷◌, ◌++◌, length, replicate, map, refl, sym, ap, ◌∙◌, arith}
 use Rattle.std.specs.Prelude.{◌&&◌, ◌||◌, ◌/◌, ◌%◌, not, nat_le, nat_lt, bytes_eq}
 use Rattle.std.specs.List.{AllByRecursion, concat, list_all}
@@ -133,7 +134,7 @@ texts_plain : (texts : List (List ℕ)) → list_all is_text_line texts ≡ true
 texts_plain [] e = tt
 texts_plain (t ∷ texts) e = (text_plain t (and_left (is_text_line t) (list_all is_text_line texts) e), texts_plain texts (and_right (is_text_line t) (list_all is_text_line texts) e))
 
--- the sign in front of a line and its LF take the room of CR LF
+-- the sign before a line and its LF take the space of CR LF
 texts_length : (texts : List (List ℕ)) → length (text_of_lines (map content_line (map TextLine texts))) ≡ length (content_of (map TextLine texts))
 texts_length [] = refl
 texts_length (t ∷ texts) =

@@ -1,4 +1,4 @@
--- Accounts and terminals to which one more is added: they stay good exactly where no cause applies.
+-- Accounts and terminals to which one more is added: they stay good exactly if no cause applies.
 use Rattle.std.proofs.Common.{◌≡◌, ℕ, ◌<◌, ◌≤◌, Bool, true, false, eqb, List, [], ◌∷◌, ◌++◌, length, refl, sym, ap, subst, ◌∙◌, arith}
 use Rattle.std.specs.Prelude.{◌&&◌, ◌||◌, not, nat_le, bytes_eq}
 use Rattle.std.specs.List.{list_all, AllByRecursion}

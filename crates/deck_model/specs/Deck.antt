@@ -1,4 +1,5 @@
--- A deck: the disk's blocks, the accounts, the files with their pages, and the terminals with their keys.
+-- A deck: the disk's blocks, the accounts, the files with their pages, and the terminals with their
+-- keys.
 use Rattle.std.specs.Prelude.{◌≡◌, ℕ, ◌≤◌, ◌&&◌, Bool, true, not, List, [], ◌∷◌, length, bytes_eq}
 use Rattle.std.specs.List.{AllByRecursion, list_any}
 use Rattle.basic_values.specs.declared.limits.TheConstants.{MOST_JOBS}

@@ -15,7 +15,7 @@ use Rattle.deck_model.specs.Spelling.{FileWithLines, deck_lines, Spelled}
 
 -- THE LINES OF A FILE
 
--- one more byte in front of bytes that do not end with a zero; a zero in front of nothing goes too
+-- one more byte before bytes that do not end with a zero; a zero before nothing goes too
 abbrev pub before_zeros : ℕ → List ℕ → List ℕ
 before_zeros byte [] = if byte == 0 then [] else byte ∷ []
 before_zeros byte (next ∷ bytes) = byte ∷ next ∷ bytes

@@ -26,7 +26,7 @@ pub record FileTexts : Type 0 where
   pub blocks : List ℕ
 
 -- RSTS-DECK and the version; DISK and blocks; ACCOUNT and its fields; FILE and its fields; TERMINAL
--- and a name; the keys of a line, or a line of a file's text; the bytes of a block of a file; END
+-- and a name. The keys of a line, or a line of a file's text; the bytes of a block of a file; END
 pub data LineForm : Type 0 where
   Heading : Version → LineForm
   Disk : List ℕ → LineForm

@@ -10,9 +10,9 @@ use Rattle.deck_model.specs.Files.{file_entry, ContentLine, block_of}
 use Rattle.deck_model.specs.Forms.{LineForm, Heading, Disk, Account, File, Terminal, Keys, Block, End, AccountTexts, FileTexts, has_block_lines, line_of}
 use Rattle.deck_model.specs.Spelling.{FileWithLines, HasLines, HaveLines, group_lines, file_lines, terminal_lines, deck_lines, AreNamesIn, AreQuotas}
 
--- Nothing yet; the version, which each later front keeps; the disk and the accounts; a deck that has
--- no terminal yet, and its last file, which may get more content; a deck and its last terminal, which
--- may get more keys; a whole deck
+-- Nothing yet; the version, which each later front keeps; the disk and the accounts. A deck that
+-- has no terminal yet, and its last file, which may get more content. A deck and its last terminal,
+-- which may get more keys; a whole deck
 pub data Front : Type 0 where
   Nothing : Front
   Versioned : Version → Front

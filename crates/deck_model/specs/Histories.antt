@@ -22,12 +22,12 @@ abbrev pub hex_text : List ℕ → List ℕ
 hex_text [] = []
 hex_text (byte ∷ bytes) = hex_sign (byte / 16) ∷ hex_sign (byte % 16) ∷ hex_text bytes
 
--- the same, and a dash where there are no bytes
+-- the same, and a dash if there are no bytes
 abbrev pub hex_or_dash : List ℕ → List ℕ
 hex_or_dash [] = codes "-"
 hex_or_dash (byte ∷ bytes) = hex_text (byte ∷ bytes)
 
--- the blocks of a record one behind the other, and a dash where it has none
+-- the blocks of a record one after the other, and a dash if it has none
 abbrev pub pages_text : List (List ℕ) → List ℕ
 pages_text [] = codes "-"
 pages_text (page ∷ pages) = flat_map hex_text (page ∷ pages)
@@ -36,17 +36,17 @@ pages_text (page ∷ pages) = flat_map hex_text (page ∷ pages)
 abbrev pub account_digits : Account → List ℕ
 account_digits account = decimal account.project ++ codes "," ++ decimal account.programmer
 
--- 1 where it is so, else 0
+-- 1 if it is so, else 0
 abbrev pub truth_text : Bool → List ℕ
 truth_text true = codes "1"
 truth_text false = codes "0"
 
--- a number, and a dash where there is none
+-- a number, and a dash if there is none
 abbrev pub number_or_dash : Option ℕ → List ℕ
 number_or_dash None = codes "-"
 number_or_dash (Some n) = decimal n
 
--- the letters of a short name, and a dash where it has none
+-- the letters of a short name, and a dash if it has none
 abbrev pub letters_or_dash : List ℕ → List ℕ
 letters_or_dash [] = codes "-"
 letters_or_dash (letter ∷ letters) = letter ∷ letters
@@ -61,7 +61,7 @@ kind_text Output = codes "OUTPUT"
 kind_text Either = codes "EITHER"
 kind_text Fresh = codes "FRESH"
 
--- the fields behind a word, each with a space in front
+-- the fields after a word, each with a space before it
 abbrev pub fields : List (List ℕ) → List ℕ
 fields [] = []
 fields (field ∷ others) = codes " " ++ field ++ fields others
@@ -119,7 +119,8 @@ abbrev pub entry_lines : List Entry → List ℕ
 entry_lines [] = []
 entry_lines (entry ∷ entries) = entry_line entry ++ entry_lines entries
 
--- The digits of a number of any size, without a leading zero; `decimal` shows the last 64 digits at most.
+-- The digits of a number of any size, without a leading zero; `decimal` shows the last 64 digits at
+-- most.
 unfoldable pub count_text : ℕ → List ℕ
 count_text n = digits_onto (suc n) 10 false n []
 
@@ -128,7 +129,7 @@ abbrev pub history_text : List Entry → List ℕ
 history_text history =
     codes "HISTORY " ++ count_text (length history) ++ codes "\n" ++ entry_lines history
 
--- A journal has a star in place of the number. After any of its lines it may be cut: then it is the
+-- A journal has a star in place of the number. It may be cut after any of its lines: then it is the
 -- journal of fewer entries.
 abbrev pub journal_text : List Entry → List ℕ
 journal_text history = codes "HISTORY *\n" ++ entry_lines history

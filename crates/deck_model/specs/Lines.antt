@@ -1,4 +1,4 @@
--- Bytes as lines: those that end by a LF, and what stands behind the last LF.
+-- Bytes as lines: those that end with a LF, and what comes after the last LF.
 use Rattle.std.specs.Prelude.{ℕ, ◌==◌, List, [], ◌∷◌}
 use Rattle.std.specs.List.{slice_split}
 use Rattle.std.specs.Str.Lines.{strip_carriage_return}
@@ -22,6 +22,6 @@ last_in (part ∷ next ∷ parts) = last_in (next ∷ parts)
 unfoldable pub whole_lines : List ℕ → List (List ℕ)
 whole_lines bytes = lines_in (parts_of bytes)
 
--- what stands behind the last LF: nothing, or a line that is cut
+-- what comes after the last LF: nothing, or a line that is cut
 unfoldable pub cut_line : List ℕ → List ℕ
 cut_line bytes = last_in (parts_of bytes)

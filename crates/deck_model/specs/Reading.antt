@@ -12,7 +12,7 @@ use Rattle.deck_model.specs.Forms.{LineForm, Heading, Disk, Account, File, Termi
 use Rattle.deck_model.specs.Fronts.{Front, Nothing, Versioned, InAccounts, InFile, InTerminal, Whole, adds}
 use Rattle.deck_model.specs.Refusals.{causes, first_cause, shape_cause}
 
--- the first of two that is there
+-- the first of two that exists
 abbrev pub or_else : {A : Type 0} → Option A → Option A → Option A
 or_else None other = other
 or_else (Some a) other = Some a
@@ -179,7 +179,8 @@ abbrev pub onwards : Result Front DeckCause → ℕ → (Front → DeckVerdict) 
 onwards (Ok front) number next = next front
 onwards (Err why) number next = Refuses number why
 
--- the verdict from a front, the number of its next line, the lines from there, and a line that is cut
+-- the verdict from a front, the number of its next line, the lines from there, and a line that is
+-- cut
 unfoldable pub reading : Front → ℕ → List (List ℕ) → List ℕ → DeckVerdict
 reading front number [] cut = at_end front number cut
 reading front number (line ∷ lines) cut =

@@ -20,7 +20,7 @@ use Rattle.deck_model.specs.Lines.{whole_lines, cut_line}
 
 -- CAUSES OF A LINE
 
--- a quota is at most the greatest, if the line has one
+-- a quota is at most the largest, if the line has one
 abbrev pub is_quota : Option (List ℕ) → Bool
 is_quota None = true
 is_quota (Some text) = is_number_between 0 MOST_QUOTA text
@@ -49,7 +49,7 @@ abbrev pub is_extension : Version → Option (List ℕ) → Bool
 is_extension version None = true
 is_extension version (Some text) = is_text_of (is_file_letter version) 1 (most_extension version) text
 
--- the greatest code of a file: in version 3 it is that of a byte
+-- the largest code of a file: in version 3 it is that of a byte
 abbrev pub most_code : Version → ℕ
 most_code One = MOST_CODE
 most_code Two = MOST_CODE
@@ -83,7 +83,7 @@ passes_quota accounts files file =
     (λ (entry : AccountEntry). same_account entry.account owner && nat_lt entry.quota owned)
     accounts
 
--- an account comes before its files, and the disk and its quota have room for them
+-- an account comes before its files, and the disk and its quota have space for them
 abbrev pub filing_causes : Deck → model.File → List (Bool × DeckCause)
 filing_causes deck file =
     (has_file deck.files file.name, cause.Double)
@@ -115,7 +115,7 @@ terminal_causes terminals name =
 abbrev pub keys_causes : List ℕ → List (Bool × DeckCause)
 keys_causes keys = (nat_lt LINE_LENGTH (length keys), cause.Range) ∷ []
 
--- the causes to reject a line of a form that may stand there, each with its test
+-- the causes to reject a line of a form that is allowed there, each with its test
 abbrev pub causes : Front → LineForm → List (Bool × DeckCause)
 causes front (Disk blocks) = (not (is_number_between 1 MOST_BLOCKS blocks), cause.Range) ∷ []
 causes (InAccounts version deck) (Account texts) = account_causes deck texts
@@ -126,18 +126,18 @@ causes (InFile version deck file) (Block bytes) = block_causes file bytes
 causes front (Keys keys) = keys_causes keys
 causes front form = []
 
--- the cause of a line that has no form that may stand there
+-- the cause of a line that has no form that is allowed there
 abbrev pub shape_cause : Front → DeckCause
 shape_cause Nothing = cause.Version
 shape_cause front = cause.Shape
 
--- the line has a form that may stand there
+-- the line has a form that is allowed there
 pub record HasForm (front : Front) (line : List ℕ) (form : LineForm) : Type 0 where
   pub may : May front form
   pub is_formed : is_formed (version_at front) form ≡ true
   pub line_is : line ≡ line_of form
 
--- no form that may stand there is the line's
+-- no form that is allowed there is the line's
 abbrev pub IsUnformed : Front → List ℕ → DeckCause → Type 0
 IsUnformed front line why = ((form : LineForm) → HasForm front line form → ⊥) × (why ≡ shape_cause front)
 

@@ -7,7 +7,7 @@ abbrev pub head_line : List ℕ → List ℕ → List ℕ
 head_line name screen =
     codes "TERMINAL " ++ name ++ codes " " ++ decimal (length screen) ++ codes "\n"
 
--- a screen behind its head line, with a LF behind it
+-- a screen after its head line, with a LF after it
 abbrev pub terminal_report : List ℕ → List ℕ → List ℕ
 terminal_report name screen = head_line name screen ++ (screen ++ codes "\n")
 

@@ -137,8 +137,8 @@ group_lines version deck with_lines =
 abbrev pub deck_lines : Version → Deck → List FileWithLines → List (List ℕ)
 deck_lines version deck with_lines = group_lines version deck with_lines ++ line_of End ∷ []
 
--- The bytes are the lines of the deck in some version, with some lines for the content of its files,
--- and nothing comes after them.
+-- The bytes are the lines of the deck in some version, with some lines for the content of its
+-- files, and nothing comes after them.
 pub record Spelled (bytes : List ℕ) (deck : Deck) : Type 0 where
   pub version : Version
   pub with_lines : List FileWithLines

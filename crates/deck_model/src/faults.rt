@@ -16,7 +16,7 @@ pub enum DeckCause {
     Double,
     /// The account of the file was not given.
     Owner,
-    /// There are already as many as there may be, the disk or the quota of the account has no room
+    /// There are already as many as there may be, the disk or the quota of the account has no space
     /// for the file, or the content does not fit in the blocks of its file.
     Space,
 }

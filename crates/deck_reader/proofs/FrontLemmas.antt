@@ -41,7 +41,7 @@ pub account_behind : (version : Version) (deck : model.Deck) (line : List ℕ) (
 unfolding behind_line behind_form form_at
 account_behind version deck line texts e = rw e refl
 
--- the front behind the line of a file
+-- the front after the line of a file
 abbrev pub filed : Version → model.Deck → FileTexts → Result Front DeckCause
 filed version deck texts = unless_refused (InFile version deck (new_file texts)) (first_cause (file_causes version deck texts))
 
@@ -61,7 +61,7 @@ pub block_behind : (version : Version) (deck : model.Deck) (file : model.File) (
 unfolding behind_line behind_form form_at
 block_behind version deck file line bytes e = rw e refl
 
--- the front behind the line of a terminal
+-- the front after the line of a terminal
 abbrev pub named : Version → model.Deck → List ℕ → Result Front DeckCause
 named version deck name = unless_refused (InTerminal version deck (new_terminal name)) (first_cause (terminal_causes deck.terminals name))
 

@@ -1,4 +1,4 @@
--- The names of terminals, where they lie in memory and where they do not.
+-- The names of terminals, as the code keeps them and as the definitions have them.
 use Rattle.std.proofs.Common.{◌≡◌, ℕ, List, [], ◌∷◌, map, refl, ap}
 use Rattle.std.specs.Prelude.{◌||◌, Bool, bytes_eq}
 use Rattle.deck_model.specs.Deck.{has_terminal}

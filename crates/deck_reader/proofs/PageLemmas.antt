@@ -1,4 +1,4 @@
--- Pages cut from the front of a file's bytes, one by one.
+-- Pages cut from the start of a file's bytes, one by one.
 use Rattle.std.proofs.Common.{◌≡◌, ℕ, suc, List, [], ◌∷◌, ◌++◌, take, drop, sym, ap, ◌∙◌, append_assoc}
 use Rattle.std.proofs.lemmas.List.{append-nil}
 use Rattle.deck_model.specs.Files.{pages_of}

@@ -1,4 +1,4 @@
--- What reading tells of lines that are taken one after the other.
+-- The result of reading lines that are taken one after the other.
 use Rattle.std.proofs.Common.{◌≡◌, ℕ, ◌+◌, List, [], ◌∷◌, Ok, Err, refl, ap, ◌∙◌}
 use Rattle.std.specs.Prelude.{Result, IfOk}
 use Rattle.basic_values.specs.declared.failures.Trouble.{Trouble}
@@ -17,7 +17,7 @@ use Rattle.deck_reader.specs.declared.failures.ReadError.TheVariants as errors
 use Rattle.deck_reader.specs.declared.fronts.Front.{Front}
 use Rattle.deck_reader.specs.Seen.{deck_of, front_of, Decides, trouble_at, IfRefused, Tells}
 
--- what is told behind a front, of the lines of these bytes
+-- the result after a front, of the lines of these bytes
 abbrev pub told_behind : fronts.Front → ℕ → List ℕ → DeckVerdict
 told_behind front number bytes = reading front number (whole_lines bytes) (cut_line bytes)
 

@@ -15,7 +15,7 @@ pub(crate) enum ReadError {
 }
 
 impl ReadError {
-    /// The failure of the line of this number.
+    /// Returns the failure of the line of this number.
     pub(crate) fn at(self, line: u32) -> Trouble<DeckFault>
         ensures { result ≡ trouble_at self line }
     {

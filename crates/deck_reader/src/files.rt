@@ -102,7 +102,7 @@ fn any_extension(text: &[u8]) -> Option<Short>
     }
 }
 
-/// Returns the greatest code of a file.
+/// Returns the largest code of a file.
 fn most_code(version: Version) -> u32
     ensures { result ≡ most_code version }
 {
@@ -113,7 +113,7 @@ fn most_code(version: Version) -> u32
 }
 
 impl OpenFile {
-    /// Returns whether the file's blocks have no room for this many bytes more.
+    /// Returns whether the file's blocks have no space for this many bytes more.
     pub(crate) fn lacks(&self, more: usize) -> bool
         ensures { result ≡ nat_lt (BLOCK_BYTES * self.now.blocks)
             (length self.now.content.items + more) }
@@ -122,7 +122,7 @@ impl OpenFile {
         more > room
     }
 
-    /// Adds a line of text, for which there is room.
+    /// Adds a line of text, for which there is space.
     pub(crate) fn with_text(self, text: &[u8]) -> Result<OpenFile, NoMemory>
         requires { nat_lt (BLOCK_BYTES * self.blocks)
             (length (model.with_text (open_of self) text.now).content) ≡ false }
@@ -144,7 +144,7 @@ impl OpenFile {
         })
     }
 
-    /// Adds the block that starts with the bytes of these digits, for which there is room.
+    /// Adds the block that starts with the bytes of these digits, for which there is space.
     pub(crate) fn with_block(self, digits: &[u8]) -> Result<OpenFile, NoMemory>
         requires few { length (hex_bytes digits.now) ≤ BLOCK_BYTES }
         requires room { length self.content.items + BLOCK_BYTES ≤ BLOCK_BYTES * self.blocks }

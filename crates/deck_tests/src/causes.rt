@@ -1,4 +1,4 @@
-//! Decks that are refused: each cause, and the line at which it stands.
+//! Decks that are rejected: each cause, and the line at which it occurs.
 
 use crate::expects::expect_row;
 use basic_values::Trouble;
@@ -7,11 +7,11 @@ use deck_reader::read_deck;
 use std::alloc::{AllocError, Global};
 use std::test::Fail;
 
-/// Lines of a deck, the line at which it is refused, and the cause.
+/// Lines of a deck, the line at which it is rejected, and the cause.
 type Row = (&'static [u8], u32, DeckCause);
 
-/// The line and the cause for which bytes are refused; none where they are a deck, or too long for
-/// these tests.
+/// Returns the line and the cause for which bytes are rejected, and none if they are a deck, or too
+/// long for these tests.
 fn refusal(alloc: Global, bytes: &[u8]) -> Option<(u32, DeckCause)> {
     if bytes.len() > 4096 {
         return None;
@@ -22,7 +22,7 @@ fn refusal(alloc: Global, bytes: &[u8]) -> Option<(u32, DeckCause)> {
     }
 }
 
-/// Whether a front and these lines behind it are refused so.
+/// Returns whether a prefix and these lines after it are rejected so.
 fn is_refused_behind(
     alloc: Global,
     front: &[u8],
@@ -36,7 +36,7 @@ fn is_refused_behind(
     }
 }
 
-/// Whether bytes are refused at that line and for that cause.
+/// Returns whether bytes are rejected at that line and for that cause.
 fn is_refused(alloc: Global, bytes: &[u8], line: u32, cause: DeckCause) -> bool {
     match refusal(alloc, bytes) {
         Some((at, why)) => at == line && why == cause,
@@ -44,7 +44,7 @@ fn is_refused(alloc: Global, bytes: &[u8], line: u32, cause: DeckCause) -> bool 
     }
 }
 
-/// Fails with the first row that is refused otherwise, each with this front.
+/// Fails with the first row that is rejected otherwise, each after this prefix.
 fn expect_causes(alloc: Global, front: &[u8], rows: &[Row]) -> Result<(), Fail> {
     for place in 0..rows.len() {
         let (lines, line, cause) = rows[place];
@@ -277,7 +277,7 @@ fn only_version_three_has_lines_of_bytes(rt: HostRuntime) -> Result<(), Fail> {
     expect_causes(rt.alloc(), b"", old_blocks())
 }
 
-/// Fails with where bytes are refused, unless it is at that line and for that cause.
+/// Fails with the line at which bytes are rejected, unless it is that line and that cause.
 fn expect_refusal(alloc: Global, bytes: &[u8], line: u32, cause: DeckCause) -> Result<(), Fail> {
     match refusal(alloc, bytes) {
         Some((at, why)) if at == line && why == cause => Ok(()),
@@ -286,13 +286,13 @@ fn expect_refusal(alloc: Global, bytes: &[u8], line: u32, cause: DeckCause) -> R
     }
 }
 
-/// Returns a front, this many letters A after it, and the end of a deck.
+/// Returns a prefix, this many letters A after it, and the end of a deck.
 fn deck_of_letters(alloc: Global, front: &[u8], letters: usize) -> Result<Vec<u8>, AllocError> {
     let letters = vec![in alloc; b'A'; letters]?;
     [front, letters.as_slice(), b"\nEND\n"].concat(alloc)
 }
 
-/// Returns a front, `=` with this many bytes of zero after it, and the end of a deck.
+/// Returns a prefix, `=` with this many bytes of zero after it, and the end of a deck.
 fn deck_of_zeros(alloc: Global, front: &[u8], bytes: usize) -> Result<Vec<u8>, AllocError> {
     let digits = vec![in alloc; b'0'; bytes.saturating_mul(2)]?;
     [front, b"=", digits.as_slice(), b"\nEND\n"].concat(alloc)
@@ -324,7 +324,7 @@ fn a_key_line_has_at_most_255_bytes(rt: HostRuntime) -> Result<(), Fail> {
     expect_refusal(rt.alloc(), deck.as_slice(), 4, DeckCause::Range)
 }
 
-/// Fails unless each front of a deck is refused as cut in its last line.
+/// Fails unless each prefix of a deck is rejected as cut in its last line.
 fn expect_cut(alloc: Global, deck: &[u8]) -> Result<(), Fail> {
     let mut line = 1u32;
     for at in 0..deck.len() {
@@ -344,7 +344,7 @@ TERMINAL T1\n>A\nEND\n";
     expect_cut(rt.alloc(), deck)
 }
 
-/// The text of a deck of so many terminals.
+/// Appends the text of a deck of this many terminals.
 fn push_deck(deck: &mut String, count: u32) -> Result<(), AllocError> {
     deck.push_str("RSTS-DECK 1\nDISK 8\n")?;
     for number in 0..count {

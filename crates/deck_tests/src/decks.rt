@@ -1,4 +1,4 @@
-//! Decks that are read, told again as texts.
+//! Decks that are read, and written again as texts.
 
 use crate::expects::expect;
 use deck_reader::{Deck, Terminal, read_deck};
@@ -6,8 +6,8 @@ use monitor_calls::{Account, AccountEntry, FileEntry, Page};
 use std::alloc::Global;
 use std::test::Fail;
 
-/// What is left of the bytes that a deck is to be told by. Whoever puts something there need not
-/// ask each time whether it was the next.
+/// What is left of the bytes that are expected of a deck. Whoever puts something there need not ask
+/// each time whether it was the next.
 struct Told {
     rest: &'static [u8],
     is_other: bool,
@@ -22,12 +22,12 @@ impl Told {
         }
     }
 
-    /// The last digit of a number.
+    /// Puts the last digit of a number.
     fn digit(&mut self, number: u16) {
         self.bytes(&[b'0' + (number % 10) as u8])
     }
 
-    /// A number, and what stands behind it.
+    /// Puts a number, and what comes after it.
     fn number(&mut self, number: u16, end: &[u8]) {
         if number > 9999 {
             self.digit(number / 10000);
@@ -45,7 +45,7 @@ impl Told {
         self.bytes(end)
     }
 
-    /// What stands in front of a line, and the line.
+    /// Puts what comes before a line, and the line.
     fn line(&mut self, front: &[u8], bytes: &[u8]) {
         self.bytes(front);
         self.bytes(bytes);
@@ -53,8 +53,8 @@ impl Told {
     }
 }
 
-/// Whether a deck is told by these bytes: a line for the disk, for each account, file, terminal
-/// and key line.
+/// Returns whether a deck is written as these bytes: a line for the disk, for each account, file,
+/// terminal and key line.
 fn is_told(deck: &Deck, want: &'static [u8]) -> bool {
     let mut out = Told {
         rest: want,
@@ -68,7 +68,7 @@ fn is_told(deck: &Deck, want: &'static [u8]) -> bool {
     rest.is_empty() && !is_other
 }
 
-/// Fails unless the bytes spell a deck that is told so.
+/// Fails unless the bytes spell a deck that is written so.
 fn expect_told(alloc: Global, bytes: &[u8], want: &'static [u8]) -> Result<(), Fail> {
     if bytes.len() > 4096 {
         return Err(Fail::new("a deck that is too long for these tests"));
@@ -103,7 +103,7 @@ fn put_files(out: &mut Told, files: &[FileEntry]) {
     }
 }
 
-/// The bytes in front of the zeros at the end.
+/// Returns the bytes before the zeros at the end.
 fn without_zeros(bytes: &[u8]) -> &[u8] {
     let mut kept = 0;
     for place in 0..bytes.len() {
@@ -114,7 +114,7 @@ fn without_zeros(bytes: &[u8]) -> &[u8] {
     &bytes[..kept.min(bytes.len())]
 }
 
-/// The bytes of each page up to the zeros at its end, and a star.
+/// Puts the bytes of each page up to the zeros at its end, and a star.
 fn put_pages(out: &mut Told, pages: &[Page]) {
     for page in pages {
         out.bytes(without_zeros(page.as_bytes()));
@@ -155,7 +155,7 @@ fn files_are_read_with_their_texts(rt: HostRuntime) -> Result<(), Fail> {
     expect_told(rt.alloc(), FILES, want)
 }
 
-/// The first page has zeros behind the text, and the second nothing else.
+/// The first page has zeros after the text, and the second nothing else.
 #[test]
 fn zeros_stand_behind_the_text_of_a_file(rt: HostRuntime) -> Result<(), Fail> {
     let deck = b"RSTS-DECK 1\nDISK 2\nACCOUNT 1,2 A 9\nFILE [1,2]B<0> 2\n>10 END\nEND\n";
@@ -163,7 +163,7 @@ fn zeros_stand_behind_the_text_of_a_file(rt: HostRuntime) -> Result<(), Fail> {
     expect_told(rt.alloc(), deck, want)
 }
 
-/// In version 2 an account has the quota that its line tells.
+/// In version 2 an account has the quota that its line gives.
 #[test]
 fn quotas_are_read(rt: HostRuntime) -> Result<(), Fail> {
     let deck = b"RSTS-DECK 2\nDISK 8\nACCOUNT 100,5 DEMO 9 1\nACCOUNT 1,2 A 1 16384\n\

@@ -22,7 +22,7 @@ trait Same {
     fn is_same(&self, other: &Self) -> bool;
 }
 
-/// Whether two lists have as many parts, and each is the same as the other's.
+/// Returns whether two lists have as many parts, and each is the same as the other's.
 fn are_same<T: Same>(a: &[T], b: &[T]) -> bool {
     if a.len() != b.len() {
         return false;
@@ -83,7 +83,7 @@ impl Same for Deck {
     }
 }
 
-/// The text of the deck of so many terminals.
+/// Appends the text of the deck of this many terminals.
 fn push_text(text: &mut String, jobs: u32) -> Result<(), AllocError> {
     text.push_str(FRONT)?;
     for number in 1..=jobs {
@@ -98,7 +98,7 @@ fn text_of(alloc: Global, jobs: u32) -> Result<String, AllocError> {
     Ok(text)
 }
 
-/// Whether a text spells a deck that is this one.
+/// Returns whether a text spells a deck that is this one.
 fn is_spelled(alloc: Global, text: &[u8], deck: &Deck) -> bool {
     if text.len() > 65_536 {
         return false;
@@ -109,7 +109,7 @@ fn is_spelled(alloc: Global, text: &[u8], deck: &Deck) -> bool {
     }
 }
 
-/// Whether the deck of so many jobs is spelled by a text.
+/// Returns whether a text spells the deck of this many jobs.
 fn is_made(alloc: Global, text: &[u8], jobs: u32) -> bool {
     match drill_deck(alloc, jobs.min(MOST_DRILL_JOBS)) {
         Ok(deck) => is_spelled(alloc, text, &deck),
@@ -117,7 +117,7 @@ fn is_made(alloc: Global, text: &[u8], jobs: u32) -> bool {
     }
 }
 
-/// Whether the deck of so many jobs is the one that its text spells.
+/// Returns whether the deck of this many jobs is the one that its text spells.
 fn is_that_of_its_text(alloc: Global, jobs: u32) -> Result<bool, AllocError> {
     let text = text_of(alloc, jobs)?;
     Ok(is_made(alloc, text.as_bytes(), jobs))
@@ -136,7 +136,7 @@ fn the_deck_is_that_of_its_text(rt: HostRuntime) -> Result<(), Fail> {
     Ok(())
 }
 
-/// A page that begins with these two bytes.
+/// Returns a page that begins with these two bytes.
 fn page_of(alloc: Global, high: u8, low: u8) -> Result<Page, Fail> {
     let mut bytes = [0u8; 512];
     bytes[0] = high;
@@ -146,7 +146,7 @@ fn page_of(alloc: Global, high: u8, low: u8) -> Result<Page, Fail> {
     Ok(page)
 }
 
-/// A Put of such a page, which is done or comes too late.
+/// Returns a Put of such a page, which is done or comes too late.
 fn put_of(alloc: Global, bytes: (u8, u8), is_done: bool) -> Result<Entry, Fail> {
     let page = page_of(alloc, bytes.0, bytes.1)?;
     let request = Request::Put {
@@ -158,7 +158,7 @@ fn put_of(alloc: Global, bytes: (u8, u8), is_done: bool) -> Result<Entry, Fail> 
     Ok(Entry::new(0, request, reply))
 }
 
-/// Puts, of which one is refused, and what stands between.
+/// Appends Puts, of which one is refused, and other calls between them.
 fn push_puts(history: &mut Vec<Entry>, alloc: Global) -> Result<(), Fail> {
     history.push(put_of(alloc, (0, 1), true)?)?;
     history.push(Entry::new(1, Request::Tick, Reply::Done))?;
@@ -173,7 +173,7 @@ fn tally_of_puts(alloc: Global) -> Result<Tally, Fail> {
     Ok(tally_of(history.as_slice()))
 }
 
-/// Fails with the line of a drill of one job that comes to this, unless it is that one.
+/// Fails with the line of a drill of one job that has this tally, unless it is that one.
 fn expect_line(alloc: Global, told: Tally, want: &[u8]) -> Result<(), Fail> {
     let line = drill_line(alloc, 1, told)?;
     expect_bytes(line.as_slice(), want)

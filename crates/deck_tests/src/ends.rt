@@ -1,4 +1,4 @@
-//! Sources and sinks: what each call takes and gives, and where it fails.
+//! Sources and sinks: what each call takes and gives, and which calls fail.
 
 use crate::expects::{expect, expect_bytes, expect_row};
 use rsts_io::{
@@ -10,7 +10,7 @@ use std::io;
 use std::io::{Read, Write};
 use std::test::Fail;
 
-/// Whether a source answers so, through a buffer of two bytes.
+/// Returns whether a source answers so, through a buffer of two bytes.
 fn is_answered<S: Source>(source: &mut S, want: &[Took]) -> bool {
     for answer in want {
         let mut buffer = [0u8; 2];
@@ -21,8 +21,8 @@ fn is_answered<S: Source>(source: &mut S, want: &[Took]) -> bool {
     true
 }
 
-/// Gives the sink the text's next bytes so often, as far as it has taken them, and tells the
-/// answers.
+/// Gives the sink the next bytes of the text this often, after those that it has taken, and returns
+/// the answers.
 fn gifts<K: Sink>(sink: &mut K, text: &[u8], gifts: &mut [Gave]) {
     let mut rest = text;
     for gift in gifts.iter_mut() {
@@ -59,7 +59,7 @@ static SOURCES: [FailingSource; 5] = [
     ),
 ];
 
-/// Whether a source of which these calls fail answers so.
+/// Returns whether a source of which these calls fail answers so.
 fn is_taken(alloc: Global, failing: &[u64], want: &[Took]) -> bool {
     match MemorySource::new(alloc, b"abc", failing) {
         Ok(mut source) => is_answered(&mut source, want),
@@ -75,7 +75,7 @@ fn expect_taken(alloc: Global, rows: &[FailingSource]) -> Result<(), Fail> {
     Ok(())
 }
 
-/// The same of a source of which no call fails.
+/// Returns the same for a source of which no call fails.
 fn is_plainly_taken(alloc: Global, want: &[Took]) -> bool {
     match PlainSource::new(alloc, b"abc") {
         Ok(mut source) => is_answered(&mut source, want),
@@ -99,7 +99,7 @@ static SINKS: [FailingSink; 3] = [
     (&[1, 2], [Gave::Failed, Gave::Failed], b""),
 ];
 
-/// Whether a sink of which these calls fail answers so, and has these bytes then.
+/// Returns whether a sink of which these calls fail answers so, and has these bytes then.
 fn is_given(alloc: Global, failing: &[u64], want: &[Gave], bytes: &[u8]) -> Result<bool, Fail> {
     let mut sink = MemorySink::new(alloc, failing)?;
     let mut got = [Gave::Failed; 2];
@@ -120,7 +120,7 @@ fn each_call_of_a_sink_fails_in_turn(rt: HostRuntime) -> Result<(), Fail> {
     expect_given(rt.alloc(), &SINKS)
 }
 
-/// Whether a sink answers so to a piece that it is given three times, and is full then.
+/// Returns whether a sink answers so to a piece that it is given three times, and is full then.
 fn is_filled(alloc: Global, want: &[Gave]) -> Result<bool, Fail> {
     let mut sink = PlainSink::new(alloc)?;
     let piece = vec![in alloc; 7; 10_000_000]?;
@@ -131,7 +131,7 @@ fn is_filled(alloc: Global, want: &[Gave]) -> Result<bool, Fail> {
     Ok(got.as_slice() == want && sink.bytes().len() == SINK_ROOM)
 }
 
-/// A piece that the room does not hold is taken in part, and the next one not at all.
+/// A piece that does not fit is taken in part, and the next one not at all.
 #[test]
 fn a_full_sink_takes_what_fits(rt: HostRuntime) -> Result<(), Fail> {
     let want = [
@@ -172,7 +172,7 @@ static DRIBBLES: [Dribble; 3] = [
     ),
 ];
 
-/// Whether a source that gives at most so many bytes a call, at least one, answers so.
+/// Returns whether a source that gives at most this many bytes a call, at least one, answers so.
 fn is_taken_slowly(alloc: Global, most: usize, want: &[Took]) -> bool {
     match DribbleSource::new(alloc, b"abc", most.max(1)) {
         Ok(mut source) => is_answered(&mut source, want),
@@ -180,7 +180,7 @@ fn is_taken_slowly(alloc: Global, most: usize, want: &[Took]) -> bool {
     }
 }
 
-/// Whether a sink that takes at most so many answers so, and has these bytes then.
+/// Returns whether a sink that takes at most this many answers so, and has these bytes then.
 fn is_given_slowly(alloc: Global, most: usize, want: &[Gave], bytes: &[u8]) -> Result<bool, Fail> {
     let mut sink = DribbleSink::new(alloc, most.max(1))?;
     let mut got = [Gave::Failed; 4];
@@ -226,7 +226,7 @@ impl Read for FailsOnce {
     }
 }
 
-/// Whether a source goes on behind a read that failed, up to its end.
+/// Returns whether a source goes on after a read that failed, up to its end.
 fn goes_on() -> bool {
     let mut source = StdSource::new(FailsOnce {
         text: b"ab",
@@ -248,8 +248,8 @@ fn a_source_goes_on_behind_a_failed_read(_rt: HostRuntime) -> Result<(), Fail> {
     expect(goes_on(), "a source behind a failed read")
 }
 
-/// A writer that takes two bytes a call, fails once, before its third byte, and takes nothing
-/// behind its fourth.
+/// A writer that takes two bytes a call, fails once, before its third byte, and takes nothing after
+/// its fourth.
 #[derive(Drop)]
 struct TakesLittle<'a> {
     kept: &'a mut Vec<u8>,
@@ -275,7 +275,7 @@ impl Write for TakesLittle<'_> {
     }
 }
 
-/// What such a sink answers when it is given the text, and is to keep of it.
+/// Returns what such a sink answers when it is given the text, and is to keep of it.
 fn gifts_kept(kept: &mut Vec<u8>, text: &[u8]) -> [Gave; 4] {
     let mut got = [Gave::Bytes(0); 4];
     let mut sink = StdSink::new(TakesLittle { kept, fails: true });
@@ -302,7 +302,7 @@ static LENGTHS: [Length; 4] = [
     (INPUT_LIMIT + 1, Some(ReadEnd::TooLong)),
 ];
 
-/// Whether a source of so many letters is read whole, or is not read for this reason.
+/// Returns whether a source of this many letters is read whole, or is not read for this reason.
 fn is_read(alloc: Global, letters: &[u8], row: &Length) -> Result<bool, Fail> {
     if row.0 > letters.len() {
         return Ok(false);

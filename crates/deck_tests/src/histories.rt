@@ -18,7 +18,7 @@ fn push_entry(
     Ok(())
 }
 
-/// A login that is refused.
+/// Appends a login that is refused.
 fn push_login(history: &mut Vec<Entry>, text: &[u8]) -> Result<(), Fail> {
     let account = Account {
         project: 100,
@@ -36,7 +36,7 @@ fn push_login(history: &mut Vec<Entry>, text: &[u8]) -> Result<(), Fail> {
     )
 }
 
-/// Two refused logins, a Tick and a logout.
+/// Appends two refused logins, a Tick and a logout.
 fn push_logins(history: &mut Vec<Entry>) -> Result<(), Fail> {
     push_login(history, b"")?;
     push_login(history, b"DEMO")?;
@@ -44,7 +44,7 @@ fn push_logins(history: &mut Vec<Entry>) -> Result<(), Fail> {
     push_entry(history, 1, Request::Logout, Reply::Done)
 }
 
-/// The text of an empty history, and that of these calls behind it.
+/// Appends the text of an empty history, and that of these calls.
 fn push_texts(out: &mut Vec<u8>, history: &[Entry]) -> Result<(), NoMemory> {
     push_history(out, &[])?;
     push_history(out, history)
@@ -66,7 +66,7 @@ fn each_call_has_a_line(rt: HostRuntime) -> Result<(), Fail> {
     expect_texts(rt.alloc(), history.as_slice(), want)
 }
 
-/// A block of 512 times this letter.
+/// Returns a block of 512 times this letter.
 fn page_of(alloc: Global, letter: u8) -> Result<Page, Fail> {
     let bytes = vec![in alloc; letter; 512]?;
     let mut page = Page::new(alloc)?;
@@ -74,7 +74,7 @@ fn page_of(alloc: Global, letter: u8) -> Result<Page, Fail> {
     Ok(page)
 }
 
-/// So many blocks, each of one letter.
+/// Returns consecutive blocks, each of one letter.
 fn pages(alloc: Global, letters: &[u8]) -> Result<Series<Page>, Fail> {
     let mut pages = Vec::new(alloc);
     for letter in letters {
@@ -93,7 +93,7 @@ fn push_reading(history: &mut Vec<Entry>, alloc: Global, letters: &[u8]) -> Resu
     push_entry(history, 0, request, Reply::Record(pages))
 }
 
-/// A writing of such blocks, which is done where there are any.
+/// Appends a write of such blocks, which is done if there are any.
 fn push_writing(history: &mut Vec<Entry>, alloc: Global, letters: &[u8]) -> Result<(), Fail> {
     let pages = pages(alloc, letters)?;
     let request = Request::PutRecord {
@@ -109,7 +109,7 @@ fn push_writing(history: &mut Vec<Entry>, alloc: Global, letters: &[u8]) -> Resu
     push_entry(history, 62, request, reply)
 }
 
-/// A record of two blocks that is read, one that is written, and one of no block.
+/// Appends a record of two blocks that is read, one that is written, and one of no block.
 fn push_records(history: &mut Vec<Entry>, alloc: Global) -> Result<(), Fail> {
     push_reading(history, alloc, b"Ab")?;
     push_writing(history, alloc, b"z")?;
@@ -123,7 +123,7 @@ fn push_times(out: &mut Vec<u8>, signs: &[u8], times: u32) -> Result<(), AllocEr
     Ok(())
 }
 
-/// Parts of a text, each so many times.
+/// Parts of a text, each with a number of repetitions.
 static RECORDS: [(&[u8], u32); 6] = [
     (b"HISTORY 0\nHISTORY 3\n0 GETREC 1 2 3 = RECORD ", 1),
     (b"41", 512),
@@ -161,7 +161,7 @@ fn push_printing(history: &mut Vec<Entry>, alloc: Global, text: &[u8]) -> Result
     }
 }
 
-/// Each call of the printer, by one job.
+/// Appends each call of the printer, by one job.
 fn push_listing(history: &mut Vec<Entry>, alloc: Global) -> Result<(), Fail> {
     push_entry(history, 0, Request::Assign, Reply::Done)?;
     push_entry(history, 0, Request::OpenPrinter, Reply::Done)?;

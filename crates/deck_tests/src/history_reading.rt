@@ -11,13 +11,13 @@ use std::test::Fail;
 /// Some lines of a text and how many of its whole lines begin that of a history.
 type Row = (&'static [u8], usize);
 
-/// Whether the text is that of this history.
+/// Returns whether the text is that of this history.
 fn is_text_of(alloc: Global, history: &[Entry], text: &[u8]) -> bool {
     let mut again = Vec::new(alloc);
     push_history(&mut again, history).is_ok() && again.as_slice() == text
 }
 
-/// Whether a history is read of the text, and its text is this one.
+/// Returns whether a history is read of the text, and its text is this one.
 fn is_read_back(alloc: Global, text: &[u8]) -> bool {
     match read_history(alloc, text) {
         Ok(history) => is_text_of(alloc, history.as_slice(), text),
@@ -25,7 +25,7 @@ fn is_read_back(alloc: Global, text: &[u8]) -> bool {
     }
 }
 
-/// Behind how many lines the text is refused.
+/// Returns after how many lines the text is rejected.
 fn refusal(alloc: Global, text: &[u8]) -> Option<usize> {
     match read_history(alloc, text) {
         Err(Trouble::Refused(good)) => Some(good),
@@ -33,7 +33,8 @@ fn refusal(alloc: Global, text: &[u8]) -> Option<usize> {
     }
 }
 
-/// Whether a text of this line is read as it was written, or is refused behind its first line.
+/// Returns whether a text of this line is read as it was written, or is rejected after its first
+/// line.
 fn is_answered(alloc: Global, line: &[u8], is_read: bool) -> bool {
     match [b"HISTORY 1\n".as_slice(), line, b"\n"].concat(alloc) {
         Ok(text) if is_read => is_read_back(alloc, text.as_slice()),
@@ -54,7 +55,7 @@ fn expect_answers(alloc: Global, lines: &[&[u8]], is_read: bool) -> Result<(), F
     Ok(())
 }
 
-/// Fails with the first text that is refused elsewhere, or not.
+/// Fails with the first text that is rejected at another line, or not rejected.
 fn expect_refusals(alloc: Global, rows: &[Row]) -> Result<(), Fail> {
     for place in 0..rows.len() {
         let (text, good) = rows[place];
@@ -63,7 +64,7 @@ fn expect_refusals(alloc: Global, rows: &[Row]) -> Result<(), Fail> {
     Ok(())
 }
 
-/// Each request and each reply but those of blocks, at the ends of their types.
+/// Each request and each reply except those of blocks, at the ends of their types.
 static WRITTEN: [&[u8]; 33] = [
     b"0 LOGIN 1,2 - = FAILED 5",
     b"62 LOGIN 255,0 44454d6f = DONE",
@@ -309,7 +310,7 @@ fn a_text_is_refused_behind_its_good_lines(rt: HostRuntime) -> Result<(), Fail> 
     expect_refusals(rt.alloc(), texts())
 }
 
-/// What stands before a block or blocks, how many bytes they have, what stands behind them, and
+/// What comes before a block or blocks, how many bytes they have, what comes after them, and
 /// whether that is a line of an entry.
 type PageRow = (&'static [u8], u32, &'static [u8], bool);
 
@@ -334,7 +335,8 @@ fn pages() -> &'static [PageRow] {
     &PAGES
 }
 
-/// Whether a text of a line with this front, these signs and this end is read as it was written.
+/// Returns whether a text of a line with this start, these digits and this end is read as it was
+/// written.
 fn is_page_read(alloc: Global, front: &[u8], signs: &[u8], end: &[u8]) -> bool {
     match [b"HISTORY 1\n".as_slice(), front, signs, end, b"\n"].concat(alloc) {
         Ok(text) => is_read_back(alloc, text.as_slice()),
@@ -342,7 +344,7 @@ fn is_page_read(alloc: Global, front: &[u8], signs: &[u8], end: &[u8]) -> bool {
     }
 }
 
-/// Whether a row is answered so, with as many of these signs as it has.
+/// Returns whether a row is answered so, with as many of these digits as it has.
 fn is_page_answered(alloc: Global, signs: &[u8], row: &PageRow) -> bool {
     let count = row.1 as usize * 2;
     if count > signs.len() {
@@ -351,7 +353,7 @@ fn is_page_answered(alloc: Global, signs: &[u8], row: &PageRow) -> bool {
     is_page_read(alloc, row.0, &signs[..count], row.2) == row.3
 }
 
-/// Fails with the first row that is answered otherwise, of blocks of these signs.
+/// Fails with the first row that is answered otherwise, of blocks of these digits.
 fn expect_pages(alloc: Global, signs: &[u8], rows: &[PageRow]) -> Result<(), Fail> {
     for place in 0..rows.len() {
         let is_so = is_page_answered(alloc, signs, &rows[place]);
@@ -360,7 +362,7 @@ fn expect_pages(alloc: Global, signs: &[u8], rows: &[PageRow]) -> Result<(), Fai
     Ok(())
 }
 
-/// The signs of so many bytes.
+/// Returns the digits of this many bytes.
 fn signs_of(alloc: Global, bytes: usize) -> Result<Vec<u8>, AllocError> {
     let pairs = vec![in alloc; *b"0f"; bytes]?;
     pairs.as_slice().concat(alloc)

@@ -1,4 +1,4 @@
-//! What the words behind the program's name ask for.
+//! What the words after the program's name ask for.
 
 use crate::expects::expect_row;
 use program_words::{Asked, Wanted, asked_by};
@@ -99,7 +99,7 @@ fn rows() -> &'static [Row] {
     &ROWS
 }
 
-/// The words, as the program has them.
+/// Appends the words, as the program has them.
 fn push_words(words: &mut Vec<String>, alloc: Global, row: &[&str]) -> Result<(), Fail> {
     for word in row {
         words.push(String::from_str(alloc, word)?)?;
@@ -107,7 +107,7 @@ fn push_words(words: &mut Vec<String>, alloc: Global, row: &[&str]) -> Result<()
     Ok(())
 }
 
-/// Whether the words ask for this.
+/// Returns whether the words ask for this.
 fn is_asked(alloc: Global, row: &Row) -> Result<bool, Fail> {
     let mut words = Vec::new(alloc);
     push_words(&mut words, alloc, row.0)?;

@@ -52,7 +52,7 @@ abbrev pub drill_terminals : ℕ → List Terminal
 drill_terminals zero = []
 drill_terminals (suc jobs) = drill_terminals jobs ++ drill_terminal (suc jobs) ∷ []
 
--- DISK 8, the account, the file, and so many terminals
+-- DISK 8, the account, the file, and this many terminals
 abbrev pub drill_deck : ℕ → Deck
 drill_deck jobs = record {
   blocks = 8;

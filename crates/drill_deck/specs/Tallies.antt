@@ -1,4 +1,4 @@
--- What a drill comes to: how many Puts were done, and the number that the last of them wrote.
+-- The tally of a drill: how many Puts were done, and the number that the last of them wrote.
 use Rattle.std.specs.Prelude.{ℕ, ◌+◌, ◌*◌, List, [], ◌∷◌, ◌++◌, Option, Some, None, length, slice_index, codes}
 use Rattle.std.specs.Fmt.{decimal}
 use Rattle.monitor_calls.specs.declared.calls.Entry.{Entry}
@@ -28,7 +28,7 @@ pages_put (entry ∷ history) = with_put (page_put entry) (pages_put history)
 abbrev pub counter : List ℕ → ℕ
 counter page = 256 * slice_index page 0 + slice_index page 1
 
--- that of the last page; where there is none, this one
+-- that of the last page; if there is none, this one
 abbrev pub last_counter : ℕ → List (List ℕ) → ℕ
 last_counter none [] = none
 last_counter none (page ∷ pages) = last_counter (counter page) pages

@@ -66,7 +66,7 @@ const OWNER: Account = Account {
     programmer: 5,
 };
 
-/// The account that all terminals use.
+/// Returns the account that all terminals use.
 fn entry() -> AccountEntry
     ensures { result ≡ drill_entry }
 {
@@ -78,7 +78,7 @@ fn entry() -> AccountEntry
     }
 }
 
-/// The file in whose block they count: one page of zeros.
+/// Returns the file in whose block they count: one page of zeros.
 fn count_file(alloc: Global) -> Result<FileEntry, NoMemory>
     ensures { IfOk result (λ file. file ≡ drill_file) }
 {
@@ -96,7 +96,7 @@ fn count_file(alloc: Global) -> Result<FileEntry, NoMemory>
     })
 }
 
-/// The terminals T1 and so on.
+/// Returns the terminals T1 and so on.
 fn terminals(alloc: Global, jobs: u32) -> Result<Vec<Terminal>, NoMemory>
     requires { jobs ≤ MOST_DRILL_JOBS }
     ensures { IfOk result (λ terminals. map terminal_of terminals.items ≡ drill_terminals jobs) }
@@ -117,7 +117,7 @@ fn terminal(alloc: Global, number: u32) -> Result<Terminal, NoMemory>
     Ok(Terminal { name, keys })
 }
 
-/// T and the number.
+/// Returns T and the number.
 #[tactic(auto, using(crate::proofs::NameLemmas::is_name))]
 fn name_of(number: u32) -> TerminalName
     requires { number ≤ MOST_DRILL_JOBS }

@@ -1,4 +1,4 @@
-//! What a drill comes to.
+//! The tally of a drill.
 
 ghost use Rattle.std.specs.Prelude.{◌≡◌, ◌<◌, ◌^◌, length, IfOk, option_map};
 ghost use Rattle.drill_deck.specs.Tallies.{page_put, counter, puts_in, sum_in, drill_line};
@@ -15,7 +15,7 @@ pub struct Tally {
     pub sum: u32,
 }
 
-/// What a history comes to.
+/// Returns the tally of a history.
 pub fn tally_of(history: &[Entry]) -> Tally
     ensures puts { result.puts ≡ puts_in history.now }
     ensures sum { result.sum ≡ sum_in history.now }
@@ -34,7 +34,7 @@ pub fn tally_of(history: &[Entry]) -> Tally
     }
 }
 
-/// The page of a Put that was done.
+/// Returns the page of a Put that was done.
 fn page_put(entry: &Entry) -> Option<&Page>
     ensures { option_map (λ page. page.now) result ≡ page_put entry.now }
 {
@@ -44,7 +44,7 @@ fn page_put(entry: &Entry) -> Option<&Page>
     }
 }
 
-/// The number in the first two bytes of a page, high byte first.
+/// Returns the number in the first two bytes of a page, high byte first.
 fn counter(page: &Page) -> u32
     ensures count { result ≡ counter page.now }
     ensures bound { result < 2 ^ 16 }
@@ -53,7 +53,7 @@ fn counter(page: &Page) -> u32
     u32::from(bytes[0]) * 256 + u32::from(bytes[1])
 }
 
-/// What is written of a drill.
+/// Returns the line that is written of a drill.
 pub fn drill_line(alloc: Global, jobs: u32, told: Tally) -> Result<Vec<u8>, NoMemory>
     ensures { IfOk result (λ bytes. bytes.items ≡ drill_line jobs told.puts told.sum) }
 {

@@ -1,4 +1,4 @@
--- The front of a text without its blanks, byte by byte, and how long a specification can be.
+-- The prefix of a text without its blanks, byte by byte, and how long a specification can be.
 use Rattle.std.proofs.Common.{◌≡◌, ℕ, ◌+◌, ◌<◌, ◌≤◌, Bool, true, false, cond, eqb, zero, suc, List, [], ◌∷◌, ◌++◌, length, take, drop, get_or, Option, Some, None, refl, sym, ap, subst, ◌∙◌, arith}
 use Rattle.std.specs.Prelude.{◌&&◌, not, nat_le, nat_lt, map, slice_get, unwrap_or, is_some, bytes_eq, codes}
 use Rattle.std.specs.List.{list_all, prefix_len}
@@ -42,7 +42,7 @@ front_grows most front byte lt =
 pub front_is_full : (most : ℕ) (front : List ℕ) (byte : ℕ) → most ≤ length (take most front) → take most (front ++ byte ∷ []) ≡ take most front
 front_is_full most front byte full = take-append-le most front (byte ∷ []) (omega (arith, length-take most front))
 
--- ---- the device at the front
+-- ---- the device at the start
 
 all_front : (p : ℕ → Bool) (xs : List ℕ) → list_all p xs ≡ true → prefix_len p xs ≡ length xs
 all_front p [] all = refl
@@ -80,7 +80,7 @@ no_device_found text all =
     let nothing : slice_get (solid text) (letters_in text) ≡ None = slice_get_past (solid text) (letters_in text) (omega arith) in
     ap (λ o. nat_lt 0 (letters_in text) && eqb (unwrap_or o 0) 58) nothing ∙ and_no (nat_lt 0 (letters_in text))
 
--- ---- what the front of a front begins with
+-- ---- what a prefix of the prefix begins with
 
 found_if : (b : Bool) (x : List ℕ) → is_some (cond b (Some x) None) ≡ b
 found_if true x = refl
@@ -138,7 +138,7 @@ written_short w good =
     let c = code_short w.code good.code in
     omega (arith, length-append (device_text w.device ++ place_text w.place ++ w.stem ++ extension_written w.extension) (code_written w.code), length-append (device_text w.device ++ place_text w.place ++ w.stem) (extension_written w.extension), length-append (device_text w.device ++ place_text w.place) w.stem, length-append (device_text w.device) (place_text w.place))
 
--- a front that is shorter than it can be is the whole text
+-- a prefix that is shorter than it can be is the whole text
 pub short_front : (most : ℕ) (text : List ℕ) → length (take most text) < most → take most text ≡ text
 short_front most text lt = take_all most text (omega (arith, length-take most text))
 

@@ -1,4 +1,4 @@
--- The laws of specifications, and what is read of the front of a text.
+-- The laws of specifications, and what is read of the prefix of a text.
 use Rattle.std.proofs.Common.{◌≡◌, ℕ, ◌<◌, ◌≤◌, Bool, true, false, List, [], ◌∷◌, ◌++◌, length, take, Option, Some, None, Ok, Err, refl, sym, ap, subst, ◌∙◌, arith}
 use Rattle.std.specs.Prelude.{◌&&◌, ◌||◌, nat_le, unwrap_or, codes}
 use Rattle.std.specs.List.{list_all}
@@ -148,7 +148,7 @@ printed_is_read own default name good none =
       means = λ i. record { name = record { owner = name.owner; stem = name.stem; extension = told_or name.extension default none i }; code = None };
     }
 
--- ---- what is read of the front is what the text spells
+-- ---- what is read of the prefix is what the text spells
 
 pub front_spells : (own : Account) (default text : List ℕ) (spec : Spec) → spec_in own default (take 32 (squeezed text)) ≡ Some spec → IsSpecOf own default text spec
 front_spells own default text spec e =
@@ -168,7 +168,7 @@ front_refuses own default text e spec s =
     let bad : Some spec ≡ None = sym (spelled_is_read own default text spec s) ∙ ap (spec_in own default) (sym whole) ∙ e in
     absurd cc
 
--- the answer for the front is the answer for the text
+-- the answer for the prefix is the answer for the text
 pub said_by_front : (own : Account) (default text : List ℕ) (spec : Spec) → spec_in own default (take 32 (squeezed text)) ≡ Some spec → Ok spec ≡ spec_said own default text
 said_by_front own default text spec e = sym ((specs_are_read own default text).read spec (front_spells own default text spec e))
 

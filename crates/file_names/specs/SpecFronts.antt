@@ -1,5 +1,5 @@
--- Reading a specification from its front: what the functions of `spec` compute. The result is the
--- specification that the text spells (`laws::specs_are_read`).
+-- Reading a specification from the start of a text: what the functions of `spec` compute. The
+-- result is the specification that the text spells (`laws::specs_are_read`).
 use Rattle.std.specs.Prelude.{ℕ, ◌==◌, if◌then◌else◌, List, length, Option, Some, None, unwrap_or, Result, Ok, Err, codes}
 use Rattle.basic_values.specs.declared.limits.TheConstants.{MOST_CODE}
 use Rattle.basic_values.specs.Decimals.{number_between}

@@ -2,19 +2,20 @@
 
 ghost use Rattle.file_names.specs.Laws.{SpecIsOne, PrintedIsRead, SpecsAreRead};
 
-/// A text is at most one specification.
+/// States that a text is at most one specification.
 #[tactic(auto, using(crate::proofs::SpecLaws::spec_is_one))]
 pub fn spec_is_one()
     ensures { SpecIsOne }
 {}
 
-/// The text printed for a name that a specification can have is read as that name.
+/// States that the text printed for a name that a specification can have is read as that name.
 #[tactic(auto, using(crate::proofs::SpecLaws::printed_is_read))]
 pub fn printed_is_read()
     ensures { PrintedIsRead }
 {}
 
-/// A text is read as the specification that it spells; one that spells none is rejected.
+/// States that a text is read as the specification that it spells; one that spells none is
+/// rejected.
 #[tactic(auto, using(crate::proofs::SpecLaws::specs_are_read))]
 pub fn specs_are_read()
     ensures { SpecsAreRead }

@@ -30,11 +30,11 @@ const LIBRARY: Account = Account {
 /// More bytes than a specification can have.
 const FRONT: usize = 32;
 
-/// Reads the text as the manual's file specification. Everything but the stem is optional: `SY:`,
-/// an owner in brackets or `$`, a stem of 1 to 6 letters and digits, a point and an extension of 0
-/// to 3, and a protection code from 0 to 63 in angle brackets. Blanks are dropped, and letters
-/// become capitals. Error 8: the text names another device. Error 2: any other text that is no
-/// specification.
+/// Reads the text as the manual's file specification. The stem of 1 to 6 letters and digits is
+/// required. Optional are `SY:`, an owner in brackets or `$`, a point and an extension of 0 to 3
+/// letters and digits, and a protection code from 0 to 63 in angle brackets. Blanks are dropped,
+/// and letters become capitals. Error 8: the text names another device. Error 2: any other text
+/// that is no specification.
 pub fn parse_spec(text: &[u8], own: Account, extension: &Short) -> Result<Spec, Fault>
     ensures said { result ≡ spec_said own extension.now text.now }
     ensures read { IfOk result (λ spec. IsSpecOf own extension.now text.now spec) }
@@ -96,7 +96,7 @@ fn has_device(text: &[u8]) -> bool
     false
 }
 
-/// Returns the specification that such a front is, if it is one.
+/// Returns the specification that such a prefix is, if it is one.
 #[tactic(auto, unfolding(crate::specs::SpecFronts::spec_in))]
 fn spec_in(own: Account, extension: &Short, text: &[u8]) -> Option<Spec>
     ensures { result ≡ spec_in own extension.now text.now }

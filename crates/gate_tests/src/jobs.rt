@@ -12,7 +12,7 @@ use std::test::Fail;
 use std::thread::Threads;
 use terminal_runner::{BatchKeyboard, JobBody, Pacer, RunEnd, run_jobs};
 
-/// Returns each body beside the keyboard of its terminal.
+/// Returns each body with the keyboard of its terminal.
 fn seated<B: Drop>(alloc: Global, bodies: Vec<B>) -> Result<Vec<(B, BatchKeyboard)>, NoMemory>
     ensures { IfOk result (λ jobs. AreUnused taken_of jobs.items) }
 {

@@ -33,7 +33,8 @@ const FEW_CALLS: u64 = 4_096;
 /// More bytes than any machine has.
 const TOO_MUCH: usize = 1 << 62;
 
-/// A job that logs in, opens the file, asks so often for its block, and then wants so many bytes.
+/// A job that logs in, opens the file, asks this often for its block, and then needs this many
+/// bytes.
 #[derive(Drop)]
 struct Clerk {
     password: Short,
@@ -96,7 +97,7 @@ fn clerks(alloc: Global) -> Result<Vec<Clerk>, Fail> {
 }
 
 /// It lets the others ask for the block when job 0 has it, and holds job 0 until each of them has
-/// asked once. Before each later call they nap.
+/// asked once. Before each later call they sleep.
 #[derive(Drop)]
 struct Polling<'a, R: Clock> {
     rt: &'a R,

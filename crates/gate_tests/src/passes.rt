@@ -12,10 +12,10 @@ use std::alloc::Global;
 use std::sync::Wait;
 use std::test::Fail;
 
-/// What entries are asked in turn: the job, and what it asks, as it stands in a history.
+/// What entries are asked in turn: the job, and what it asks, as a history has it.
 static WANTED: [(u32, &str); 3] = [(1, "TICK"), (0, "LOGIN 100,5 44454d4f"), (0, "LOGOUT")];
 
-/// Whether an entry is of this job and asks this.
+/// Returns whether an entry is of this job and asks this.
 fn asks(
     alloc: Global,
     entry: &Entry,
@@ -29,7 +29,7 @@ fn asks(
     }
 }
 
-/// The place of the first entry that another job asks, or that asks another thing.
+/// Returns the place of the first entry that another job asks, or that asks another thing.
 fn first_other(alloc: Global, record: &RunRecord) -> Result<Option<usize>, NoMemory> {
     let entries = record.as_slice();
     if entries.len() != WANTED.len() {
@@ -45,7 +45,7 @@ fn first_other(alloc: Global, record: &RunRecord) -> Result<Option<usize>, NoMem
     Ok(None)
 }
 
-/// Whether the monitor does what the job of a seat asks.
+/// Returns whether the monitor does what the job of a seat asks.
 fn is_done<R: Wait>(
     rt: &R,
     alloc: Global,
@@ -59,7 +59,8 @@ fn is_done<R: Wait>(
     Ok(matches!(gate.ask(rt, alloc, seat, request)?, Reply::Done))
 }
 
-/// Which calls are done: one of a job before its login, and the login and the logout of another.
+/// Returns which calls are done: one of a job before its login, and the login and the logout of
+/// another.
 fn done_in_turn<R: Wait>(
     rt: &R,
     alloc: Global,

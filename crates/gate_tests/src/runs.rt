@@ -134,7 +134,7 @@ impl<'a, R: Clock> Pacer for Together<'a, R> {
     }
 }
 
-/// How many entries of a run are a job's.
+/// Returns how many entries of a run are a job's.
 fn entries_of(end: &RunEnd<BatchKeyboard>, job: u32) -> u64 {
     let mut count = 0u64;
     for entry in end.run.as_slice() {
@@ -145,7 +145,7 @@ fn entries_of(end: &RunEnd<BatchKeyboard>, job: u32) -> u64 {
     count
 }
 
-/// How often the pacer was called before and after the calls of a job.
+/// Returns how often the pacer was called before and after the calls of a job.
 fn calls_of<R: Clock>(pacer: &Together<'_, R>, job: u32) -> (u64, u64) {
     match pacer.calls.get(job as usize) {
         Some(calls) => (
@@ -156,8 +156,8 @@ fn calls_of<R: Clock>(pacer: &Together<'_, R>, job: u32) -> (u64, u64) {
     }
 }
 
-/// Fails unless each of so many jobs made two calls, at each of which the pacer held it, and no job
-/// waited for the others in vain.
+/// Fails unless each of this many jobs made two calls, at each of which the pacer held it, and no
+/// job waited for the others in vain.
 fn expect_held<R: Clock>(
     pacer: &Together<'_, R>,
     end: &RunEnd<BatchKeyboard>,
@@ -177,7 +177,7 @@ fn expect_held<R: Clock>(
     Ok(())
 }
 
-/// Runs so many jobs, of which none makes its second call before each has made its first.
+/// Runs this many jobs, of which none makes its second call before each has made its first.
 fn run_together<R: Threads + Wait + Clock + Sync>(
     rt: &R,
     alloc: Global,

@@ -55,7 +55,7 @@ fn one_file(alloc: Global) -> Result<Vec<FileEntry>, Fail> {
     Ok(files)
 }
 
-/// Returns a monitor for so many jobs over this volume.
+/// Returns a monitor for this many jobs over this volume.
 fn opened_over(alloc: Global, jobs: u32, volume: &Volume) -> Result<Monitor, Fail>
     requires { jobs ≤ 63 }
     ensures { IfOk result (λ monitor. length monitor.jobs ≡ jobs) }
@@ -66,7 +66,7 @@ fn opened_over(alloc: Global, jobs: u32, volume: &Volume) -> Result<Monitor, Fai
     Ok(Monitor::open(alloc, volume, jobs)?)
 }
 
-/// Returns a monitor for so many jobs, over a volume with one account.
+/// Returns a monitor for this many jobs, over a volume with one account.
 pub(crate) fn opened(alloc: Global, jobs: u32) -> Result<Monitor, Fail>
     requires { jobs ≤ 63 }
     ensures { IfOk result (λ monitor. length monitor.jobs ≡ jobs) }
@@ -79,7 +79,7 @@ pub(crate) fn opened(alloc: Global, jobs: u32) -> Result<Monitor, Fail>
     opened_over(alloc, jobs, &volume)
 }
 
-/// Returns a monitor for so many jobs, over a volume with the file S.DAT and an account that may
+/// Returns a monitor for this many jobs, over a volume with the file S.DAT and an account that may
 /// call as often as any.
 pub(crate) fn opened_with_file(alloc: Global, jobs: u32) -> Result<Monitor, Fail>
     requires { jobs ≤ 63 }

@@ -1,4 +1,4 @@
--- Lines that end by a LF are found again, and a text has its first line in front.
+-- Lines that end with a LF are found again, and a text begins with its first line.
 use Rattle.std.proofs.Common.{◌≡◌, ℕ, zero, suc, ◌≤◌, Bool, true, false, cond, eqb, List, [], ◌∷◌, ◌++◌, length, take, Some, refl, sym, ap, subst, ◌∙◌, append_assoc, arith}
 use Rattle.std.specs.List.{AllByRecursion}
 use Rattle.std.proofs.lemmas.Bool.{eqb-true}
@@ -11,7 +11,7 @@ pub ended_line : (line rest : List ℕ) → Lacks 10 line → ended_lines (line 
 ended_line [] rest lacks = refl
 ended_line (b ∷ line) rest lacks = rw (lacks.0, ended_line line rest lacks.1) refl
 
--- two texts that are one have the same first line, and the same behind it
+-- two texts that are equal have the same first line, and the same after it
 pub one_line : (a b x y : List ℕ) → Lacks 10 a → Lacks 10 b → a ++ 10 ∷ x ≡ b ++ 10 ∷ y → (a ≡ b) × (x ≡ y)
 one_line a b x y la lb e =
     let cuts : Some (a, x) ≡ Some (b, y) = sym (cut_again 10 a x la) ∙ ap (cut 10) e ∙ cut_again 10 b y lb in
@@ -21,7 +21,7 @@ one_line a b x y la lb e =
     some_one : {A : Type 0} (p q : A) → Some p ≡ Some q → p ≡ q
     some_one p q e = cc
 
--- the first of its lines stands in front of a text
+-- a text begins with the first of its lines
 abbrev pub Fronted : List ℕ → List ℕ → List (List ℕ) → Type 0
 Fronted text line lines = (rest : List ℕ) × (text ≡ line ++ 10 ∷ rest) × Lacks 10 line × (ended_lines rest ≡ lines)
 
@@ -50,7 +50,7 @@ pub first_line : (text : List ℕ) → HasFirst text
 first_line [] line lines e = absurd cc
 first_line (b ∷ text) line lines e = behind_first b text (first_line text) (eqb b 10) refl line lines e
 
--- ---- so many lines in front of a text
+-- ---- a number of lines at the start of a text
 
 pub ended_front : (lines : List (List ℕ)) (rest : List ℕ) → AllByRecursion (Lacks 10) lines → ended_lines (with_feeds lines ++ rest) ≡ lines ++ ended_lines rest
 ended_front [] rest all = refl

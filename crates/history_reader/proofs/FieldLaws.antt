@@ -150,7 +150,7 @@ printed_plain name good = name_plain name good
 pub name_field : (name : FileName) (words : List (List ℕ)) → IsName name → field_by name_read (joined (printed_name name ∷ words)) ≡ Some (name, joined words)
 name_field name words good = field_again name_read name (printed_name name) words (name_plain name good) (name_again name good)
 
--- ---- truth, kinds, and numbers that a dash may stand for
+-- ---- truth, kinds, and numbers that a dash may replace
 
 pub truth_plain : (truth : Bool) → is_plain (truth_text truth) ≡ true
 truth_plain true = refl

@@ -24,9 +24,9 @@ use Rattle.history_reader.proofs.CountLaws.{number_lacks}
 use Rattle.history_reader.proofs.EndedLaws.{one_line, first_line, ended_front, front_is, next_is, fewer_first}
 use Rattle.history_reader.proofs.FormLaws.{line_of, line_lacks, line_feed, entry_again}
 
--- ---- entries in front of a text
+-- ---- entries at the start of a text
 
--- an entry's line is its words and a LF, whatever stands behind it
+-- an entry's line is its words and a LF, whatever comes after it
 pub line_then : (e : Entry) (more : List ℕ) → entry_line e ++ more ≡ line_of e ++ 10 ∷ more
 line_then e more = ap (λ (t : List ℕ). t ++ more) (line_feed e) ∙ append_assoc (line_of e) (10 ∷ []) more
 
@@ -46,7 +46,7 @@ pub proper_both : (xs ys : List Entry) → Proper xs → Proper ys → Proper (x
 proper_both [] ys l r = r
 proper_both (e ∷ xs) ys l r = (l.0, proper_both xs ys l.1 r)
 
--- what is left of the entries of a text behind as many as these
+-- what is left of the entries of a text after as many as these
 record Left (es hs : List Entry) (rest : List ℕ) : Type 0 where
   entries : List Entry
   proper : Proper entries
@@ -88,7 +88,7 @@ same_count a b e = cc
 pub history_shape : (h : List Entry) → history_text h ≡ heading_text (count_text (length h)) ++ 10 ∷ entry_lines h
 history_shape h = append_assoc (heading_text (count_text (length h))) (10 ∷ []) (entry_lines h)
 
--- a history's text behind the heading of a count
+-- a history's text after the heading of a count
 headed : (h : List Entry) (count rest : List ℕ) → Lacks 10 count → history_text h ≡ heading_text count ++ 10 ∷ rest → (count_text (length h) ≡ count) × (entry_lines h ≡ rest)
 headed h count rest lacks same =
     let parts = one_line (heading_text (count_text (length h))) (heading_text count) (entry_lines h) rest (heading_lacks (count_text (length h)) (number_lacks (length h))) (heading_lacks count lacks) (sym (history_shape h) ∙ same) in
@@ -99,7 +99,7 @@ history_is_one text a b ta tb =
     let same = headed a (count_text (length b)) (entry_lines b) (number_lacks (length b)) (sym ta.text_is ∙ tb.text_is ∙ history_shape b) in
     same_entries a b ta.proper tb.proper same.1
 
--- ---- where a text goes wrong
+-- ---- the place at which a text goes wrong
 
 later : (text : List ℕ) (m n : ℕ) → m < n → WrongAt text m → WrongAt text n → ⊥
 later text m n less wm wn =
@@ -120,7 +120,7 @@ wrong_place_is_one text m n wm wn = go (ltb m n) (ltb n m) refl refl
     go false true ea eb = absurd (later text n m (ltb-true n m eb) wn wm)
     go false false ea eb = let l = ltb-false m n ea in let r = ltb-false n m eb in omega arith
 
--- no heading is in front
+-- the text does not begin with a heading
 pub wrong_heading : (text : List ℕ) → NoHeading text → WrongAt text 0
 wrong_heading text bad = record {
   none = λ h told. bad (length h) (entry_lines h) (told.text_is ∙ history_shape h);
@@ -138,7 +138,7 @@ wrong_heading text bad = record {
         let parts = one_line (heading_text (count_text (length begins.history))) line (entry_lines begins.history) begins.more (heading_lacks (count_text (length begins.history)) (number_lacks (length begins.history))) f.2 (sym (history_shape begins.history) ∙ same) in
         bad (length begins.history) f.0 (f.1 ∙ ap (λ (t : List ℕ). t ++ 10 ∷ f.0) (sym parts.0))
 
--- ---- behind some entries
+-- ---- after some entries
 
 abbrev so_far_lines : List ℕ → List Entry → List (List ℕ)
 so_far_lines count entries = heading_text count ∷ map line_of entries
@@ -178,7 +178,7 @@ module _ (text count : List ℕ) (entries : List Entry) (rest : List ℕ) (so_fa
   ended : ended_lines text ≡ so_far_lines count entries ++ ended_lines rest
   ended = ap ended_lines whole_text ∙ ended_front (so_far_lines count entries) rest (heading_lacks count count_lacks, lines_lack entries so_far.proper)
 
-  -- a history that goes on behind the entries
+  -- a history that goes on after the entries
   left_behind : (h : List Entry) (more : List ℕ) → Proper h → history_text h ≡ with_feeds (so_far_lines count entries) ++ more → (count_text (length h) ≡ count) × Left entries h more
   left_behind h more proper same =
       let regroup : with_feeds (so_far_lines count entries) ++ more ≡ heading_text count ++ 10 ∷ (entry_lines entries ++ more) =
@@ -189,7 +189,7 @@ module _ (text count : List ℕ) (entries : List Entry) (rest : List ℕ) (so_fa
   abbrev Stuck : Type 0
   Stuck = (count_text (length entries) ≡ count) ⊎ NoEntry rest
 
-  -- no entry stands there, where a history goes on
+  -- no entry comes next, although a history goes on
   blocked : Stuck → (h : List Entry) (more : List ℕ) (e : Entry) (others : List Entry) → count_text (length h) ≡ count → length h ≡ length entries + suc (length others) → IsProperEntry e → rest ≡ entry_line e ++ more → ⊥
   blocked (inl full) h more e others shown counted proper same =
       let one : length h ≡ length entries = count_one (length h) (length entries) (shown ∙ sym full) in
@@ -288,7 +288,7 @@ module _ (text count : List ℕ) (entries : List Entry) (rest : List ℕ) (so_fa
         ∙ ap (λ (t : List ℕ). (entry_lines entries ++ t) ++ after) (sym (append-nil (entry_line e))) ∙ ap (λ (t : List ℕ). t ++ after) (sym (lines_both entries (e ∷ []))));
   }
 
--- ---- where reading stops
+-- ---- the place at which reading stops
 
 no_bytes : (text : List ℕ) → length text ≡ 0 → text ≡ []
 no_bytes [] e = refl
@@ -312,7 +312,7 @@ module _ (text count : List ℕ) (entries : List Entry) (rest : List ℕ) (so_fa
   pub wrong_behind : bytes_eq count (count_text n) ≡ true → 0 < length rest → WrongAt text (n + 1)
   wrong_behind full some = wrong_next (inl (told_so full)) (λ none shown. let l : length rest ≡ 0 = ap length none in omega arith)
 
-  -- no entry in front
+  -- no entry comes next
   pub fails_here : {X : Type 0} (view : X → Entry × List ℕ) (error : LineError) → bytes_eq count (count_text n) ≡ false → TakesEntry view rest (Err error) → ReadsHistory text (Err (trouble_at_line error (n + 1)))
   fails_here view Wrong other none = wrong_next (inr none) (λ ended shown. still_open other shown)
   fails_here view Memory other none = tt
@@ -325,7 +325,7 @@ module _ (text count : List ℕ) (entries : List Entry) (rest : List ℕ) (so_fa
   pub whole_text_here : bytes_eq count (count_text n) ≡ true → length rest ≡ 0 → TellsHistory text entries
   whole_text_here full ended = whole_here text count entries rest so_far (no_bytes rest ended) (told_so full)
 
--- what stands behind an entry is shorter
+-- what comes after an entry is shorter
 pub line_shortens : (e : Entry) (rest after : List ℕ) → rest ≡ entry_line e ++ after → length after < length rest
 line_shortens e rest after same =
     omega (arith, ap length (same ∙ line_then e after), length-append (line_of e) (10 ∷ after))

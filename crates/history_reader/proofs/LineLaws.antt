@@ -101,7 +101,7 @@ takes_entry view text line after (Ok x) found read proper = (proper, taken_is te
 takes_entry view text line after (Err Wrong) found read proper = λ e more good same. none_some (taken_read line text) (e, more) read (taken_again e text line after more found good same)
 takes_entry view text line after (Err Memory) found read proper = tt
 
--- the line behind the heading of what is written of one entry
+-- the line after the heading of what is written of one entry
 pub line_written : (e : Entry) (before out front line : List ℕ) → before ≡ [] → out ≡ before ++ history_text (e ∷ []) → cut 10 out ≡ Some (front, line) → line ≡ entry_line e
 line_written e before out front line none written found =
     let both : Some (front, line) ≡ Some (heading_text (count_text 1), entry_line e) = sym found ∙ one_written e out (written ∙ ap (λ (t : List ℕ). t ++ history_text (e ∷ [])) none) in

@@ -1,4 +1,4 @@
--- What a line that is not read is told as.
+-- The error of a line that is not read.
 use Rattle.std.specs.Prelude.{ℕ}
 use Rattle.basic_values.specs.declared.failures.Trouble.{Trouble}
 use Rattle.basic_values.specs.declared.failures.Trouble.TheVariants as trouble

@@ -1,6 +1,6 @@
--- The fields of a line, each with the space behind it. What stands here is right of a line that is an entry's; of
--- another it may find something too, since an entry counts only where its line is written of it again. No promise of
--- the program speaks of it.
+-- The fields of a line, each with the space after it. These definitions are right for the line of
+-- an entry. For another line they may find something too, since an entry counts only if its line is
+-- the one written of it. No promise of the program uses them.
 use Rattle.std.specs.Prelude.{◌≡◌, ℕ, ◌+◌, ◌-◌, ◌*◌, ◌/◌, Bool, true, false, ◌==◌, nat_le, if◌then◌else◌, List, [], ◌∷◌, length, Option, Some, None, Result, Ok, Err, bytes_eq, codes, ⊤}
 use Rattle.std.specs.Char.{is_ascii_digit}
 use Rattle.basic_values.specs.declared.limits.TheConstants.{BLOCK_BYTES}
@@ -28,11 +28,11 @@ abbrev pub parts_or : List ℕ → Option (List ℕ × List ℕ) → List ℕ ×
 parts_or text None = (text, [])
 parts_or text (Some parts) = parts
 
--- the first word of a text, and what stands behind the space behind it
+-- the first word of a text, and what comes after the space after it
 unfoldable pub word_read : List ℕ → List ℕ × List ℕ
 word_read text = parts_or text (cut 32 text)
 
--- what the first word says, and what stands behind the space behind it
+-- what the first word says, and what comes after the space after it
 unfoldable pub field_by : {A : Type 0} → (List ℕ → Option A) → List ℕ → Option (A × List ℕ)
 field_by read text = do
   value ← read (word_read text).0
@@ -59,7 +59,7 @@ account_read text = do
 unfoldable pub short_read : List ℕ → Option (List ℕ)
 short_read text = if is_short_text text then Some text else None
 
--- a stem, and the extension behind the first point
+-- a stem, and the extension after the first point
 abbrev pub stem_of : List ℕ → Option (List ℕ × List ℕ) → List ℕ × List ℕ
 stem_of text None = (text, [])
 stem_of text (Some parts) = parts
@@ -88,7 +88,7 @@ kind_read text =
     else if bytes_eq text (codes "EITHER") then Some Either
     else if bytes_eq text (codes "FRESH") then Some Fresh else None
 
--- a number that a dash may stand for
+-- a number that a dash may replace
 unfoldable pub code_read : List ℕ → Option (Option ℕ)
 code_read text = if bytes_eq text (codes "-") then Some None else do
   code ← byte_read text
@@ -101,7 +101,7 @@ blocks_read text = if bytes_eq text (codes "-") then Some None else do
 
 -- BYTES
 
--- the number that a hexadecimal sign stands for
+-- the number of a hexadecimal digit
 abbrev pub sign_value : ℕ → ℕ
 sign_value sign =
     if is_ascii_digit sign then sign - 48 else if nat_le 97 sign then (if nat_le sign 102 then sign - 87 else 0) else 0

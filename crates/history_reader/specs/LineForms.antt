@@ -1,4 +1,4 @@
--- The requests and replies of lines, found by their words. No promise of the program speaks of it.
+-- The requests and replies of lines, found by their words. No promise of the program uses them.
 use Rattle.std.specs.Prelude.{ℕ, if◌then◌else◌, List, Option, Some, None, bytes_eq, codes}
 use Rattle.basic_values.specs.Cuts.{◌>>=◌, behind}
 use Rattle.monitor_calls.specs.declared.calls.Entry.{Entry}
@@ -9,7 +9,7 @@ use Rattle.monitor_calls.specs.declared.calls.Reply.TheVariants.{Done, Opened, B
 use Rattle.deck_model.specs.Histories.{entry_line}
 use Rattle.history_reader.specs.LineFields.{word_read, field_by, byte_read, half_read, long_read, account_read, name_read, letters_read, truth_read, kind_read, code_read, blocks_read, password_read, message_read, one_page_read, page_run_read}
 
--- what was found with the text behind it, or what is found else
+-- what was found with the text after it, or else what the other finds
 abbrev pub with_rest : {A B : Type 0} → Option A → B → Option (A × B) → Option (A × B)
 with_rest None rest other = other
 with_rest (Some a) rest other = Some (a, rest)
@@ -28,7 +28,7 @@ bare_read word =
     else if bytes_eq word (codes "LPOPEN") then Some OpenPrinter
     else if bytes_eq word (codes "LPCLOSE") then Some ClosePrinter else None
 
--- those with fields, each with what stands behind it
+-- those with fields, each with what comes after it
 
 unfoldable pub login_read : List ℕ → Option (Request × List ℕ)
 login_read text = do
@@ -148,7 +148,7 @@ file_request_read word rest =
     else if bytes_eq word (codes "RENAME") then rename_read rest
     else if bytes_eq word (codes "DIRECTORY") then directory_read rest else block_request_read word rest
 
--- the request that a text begins with, and what stands behind it
+-- the request that a text begins with, and what comes after it
 unfoldable pub request_read : List ℕ → Option (Request × List ℕ)
 request_read text =
     with_rest (bare_read (word_read text).0) (word_read text).1
@@ -226,7 +226,7 @@ entry_read line = do
   reply ← reply_read (word_read request.1).1
   Some (record { job = job.0; request = request.0; reply = reply })
 
--- the entry of a line, and what stands behind it in a text that its line is in front of
+-- the entry of a line, and what comes after it in a text that begins with the line
 unfoldable pub taken_read : List ℕ → List ℕ → Option (Entry × List ℕ)
 taken_read line text = do
   entry ← entry_read line

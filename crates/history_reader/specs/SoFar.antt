@@ -1,4 +1,5 @@
--- A text of which some entries are read, and what readers find in front of one. No promise of the program speaks of it.
+-- A text of which some entries are read, and what readers find next. No promise of the program uses
+-- it.
 use Rattle.std.specs.Prelude.{◌≡◌, ℕ, ◌≤◌, List, [], ◌∷◌, ◌++◌, length, Option, Some, None, Result, Ok, Err, codes, ⊤}
 use Rattle.monitor_calls.specs.declared.calls.Entry.{Entry}
 use Rattle.monitor_calls.specs.Proper.{IsProperEntry, Proper}
@@ -18,21 +19,22 @@ pub record SoFar (text count : List ℕ) (entries : List Entry) (rest : List ℕ
   pub proper : Proper entries
   pub text_is : text ≡ heading_text count ++ 10 ∷ (entry_lines entries ++ rest)
 
--- no first line of a history is in front
+-- the text does not begin with the first line of a history
 abbrev pub NoHeading : List ℕ → Type 0
 NoHeading text = (n : ℕ) (rest : List ℕ) → text ≡ heading_text (count_text n) ++ 10 ∷ rest → ⊥
 
--- no line of an entry is in front
+-- the text does not begin with the line of an entry
 abbrev pub NoEntry : List ℕ → Type 0
 NoEntry text = (entry : Entry) (rest : List ℕ)
     → IsProperEntry entry → text ≡ entry_line entry ++ rest → ⊥
 
--- the count and the rest that were found, seen by view, are those behind which the entries stand
+-- the count and the rest that were found, seen by view, are those of the text; the entries come
+-- after the count
 abbrev pub FindsHeading : {X : Type 0} → (X → List ℕ × List ℕ) → List ℕ → Option X → Type 0
 FindsHeading view text None = NoHeading text
 FindsHeading view text (Some x) = SoFar text (view x).0 [] (view x).1
 
--- the entry and the rest that were found, seen by view, are those in front
+-- the entry and the rest that were found, seen by view, are those that the text begins with
 abbrev pub TakesEntry : {X : Type 0} → (X → Entry × List ℕ) → List ℕ → Result X LineError → Type 0
 TakesEntry view text (Ok x) =
     IsProperEntry (view x).0 × (text ≡ entry_line (view x).0 ++ (view x).1)

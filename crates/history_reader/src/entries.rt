@@ -18,8 +18,9 @@ use report_texts::push_history;
 use std::alloc::Global;
 use std::slice;
 
-/// The entry whose line is in front, and what stands behind it. Fields need only be read rightly
-/// where an entry's line is in front, for the line is written again and has to be the same.
+/// Returns the entry whose line the text begins with, and what comes after it. Fields need only be
+/// read rightly if the text begins with an entry's line, for the line is written again and has to
+/// be the same.
 pub(crate) fn entry(alloc: Global, text: &[u8]) -> Result<(Entry, &[u8]), LineError>
     ensures { TakesEntry (λ x. (x.0, x.1.now)) text.now result }
 {
@@ -29,7 +30,7 @@ pub(crate) fn entry(alloc: Global, text: &[u8]) -> Result<(Entry, &[u8]), LineEr
     }
 }
 
-/// The entry of a line, and what stands behind it in the text that it is in front of.
+/// Returns the entry of a line, and what comes after it in the text, which begins with the line.
 #[tactic(auto, unfolding(crate::specs::LineForms::taken_read))]
 fn taken<'a>(alloc: Global, line: &[u8], text: &'a [u8]) -> Result<(Entry, &'a [u8]), LineError>
     ensures read { ReadsAs (λ x. (x.0, x.1.now)) result (taken_read line.now text.now) }
@@ -40,7 +41,7 @@ fn taken<'a>(alloc: Global, line: &[u8], text: &'a [u8]) -> Result<(Entry, &'a [
     Ok((entry, rest))
 }
 
-/// What a line says, where it is an entry's.
+/// Returns what a line says, if it is an entry's.
 #[tactic(auto, unfolding(crate::specs::LineForms::entry_read))]
 fn parsed(alloc: Global, line: &[u8]) -> Result<Entry, LineError>
     ensures read { ReadsAs (λ x. x) result (entry_read line.now) }
@@ -53,7 +54,7 @@ fn parsed(alloc: Global, line: &[u8]) -> Result<Entry, LineError>
     Ok(Entry::new(job, request, reply))
 }
 
-/// What stands behind the line of an entry, where that is in front.
+/// Returns what comes after the line of an entry, if the text begins with that line.
 fn behind_line<'a>(alloc: Global, entry: &Entry, text: &'a [u8]) -> Result<&'a [u8], LineError>
     ensures { ReadsAs (λ x. x.now) result (behind (entry_line entry.now) text.now) }
 {
@@ -65,7 +66,7 @@ fn behind_line<'a>(alloc: Global, entry: &Entry, text: &'a [u8]) -> Result<&'a [
     }
 }
 
-/// The text without the line that is in front.
+/// Returns the text without the line that it begins with.
 fn stripped<'a>(line: &[u8], text: &'a [u8]) -> Result<&'a [u8], LineError>
     ensures { ReadsAs (λ x. x.now) result (behind line.now text.now) }
 {

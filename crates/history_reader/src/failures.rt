@@ -9,13 +9,13 @@ use std::alloc::{AllocError, AllocFailed};
 /// Why a line is not read.
 #[derive(Clone, Copy)]
 pub(crate) enum LineError {
-    /// It is no entry's.
+    /// It is not the line of an entry.
     Wrong,
     Memory,
 }
 
 impl LineError {
-    /// The failure of a line behind so many.
+    /// Returns the failure of the line after this many good lines.
     pub(crate) fn at(self, good: usize) -> Trouble<usize>
         ensures { result ≡ trouble_at_line self good }
     {

@@ -1,5 +1,5 @@
-//! The fields of a line. Most readers take the first word of a text, and answer what it says and
-//! what stands behind the space behind it.
+//! The fields of a line. Most readers take the first word of a text, and return what it says and
+//! what comes after the space after it.
 
 ghost use Rattle.std.specs.Prelude.{◌≡◌};
 ghost use Rattle.basic_values.specs.Cuts.{Finds, cut};
@@ -12,7 +12,7 @@ use crate::failures::LineError;
 use basic_values::{behind, cut, number_between};
 use monitor_calls::{Account, FileName, OpenKind, Short};
 
-/// The first word, and what stands behind the space behind it.
+/// Returns the first word, and what comes after the space after it.
 #[tactic(auto, unfolding(crate::specs::LineFields::word_read))]
 pub(crate) fn word(text: &[u8]) -> (&[u8], &[u8])
     ensures { (result.0.now, result.1.now) ≡ word_read text.now }
@@ -23,7 +23,7 @@ pub(crate) fn word(text: &[u8]) -> (&[u8], &[u8])
     }
 }
 
-/// A number of a byte.
+/// Reads a number of one byte.
 #[tactic(auto, unfolding(crate::specs::LineFields::field_by))]
 pub(crate) fn byte_field(text: &[u8]) -> Result<(u8, &[u8]), LineError>
     ensures { ReadsAs (λ x. (x.0, x.1.now)) result (field_by byte_read text.now) }
@@ -33,7 +33,7 @@ pub(crate) fn byte_field(text: &[u8]) -> Result<(u8, &[u8]), LineError>
     Ok((value, rest))
 }
 
-/// A number of two bytes.
+/// Reads a number of two bytes.
 #[tactic(auto, unfolding(crate::specs::LineFields::field_by))]
 pub(crate) fn half_field(text: &[u8]) -> Result<(u16, &[u8]), LineError>
     ensures { ReadsAs (λ x. (x.0, x.1.now)) result (field_by half_read text.now) }
@@ -43,7 +43,7 @@ pub(crate) fn half_field(text: &[u8]) -> Result<(u16, &[u8]), LineError>
     Ok((value, rest))
 }
 
-/// A number of four bytes.
+/// Reads a number of four bytes.
 #[tactic(auto, unfolding(crate::specs::LineFields::field_by))]
 pub(crate) fn long_field(text: &[u8]) -> Result<(u32, &[u8]), LineError>
     ensures { ReadsAs (λ x. (x.0, x.1.now)) result (field_by long_read text.now) }
@@ -53,7 +53,7 @@ pub(crate) fn long_field(text: &[u8]) -> Result<(u32, &[u8]), LineError>
     Ok((value, rest))
 }
 
-/// An account, as `p,n`.
+/// Reads an account, as `p,n`.
 #[tactic(auto, unfolding(crate::specs::LineFields::field_by))]
 pub(crate) fn account_field(text: &[u8]) -> Result<(Account, &[u8]), LineError>
     ensures { ReadsAs (λ x. (x.0, x.1.now)) result (field_by account_read text.now) }
@@ -63,7 +63,7 @@ pub(crate) fn account_field(text: &[u8]) -> Result<(Account, &[u8]), LineError>
     Ok((value, rest))
 }
 
-/// 1 for true, 0 for false.
+/// Reads 1 as true, and 0 as false.
 #[tactic(auto, unfolding(crate::specs::LineFields::field_by))]
 pub(crate) fn truth_field(text: &[u8]) -> Result<(bool, &[u8]), LineError>
     ensures { ReadsAs (λ x. (x.0, x.1.now)) result (field_by truth_read text.now) }
@@ -73,7 +73,7 @@ pub(crate) fn truth_field(text: &[u8]) -> Result<(bool, &[u8]), LineError>
     Ok((value, rest))
 }
 
-/// What is wanted of a file that is opened.
+/// Reads how a file is opened.
 #[tactic(auto, unfolding(crate::specs::LineFields::field_by))]
 pub(crate) fn kind_field(text: &[u8]) -> Result<(OpenKind, &[u8]), LineError>
     ensures { ReadsAs (λ x. (x.0, x.1.now)) result (field_by kind_read text.now) }
@@ -83,7 +83,7 @@ pub(crate) fn kind_field(text: &[u8]) -> Result<(OpenKind, &[u8]), LineError>
     Ok((value, rest))
 }
 
-/// A code, or a dash where there is none.
+/// Reads a code, or a dash if there is none.
 #[tactic(auto, unfolding(crate::specs::LineFields::field_by))]
 pub(crate) fn code_field(text: &[u8]) -> Result<(Option<u8>, &[u8]), LineError>
     ensures { ReadsAs (λ x. (x.0, x.1.now)) result (field_by code_read text.now) }
@@ -93,7 +93,7 @@ pub(crate) fn code_field(text: &[u8]) -> Result<(Option<u8>, &[u8]), LineError>
     Ok((value, rest))
 }
 
-/// How many blocks a file has, or a dash.
+/// Reads how many blocks a file has, or a dash.
 #[tactic(auto, unfolding(crate::specs::LineFields::field_by))]
 pub(crate) fn blocks_field(text: &[u8]) -> Result<(Option<u16>, &[u8]), LineError>
     ensures { ReadsAs (λ x. (x.0, x.1.now)) result (field_by blocks_read text.now) }
@@ -144,7 +144,7 @@ fn short(text: &[u8]) -> Option<Short>
     Short::of(text)
 }
 
-/// The name of a file.
+/// Reads the name of a file.
 #[tactic(auto, unfolding(crate::specs::LineFields::name_read))]
 pub(crate) fn name(text: &[u8]) -> Option<FileName>
     ensures { result ≡ name_read text.now }
@@ -158,7 +158,7 @@ pub(crate) fn name(text: &[u8]) -> Option<FileName>
     })
 }
 
-/// A stem, and the extension behind the first point.
+/// Returns a stem, and the extension after the first point.
 fn stem(text: &[u8]) -> (&[u8], &[u8])
     ensures { (result.0.now, result.1.now) ≡ stem_of text.now (cut 46 text.now) }
 {
@@ -168,7 +168,7 @@ fn stem(text: &[u8]) -> (&[u8], &[u8])
     }
 }
 
-/// A short name, or a dash.
+/// Reads a short name, or a dash.
 #[tactic(auto, unfolding(crate::specs::LineFields::letters_read, crate::specs::LineFields::short_read))]
 pub(crate) fn letters(text: &[u8]) -> Option<Short>
     ensures { Finds (λ x. x) result (letters_read text.now) }

@@ -1,4 +1,4 @@
-//! Fields that are bytes, two hexadecimal signs for each.
+//! Fields that are bytes, two hexadecimal digits for each.
 
 ghost use Rattle.std.specs.Prelude.{◌≡◌, ◌*◌, ◌<◌, ◌≤◌, length, Some, None, nat_le, if◌then◌else◌};
 ghost use Rattle.std.specs.Prelude.{IfOk};
@@ -16,7 +16,7 @@ use basic_values::{NoMemory, Series, Text, Trouble};
 use monitor_calls::{Page, Short};
 use std::alloc::Global;
 
-/// A text of at most 32,767 bytes.
+/// Reads a string of at most 32,767 bytes.
 #[tactic(auto, unfolding(crate::specs::LineFields::field_by))]
 pub(crate) fn text_field(alloc: Global, text: &[u8]) -> Result<(Text, &[u8]), LineError>
     ensures { ReadsAs (λ x. (x.0, x.1.now)) result (field_by message_read text.now) }
@@ -26,7 +26,7 @@ pub(crate) fn text_field(alloc: Global, text: &[u8]) -> Result<(Text, &[u8]), Li
     Ok((value, rest))
 }
 
-/// A block.
+/// Reads a block.
 #[tactic(auto, unfolding(crate::specs::LineFields::field_by))]
 pub(crate) fn page_field(alloc: Global, text: &[u8]) -> Result<(Page, &[u8]), LineError>
     ensures { ReadsAs (λ x. (x.0, x.1.now)) result (field_by one_page_read text.now) }
@@ -36,7 +36,7 @@ pub(crate) fn page_field(alloc: Global, text: &[u8]) -> Result<(Page, &[u8]), Li
     Ok((value, rest))
 }
 
-/// Blocks in one run.
+/// Reads consecutive blocks.
 #[tactic(auto, unfolding(crate::specs::LineFields::field_by))]
 pub(crate) fn pages_field(alloc: Global, text: &[u8]) -> Result<(Series<Page>, &[u8]), LineError>
     ensures { ReadsAs (λ x. (x.0, x.1.now)) result (field_by page_run_read text.now) }
@@ -46,7 +46,7 @@ pub(crate) fn pages_field(alloc: Global, text: &[u8]) -> Result<(Series<Page>, &
     Ok((value, rest))
 }
 
-/// A password.
+/// Reads a password.
 #[tactic(auto, unfolding(crate::specs::LineFields::password_read, crate::specs::LineFields::short_read))]
 pub(crate) fn password(alloc: Global, signs: &[u8]) -> Result<Short, LineError>
     ensures { ReadsAs (λ x. x) result (password_read signs.now) }
@@ -87,7 +87,7 @@ fn pages(alloc: Global, signs: &[u8]) -> Result<Series<Page>, LineError>
     Ok(pages_of(alloc, count, bytes.as_slice())?)
 }
 
-/// The whole pages of the bytes.
+/// Returns the whole pages of the bytes.
 fn pages_of(alloc: Global, count: usize, bytes: &[u8]) -> Result<Series<Page>, NoMemory>
     requires { BLOCK_BYTES * count ≤ length bytes.now }
     ensures { IfOk result (λ pages. pages ≡ pages_of count bytes.now) }
@@ -111,7 +111,8 @@ fn page_of(alloc: Global, bytes: &[u8]) -> Result<Page, NoMemory>
     Ok(page)
 }
 
-/// The byte of each two signs. A last sign alone has none, and so has the dash for no bytes.
+/// Returns the byte of each two digits. A last digit alone gives none, and neither does the dash
+/// that means no bytes.
 fn bytes_of(alloc: Global, signs: &[u8]) -> Result<Vec<u8>, NoMemory>
     ensures { IfOk result (λ bytes. bytes.items ≡ hex_bytes signs.now) }
 {
@@ -124,8 +125,8 @@ fn bytes_of(alloc: Global, signs: &[u8]) -> Result<Vec<u8>, NoMemory>
     Ok(bytes)
 }
 
-/// The number that a sign stands for. What is no sign counts as 0: its line is not the one that is
-/// written of the bytes.
+/// Returns the number of a hexadecimal digit. Any other byte counts as 0: the line written of these
+/// bytes is then another.
 fn sign_value(sign: u8) -> u8
     ensures value { result ≡ sign_value sign }
     ensures small { result < 16 }

@@ -13,8 +13,8 @@ use itoa::Buffer;
 use monitor_calls::Entry;
 use std::alloc::Global;
 
-/// The history whose text this is: `HISTORY` and the number of its entries, and a line for each. A
-/// text that is no history's is refused with the number of its whole lines that begin one.
+/// Returns the history whose text this is: `HISTORY` and the number of its entries, and a line for
+/// each. A text that is no history's is rejected with the number of its whole lines that begin one.
 pub fn read_history(alloc: Global, text: &[u8]) -> Result<Vec<Entry>, Trouble<usize>>
     ensures { ReadsHistory text.now result }
 {
@@ -24,7 +24,7 @@ pub fn read_history(alloc: Global, text: &[u8]) -> Result<Vec<Entry>, Trouble<us
     }
 }
 
-/// The count that the first line tells, and what stands behind that line.
+/// Returns the count in the first line, and what comes after that line.
 fn heading(text: &[u8]) -> Option<(&[u8], &[u8])>
     ensures { FindsHeading (λ x. (x.0.now, x.1.now)) text.now result }
 {
@@ -37,7 +37,7 @@ fn heading(text: &[u8]) -> Option<(&[u8], &[u8])>
     }
 }
 
-/// The history whose entries these are, which are as many as the count tells.
+/// Returns the history of these entries, which are as many as the count says.
 fn entries(alloc: Global, count: &[u8], text: &[u8]) -> Result<Vec<Entry>, Trouble<usize>>
     ensures { (whole : List ℕ) → SoFar whole count.now [] text.now → ReadsHistory whole result }
 {

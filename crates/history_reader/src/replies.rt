@@ -16,7 +16,7 @@ use basic_values::Fault;
 use monitor_calls::Reply;
 use std::alloc::Global;
 
-/// The reply that a text begins with.
+/// Reads the reply that a text begins with.
 #[tactic(auto, unfolding(crate::specs::LineForms::reply_read))]
 pub(crate) fn reply(alloc: Global, text: &[u8]) -> Result<Reply, LineError>
     ensures { ReadsAs (λ x. x) result (reply_read text.now) }
@@ -46,7 +46,7 @@ fn reply_by(alloc: Global, word: &[u8], rest: &[u8]) -> Result<Reply, LineError>
     }
 }
 
-/// A reply that tells of a file, of a message or of the job.
+/// Reads a reply with a file, a message or the job's status.
 #[tactic(auto, unfolding(crate::specs::LineForms::told_reply_read))]
 fn told_reply(alloc: Global, word: &[u8], rest: &[u8]) -> Result<Reply, LineError>
     ensures { ReadsAs (λ x. x) result (told_reply_read word.now rest.now) }

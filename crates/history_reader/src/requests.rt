@@ -18,7 +18,7 @@ use crate::hexes::{page_field, pages_field, password, text_field};
 use monitor_calls::Request;
 use std::alloc::Global;
 
-/// The request that a text begins with, and what stands behind it.
+/// Reads the request that a text begins with, and returns it and what comes after it.
 #[tactic(auto, unfolding(crate::specs::LineForms::request_read))]
 pub(crate) fn request(alloc: Global, text: &[u8]) -> Result<(Request, &[u8]), LineError>
     ensures { ReadsAs (λ x. (x.0, x.1.now)) result (request_read text.now) }
@@ -30,7 +30,7 @@ pub(crate) fn request(alloc: Global, text: &[u8]) -> Result<(Request, &[u8]), Li
     }
 }
 
-/// A request of one word.
+/// Returns the request that consists of this word, if there is one.
 #[tactic(auto, unfolding(crate::specs::LineForms::bare_read))]
 fn bare(word: &[u8]) -> Option<Request>
     ensures { result ≡ bare_read word.now }
@@ -58,7 +58,7 @@ fn bare(word: &[u8]) -> Option<Request>
     }
 }
 
-/// A request of files, or of what comes behind.
+/// Reads a request for files, or one of the next functions.
 #[tactic(auto, unfolding(crate::specs::LineForms::file_request_read))]
 fn file_request<'a>(
     alloc: Global,
@@ -82,7 +82,7 @@ fn file_request<'a>(
     }
 }
 
-/// A request of blocks, or of what comes behind.
+/// Reads a request for blocks, or one of the next function.
 #[tactic(auto, unfolding(crate::specs::LineForms::block_request_read))]
 fn block_request<'a>(
     alloc: Global,
@@ -106,7 +106,7 @@ fn block_request<'a>(
     }
 }
 
-/// A request of a login, of messages, of rest or of a listing.
+/// Reads a request for a login, for messages, for sleep or for a print job.
 #[tactic(auto, unfolding(crate::specs::LineForms::job_request_read))]
 fn job_request<'a>(
     alloc: Global,

@@ -1,4 +1,4 @@
--- Where the entries of two jobs stand, computed.
+-- The places of the entries of two jobs, computed.
 use Rattle.std.proofs.Common.{◌≡◌, List, [], ◌∷◌, refl}
 use Rattle.monitor_calls.specs.declared.calls.Entry.{Entry}
 use Rattle.monitor_calls.specs.declared.calls.Request.TheVariants.{Tick}

@@ -1,4 +1,5 @@
--- What stays true of a seat that replies what a job's entries say, and what it has heard at its end.
+-- What stays true of a seat that replies what a job's entries say, and what it has heard at its
+-- end.
 use Rattle.std.proofs.Common.{◌≡◌, ℕ, suc, ◌+◌, ◌<◌, ◌≤◌, Bool, List, [], ◌∷◌, ◌++◌, length, take, get_or, Some, None, Decides, refl, sym, ap, ◌∙◌, subst, inl, inr, arith}
 use Rattle.std.specs.Prelude.{slice_get, slice_index, option_map}
 use Rattle.std.proofs.lemmas.List.{length-map, length-append, length-take-le, take_more, take_all, take_at, append-nil}
@@ -37,7 +38,7 @@ next_none seat next later request placed past is =
     let gone : slice_get seat.history next ≡ None = slice_get_past seat.history next past in
     none-some request (sym (request_next seat next later placed ∙ ap (λ o. option_map asked (option_map pair_in o)) gone) ∙ is.same)
 
--- where a request is next, an entry of the job asks it
+-- if a request is next, an entry of the job asks it
 pub record NextEntry (seat : Listed) (next : ℕ) (request : Request) : Type 0 where
   pub entry : Entry
   pub is : slice_get seat.history next ≡ Some entry
@@ -116,7 +117,7 @@ item_at : {X : Type 0} (front : List X) (x : X) (rest : List X) → slice_get (f
 item_at [] x rest = refl
 item_at (first ∷ front) x rest = item_at front x rest
 
--- any other has not
+-- any other seat has not
 pub departs_here : (seat : Listed) (next : ℕ) (later : List ℕ) → IsAtNext seat next later → (seat.others ≡ [] → next ≡ length seat.history → ⊥) → PartsHere (part seat) (heard seat) seat.given
 departs_here seat next later placed not =
     let pairs = part seat in

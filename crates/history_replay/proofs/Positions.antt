@@ -1,4 +1,4 @@
--- Where the entries of a job stand in a history, and its part.
+-- The places of a job's entries in a history, and its part.
 use Rattle.std.proofs.Common.{◌≡◌, ℕ, zero, suc, ◌<◌, ◌≤◌, Bool, true, false, List, [], ◌∷◌, length, drop, Some, None, refl, sym, ap, ◌∙◌, arith, eqb-true}
 use Rattle.std.specs.Prelude.{◌==◌, if◌then◌else◌, map, filter, slice_get, option_map}
 use Rattle.std.proofs.lemmas.Option.{slice_get_within, none-some, same_Some}
@@ -21,7 +21,7 @@ drop_item [] place x is = absurd (none-some x is)
 drop_item (first ∷ xs) zero x is = ap (λ y. y ∷ xs) (same_Some first x is)
 drop_item (first ∷ xs) (suc place) x is = drop_item xs place x is
 
--- a job's so-many-th pair is that of the entry at its position
+-- a job's nth pair is that of the entry at its position
 pub part_at : (job place : ℕ) (history : List Entry) → slice_get (part_of job history) place ≡ option_map pair_in (slice_get history (entry_position job place history))
 part_at job place [] = refl
 part_at job zero (entry ∷ history) =
@@ -49,7 +49,7 @@ own_at job (suc place) (entry ∷ history) found =
       | false ↦ λ is. own_at job (suc place) history found is
     ]
 
--- where there is none, it is the place behind the last entry
+-- if there is none, it is the place after the last entry
 pub position-le : (job place : ℕ) (history : List Entry) → entry_position job place history ≤ length history
 position-le job place [] = omega arith
 position-le job zero (entry ∷ history) =
@@ -63,7 +63,7 @@ position-le job (suc place) (entry ∷ history) =
       | false ↦ let rest = position-le job (suc place) history in omega arith
     ]
 
--- the next entry of a job stands behind the one before
+-- the next entry of a job is after the one before
 pub position_next : (job place : ℕ) (history : List Entry) → entry_position job place history < length history → entry_position job (suc place) history ≡ position_behind job (entry_position job place history) history
 position_next job place [] = λ within. absurd (omega arith)
 position_next job zero (entry ∷ history) =

@@ -1,4 +1,4 @@
--- Jobs that did their parts, one behind another, and the first that departs.
+-- Jobs that did their parts, one after another, and the first that departs.
 use Rattle.std.proofs.Common.{◌≡◌, ℕ, zero, suc, ◌+◌, ◌<◌, List, [], ◌∷◌, ◌++◌, length, Ok, Err, Some, refl, sym, ap, ◌∙◌, subst, arith}
 use Rattle.std.specs.Prelude.{slice_get, Option, Result, IfSome}
 use Rattle.std.proofs.lemmas.List.{length_push}
@@ -36,7 +36,7 @@ module _ (does : ℕ → List Pair → List ℕ → Type 0) (history : List Entr
     all_did = did_push 0 job screens screen (let many = ran.one_each in omega arith) ran.all_did this;
   }
 
-  -- where a job departs from its part and those before it did theirs, it is the least
+  -- if a job departs from its part and those before it did theirs, it is the least
   pub ran_err : (jobs job : ℕ) (screens : List (List ℕ)) (error : Trouble Dispute) → job < jobs → FirstRan does job history screens → JobRan does job history (Err error) → JobsRan does jobs history (Err error)
   ran_err jobs job screens (trouble.Refused (dispute.Reply entry)) below ran here = here
   ran_err jobs job screens (trouble.Refused (dispute.Meaning which place position)) below ran here = record {
@@ -52,7 +52,7 @@ module _ {B : Type 0} (does : B → List Pair → List ℕ → Type 0) (history 
   body_here [] behind body = refl
   body_here (first ∷ before) behind body = body_here before behind body
 
-  -- what a job did or where it departed, by its own body, is so by the body at its place
+  -- what a job did or where it departed, by its own body, is also so by the body at its place
   ran_at : (bodies : List B) (body : B) (job : ℕ) (result : Result (List ℕ) (Trouble Dispute)) → slice_get bodies job ≡ Some body → JobRan (λ own. does body) job history result → JobRan (each_does does bodies) job history result
   ran_at bodies body job (Ok screen) at ran = subst (λ (o : Option B). IfSome o (λ b. does b (part_of job history) screen)) (sym at) ran
   ran_at bodies body job (Err (trouble.Refused (dispute.Reply entry))) at ran = ran
@@ -73,7 +73,7 @@ module _ {B : Type 0} (does : B → List Pair → List ℕ → Type 0) (history 
       }
   ran_at bodies body job (Err trouble.NoMemory) at ran = tt
 
-  -- so it is of the next body of a loop over all of them, where those before it did their parts
+  -- so it is for the next body of a loop over all of them, if those before it did their parts
   pub next_ran : (all yielded rest left : List B) (body : B) (screens : List (List ℕ)) (job : ℕ) (result : Result (List ℕ) (Trouble Dispute)) → yielded ++ rest ≡ all → rest ≡ body ∷ left → FirstRan (each_does does all) (length yielded) history screens → job ≡ length screens → JobRan (λ own. does body) job history result → JobRan (each_does does all) (length yielded) history result
   next_ran all yielded rest left body screens job result whole step ran count this =
       let here : slice_get all (length yielded) ≡ Some body = subst (λ (l : List B). slice_get l (length yielded) ≡ Some body) (ap (λ (l : List B). yielded ++ l) (sym step) ∙ whole) (body_here yielded left body) in

@@ -1,4 +1,4 @@
--- When a list of entries is a history of jobs that do this, and where it first fails.
+-- When a list of entries is a history of jobs that do this, and the place where it first fails.
 use Rattle.std.specs.Prelude.{◌≡◌, ℕ, zero, suc, ◌==◌, ◌<◌, ◌≤◌, if◌then◌else◌, List, [], ◌∷◌, ◌++◌, length, take, slice_get, IfSome, Result, Ok, Err}
 use Rattle.std.specs.Global.{Vec}
 use Rattle.basic_values.specs.declared.failures.Trouble.{Trouble}
@@ -37,8 +37,8 @@ IsAfter m history (Err trouble.NoMemory) = Unit {0}
 
 -- THE FIRST JOB THAT DEPARTS
 
--- Where in the history the entry stands that is a job's so-many-th, counted from 0. Where there is
--- none, it is the place behind the last entry
+-- the place in the history of a job's nth entry, counted from 0; if there is none, the place after
+-- the last entry
 abbrev pub entry_position : ℕ → ℕ → List Entry → ℕ
 entry_position job place [] = 0
 entry_position job zero (entry ∷ history) =
@@ -47,8 +47,9 @@ entry_position job (suc place) (entry ∷ history) =
     suc (if entry.job == job then entry_position job place history else entry_position job (suc place) history)
 
 module _ (does : ℕ → List Pair → List ℕ → Type 0) where
-  -- The body does other things than this part of a job. With the replies of the part so far it makes
-  -- another request at this place, or none where the part goes on, or one where the part has ended
+  -- The body does other things than this part of a job. With the replies of the part so far, it
+  -- departs at this place: it makes another request, or none although the part goes on, or one
+  -- although the part has ended
   pub record Departs (job : ℕ) (part : List Pair) (place : ℕ) : Type 0 where
     pub pairs : List Pair
     pub screen : List ℕ
@@ -58,15 +59,15 @@ module _ (does : ℕ → List Pair → List ℕ → Type 0) where
     pub within_part : place ≤ length part
     pub differs : slice_get (requests pairs) place ≡ slice_get (requests part) place → ⊥
 
-  -- of the least job that departs from its part: which it is, where in its part, and where in the
-  -- history
+  -- the least job that departs from its part: which it is, the place in its part, and the place in
+  -- the history
   pub record WrongMeaning (history : List Entry) (jobs job place position : ℕ) : Type 0 where
     pub is_job : job < jobs
     pub earlier : (j : ℕ) → j < job → (screen : List ℕ) × does j (part_of j history) screen
     pub departs : Departs job (part_of job history) place
     pub position_is : position ≡ entry_position job place history
 
-  -- WHAT A REPLAY ANSWERS
+  -- THE RESULT OF A REPLAY
 
   -- the history is legal, and each job did its part
   pub record IsReplay (m : State) (history : List Entry) (jobs : ℕ) (screens : List (List ℕ)) : Type 0 where
@@ -74,8 +75,8 @@ module _ (does : ℕ → List Pair → List ℕ → Type 0) where
     pub one_each : length screens ≡ jobs
     pub all_did : AllDid does history 0 screens
 
-  -- the screens of a replay, or the first wrong reply, or where there is none the first job that
-  -- departs; or memory ran out
+  -- The screens of a replay, or the first wrong reply. If there is none, the first job that
+  -- departs. Or memory ran out
   abbrev pub Replays : State → ℕ → List Entry → Result (Vec (List ℕ)) (Trouble Dispute) → Type 0
   Replays m jobs history (Ok screens) = IsReplay m history jobs screens.items
   Replays m jobs history (Err (trouble.Refused (dispute.Reply entry))) = WrongReply m history entry

@@ -1,5 +1,5 @@
--- A job's entries as a seat that replies what they say, and the index that leads from one to the next. No public promise
--- needs it.
+-- A job's entries as a seat that replies what they say, and the index that leads from one to the
+-- next. No public promise needs it.
 use Rattle.std.specs.Prelude.{◌≡◌, ℕ, suc, ◌+◌, ◌^◌, ◌<◌, ◌≤◌, List, [], ◌∷◌, ◌++◌, length, take, drop, slice_get, slice_index, Option, Some, None, Result, Ok, Err}
 use Rattle.std.specs.Global.{Vec}
 use Rattle.basic_values.specs.declared.failures.Trouble.{Trouble}
@@ -15,20 +15,20 @@ use Rattle.history_replay.specs.Disputes.{entry_position, Departs, WrongMeaning}
 
 -- THE INDEX
 
--- each entry's job is one of so many
+-- each entry's job is below this number
 abbrev pub AreOfJobs : ℕ → List Entry → Type 0
 AreOfJobs jobs history = (k : ℕ) (entry : Entry) → slice_get history k ≡ Some entry → entry.job < jobs
 
--- where the next entry of a job stands behind this place
+-- the place of the next entry of a job after this place
 abbrev pub position_behind : ℕ → ℕ → List Entry → ℕ
 position_behind job place history = suc place + entry_position job 0 (drop (suc place) history)
 
--- for each entry from this place on, where the next of its job stands
+-- for each entry from this place on, the place of the next of its job
 pub record AreLater (from : ℕ) (history : List Entry) (later : List ℕ) : Type 0 where
   pub count : length later ≡ length history
   pub behind : (k : ℕ) (entry : Entry) → from ≤ k → slice_get history k ≡ Some entry → slice_index later k ≡ position_behind entry.job k history
 
--- for each job, where its first entry stands from this place on
+-- for each job, the place of its first entry from this place on
 pub record AreFirst (from jobs : ℕ) (history : List Entry) (first : List ℕ) : Type 0 where
   pub count : length first ≡ jobs
   pub standing : (job : ℕ) → job < jobs → slice_index first job ≡ from + entry_position job 0 (drop from history)
@@ -39,7 +39,8 @@ pub record IsIndex (from jobs : ℕ) (history : List Entry) (first later : List 
 
 -- THE PORT
 
--- the history, the job whose entries the seat gives, how many it gave, and what it was asked and replied since
+-- the history, the job whose entries the seat gives, how many it gave, and what it was asked and
+-- replied since
 pub record Listed : Type 0 where
   pub history : List Entry
   pub job : ℕ
@@ -65,7 +66,7 @@ abbrev pub IsOther : List Pair → ℕ → List Pair → Type 0
 IsOther part place [] = Unit {0}
 IsOther part place (pair ∷ others) = slice_get (requests part) place ≡ Some pair.0 → ⊥
 
--- what is true at every moment of a seat whose next entry stands here
+-- what is true at every moment of a seat whose next entry is at this place
 pub record IsAtNext (seat : Listed) (next : ℕ) (later : List ℕ) : Type 0 where
   pub next_is : next ≡ entry_position seat.job seat.given seat.history
   pub within : seat.given ≤ length (part seat)
@@ -78,7 +79,8 @@ pub record IsNext (seat : Listed) (request : Request) : Type 0 where
   pub none : seat.others ≡ []
   pub same : slice_get (requests (part seat)) seat.given ≡ Some request
 
--- both have the same pairs up to this place, and there one makes another request than the other, or none
+-- both have the same pairs up to this place, and there one makes another request than the other, or
+-- none
 pub record PartsHere (part pairs : List Pair) (place : ℕ) : Type 0 where
   pub common : take place pairs ≡ take place part
   pub within_pairs : place ≤ length pairs

@@ -1,4 +1,4 @@
-//! The replies of a history, which a monitor is asked for again.
+//! The replies of a history, compared with those of a monitor that is asked again.
 
 ghost use Rattle.std.specs.Prelude.{◌≡◌, ◌↔◌, IsTrue, IfOk};
 ghost use Rattle.monitor_model.specs.Answer.{next};
@@ -15,8 +15,8 @@ use std::alloc::Global;
 /// Returns the monitor as it is after the entries, if they are a history of this newly opened
 /// monitor. It asks the monitor the request of each entry, one after another, and runs no job.
 ///
-/// The first entry whose job does not exist, or whose reply is not the monitor's, is the refusal
-/// `Reply`. There is no other refusal.
+/// If an entry's job does not exist, or its reply is not the monitor's, it fails with `Reply` at
+/// the first such entry. It fails for no other cause, except that memory may run out.
 pub fn after_history(
     alloc: Global,
     mut monitor: Monitor,
@@ -32,7 +32,7 @@ pub fn after_history(
     Ok(monitor)
 }
 
-/// Whether the entry's job is one of the monitor's, and its reply the monitor's.
+/// Returns whether the entry's job is one of the monitor's, and its reply the monitor's.
 fn is_answered(alloc: Global, monitor: &mut Monitor, entry: &Entry) -> Result<bool, NoMemory>
     ensures answer { IfOk result (λ is. IsTrue is ↔ IsAnswered monitor.old entry.now) }
     ensures state { IfOk result (λ is. IsTrue is

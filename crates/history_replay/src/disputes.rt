@@ -1,14 +1,16 @@
-//! Where a list of entries fails to be a history.
+//! Why a list of entries is not a history.
 
-/// Where a list of entries first fails to be a history of the jobs. Places are counted from 0.
+/// The place where a list of entries first fails to be a history of the jobs. Places are counted
+/// from 0.
 #[derive(Clone, Copy, Debug, PartialEq, Eq)]
 pub enum Dispute {
-    /// The entry that stands here has a job that is none, or a reply that is not the monitor's.
+    /// The entry at this place has a job that does not exist, or a reply that is not the monitor's.
     Reply {
         entry: usize,
     },
-    /// The job is the least that does other things than its entries say: at this place among its
-    /// own, whose entry stands here, or behind the last entry where it has none.
+    /// The job is the least that does other things than its entries say. It departs at this place
+    /// among its own entries. The other number is the place of that entry in the history, or the
+    /// place after the last entry if there is none.
     Meaning {
         job: u32,
         place: usize,

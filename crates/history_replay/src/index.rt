@@ -1,4 +1,4 @@
-//! Where each job's entries stand in a history.
+//! The places of each job's entries in a history.
 
 ghost use Rattle.std.specs.Prelude.{IfOk};
 ghost use Rattle.history_replay.specs.Lists.{AreOfJobs, IsIndex};
@@ -7,15 +7,15 @@ use basic_values::NoMemory;
 use monitor_calls::Entry;
 use std::alloc::Global;
 
-/// Where the first entry of each job stands, and for each entry where the next of its job stands.
-/// The number of entries stands for none.
+/// The place of the first entry of each job, and for each entry the place of the next one of its
+/// job. The number of entries means that there is none.
 #[derive(Drop)]
 pub(crate) struct JobIndex {
     pub(crate) first: Vec<usize>,
     pub(crate) later: Vec<usize>,
 }
 
-/// The index of a history of so many jobs.
+/// Returns the index of a history of this many jobs.
 pub(crate) fn index_of(alloc: Global, history: &[Entry], jobs: u32) -> Result<JobIndex, NoMemory>
     requires { AreOfJobs jobs history.now }
     ensures { IfOk result (λ index.

@@ -1,4 +1,4 @@
-//! The jobs of a history, which do again what they did.
+//! The jobs of a history, which run again.
 
 ghost use Rattle.std.specs.Prelude.{◌≡◌, ◌^◌, ◌<◌, ◌++◌, ◌∷◌, [], length, vec_len, OnOk};
 ghost use Rattle.monitor_calls.specs.Typing.{Open};
@@ -14,7 +14,7 @@ use monitor_calls::{Entry, Screen2};
 use std::alloc::Global;
 use terminal_runner::{JobBody, Keyboard, TerminalPort};
 
-/// Runs each job over its entries. The first that departs from them is the refusal.
+/// Runs each job over its entries. It fails with the first that departs from them.
 pub(crate) fn run_all<B: JobBody + Drop, K: Keyboard + Drop>(
     alloc: Global,
     jobs: Vec<(B, K)>,
@@ -45,7 +45,7 @@ pub(crate) fn run_all<B: JobBody + Drop, K: Keyboard + Drop>(
     Ok(screens)
 }
 
-/// Runs the job of this number over its entries, of which the first stands here.
+/// Runs the job of this number over its entries, of which the first is at this place.
 fn run_one<B: JobBody, K: Keyboard + Drop>(
     alloc: Global,
     job: (B, K),

@@ -1,11 +1,11 @@
-//! The heart of a replay: whether a list of entries is a history of jobs that do this, on one
-//! thread, or where it first fails.
+//! The core of a replay. On one thread, it finds whether a list of entries is a history of jobs
+//! that do this, or where it first fails.
 //!
-//! `replay` carries the promise. It asks a newly opened monitor each entry's request and compares
-//! the reply (`answers`), and then runs each job's body (`jobs`) over a keyboard and a seat that
-//! replies what the job's entries say (`list_seat`), which an index finds (`index`). What a job
-//! does is known by its body alone. `after_history` does the first of both, and returns the monitor
-//! as it is after the entries.
+//! `replay` has the theorem. It asks a newly opened monitor each entry's request and compares the
+//! reply (`answers`). Then it runs each job's body (`jobs`) over a keyboard and a seat
+//! (`list_seat`). The seat replies what the job's entries say, which an index finds (`index`). What
+//! a job does is known by its body alone. `after_history` does the first of both, and returns the
+//! monitor as it is after the entries.
 #![tactic(auto)]
 
 mod answers;

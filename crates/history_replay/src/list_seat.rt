@@ -19,7 +19,7 @@ pub(crate) struct ListSeat<'a> {
     history: &'a [Entry],
     later: &'a [usize],
     job: u32,
-    /// Where the job's next entry stands.
+    /// The place of the job's next entry.
     next: usize,
     /// How many of its entries were given.
     given: usize,
@@ -47,8 +47,8 @@ impl<'a> Model for ListSeat<'a> {
 }
 
 impl<'a> ListSeat<'a> {
-    /// A seat that has given none of the job's entries, of which the first stands here. It takes no
-    /// memory.
+    /// Returns a seat that has given none of the job's entries, of which the first is at this
+    /// place. It takes no memory.
     pub(crate) fn new(
         alloc: Global,
         history: &'a [Entry],
@@ -71,7 +71,7 @@ impl<'a> ListSeat<'a> {
         }
     }
 
-    /// Whether the job's next entry asks this, and it has asked nothing else before.
+    /// Returns whether the job's next entry asks this, and it has asked nothing else before.
     fn is_next(&self, request: &Request) -> bool
         ensures { IsTrue result ↔ IsNext self.now request.now }
     {
@@ -84,7 +84,7 @@ impl<'a> ListSeat<'a> {
         }
     }
 
-    /// Where the job departed from its entries, if it did.
+    /// Returns where the job departed from its entries, if it did.
     pub(crate) fn departure(&self) -> Option<Dispute>
         ensures { EndsSeat self.now result }
     {

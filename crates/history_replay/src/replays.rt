@@ -14,12 +14,13 @@ use monitor_core::Monitor;
 use std::alloc::Global;
 use terminal_runner::{JobBody, Keyboard};
 
-/// Returns what each job's terminal was given, in the order of the jobs, if the entries are a
-/// history of a run over this newly opened monitor, of whose jobs each does what its body does when
-/// this is typed.
+/// Returns what each job's terminal was given, in the order of the jobs. The entries have to be a
+/// history of a run over this newly opened monitor, in which each job does what its body does if
+/// these keys are typed.
 ///
-/// The first entry whose reply is not the monitor's is the refusal `Reply`. If there is none, the
-/// least job that does other things than its entries say is the refusal `Meaning`.
+/// If an entry's reply is not the monitor's, it fails with `Reply` at the first such entry.
+/// Otherwise, if a job does other things than its entries say, it fails with `Meaning` for the
+/// least such job.
 pub fn replay<B: JobBody + Drop, K: Keyboard + Drop>(
     alloc: Global,
     monitor: Monitor,

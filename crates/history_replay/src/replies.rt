@@ -6,7 +6,7 @@ use crate::values::{same_account, same_blocks, same_file, same_page, same_pages}
 use basic_values::{Fault, Text, identical};
 use monitor_calls::{Account, FileName, Page, Reply};
 
-/// Whether both say the same.
+/// Returns whether both say the same.
 pub(crate) fn same_reply(a: &Reply, b: &Reply) -> bool
     ensures { IsTrue result ↔ (a.now ≡ b.now) }
 {

@@ -8,7 +8,7 @@ use crate::values::{
 use basic_values::{Text, identical};
 use monitor_calls::{Account, FileName, OpenKind, Page, Request, Short};
 
-/// Whether both ask the same.
+/// Returns whether both ask the same.
 pub(crate) fn same_request(a: &Request, b: &Request) -> bool
     ensures { IsTrue result ↔ (a.now ≡ b.now) }
 {

@@ -1,5 +1,6 @@
-//! What the monitor keeps of each job: its account, its calls since login, and its channels. It
-//! stands on `monitor_model`, whose `Jobs` says what each call of `JobTable` tells and leaves.
+//! What the monitor keeps of each job: its account, its calls since login, and its channels. The
+//! crate depends on `monitor_model`, whose `Jobs` says what each call of `JobTable` returns and
+//! leaves.
 #![tactic(auto)]
 
 mod tables;

@@ -38,7 +38,7 @@ impl Model for JobTable {
 }
 
 impl JobTable {
-    /// So many jobs, none with an account.
+    /// Returns a table of this many jobs, none with an account.
     pub fn new(alloc: Global, jobs: u32) -> Result<JobTable, NoMemory>
         ensures { IfOk result (λ table. table ≡ replicate jobs nobody) }
     {
@@ -47,7 +47,8 @@ impl JobTable {
         Ok(JobTable { jobs: table })
     }
 
-    /// The account that a job acts for. A job without one has no calls and no open channel.
+    /// Returns the account of a job that is logged in. A job without one has no calls and no open
+    /// channel.
     #[tactic(auto, unfolding(monitor_model::specs::Jobs::account_of))]
     pub fn account(&self, job: u32) -> Option<Account>
         requires { job < length self.now }
@@ -57,7 +58,7 @@ impl JobTable {
         self.jobs[job as usize].account
     }
 
-    /// How many calls a job has made since its login.
+    /// Returns how many calls a job has made since its login.
     #[tactic(auto, unfolding(monitor_model::specs::Jobs::calls_of))]
     pub fn calls(&self, job: u32) -> u16
         requires { job < length self.now }
@@ -66,7 +67,7 @@ impl JobTable {
         self.jobs[job as usize].calls
     }
 
-    /// What a job may do through a channel. None where it is not open.
+    /// Returns what a job may do through a channel. None if it is not open.
     #[tactic(auto, using(crate::proofs::SeatLemmas::seat_places), unfolding(monitor_model::specs::Jobs::channel_of))]
     pub fn channel(&self, job: u32, channel: u8) -> Option<ChannelEntry>
         requires job { job < length self.now }
@@ -77,14 +78,14 @@ impl JobTable {
         entry.channels[channel as usize]
     }
 
-    /// Whether a channel of any job is open on the file.
+    /// Returns whether a channel of any job is open on the file.
     pub fn is_open(&self, name: &FileName) -> bool
         ensures { result ≡ is_open_file self.now name.now }
     {
         self.jobs.iter().any(|job| has_channel(name, job))
     }
 
-    /// A job acts for an account, and has made no calls.
+    /// Logs a job in to an account, with no calls made.
     #[tactic(auto, unfolding(monitor_model::specs::Jobs::log_in))]
     pub fn log_in(&mut self, job: u32, account: Account)
         requires { job < length self.old }
@@ -128,14 +129,14 @@ impl JobTable {
     }
 }
 
-/// Whether a channel of the job is open on the file.
+/// Returns whether a channel of the job is open on the file.
 fn has_channel(name: &FileName, job: &JobEntry) -> bool
     ensures { result ≡ has_channel name.now job.now }
 {
     job.channels.iter().any(|entry| is_on(name, entry))
 }
 
-/// Whether a channel is open on the file.
+/// Returns whether a channel is open on the file.
 fn is_on(name: &FileName, entry: &Option<ChannelEntry>) -> bool
     ensures { result ≡ is_on name.now entry.now }
 {

@@ -9,7 +9,7 @@ use Rattle.monitor_model.specs.Queues.{Receiver, is_of, receiver_of, letters_of,
 use Rattle.message_queues.specs.declared.queues.Queue.{Queue}
 use Rattle.message_queues.specs.Kept.{shown, shown_all}
 
--- the first queue of a kind stands at the place, or none is of the kind
+-- the first queue of a kind is at the place, or none is of the kind
 abbrev pub IsFirst : (Receiver → Bool) → List Queue → ℕ → Type 0
 IsFirst kind [] place = ⊥
 IsFirst kind (queue ∷ queues) zero = kind (shown queue) ≡ true
@@ -107,7 +107,7 @@ filter-shown (q ∷ qs) job =
       | false ↦ filter-shown qs job
     ]
 
--- no letter is taken where none waits
+-- no letter is taken if none waits
 no_letter : (letters : List Letter) → slice_get letters 0 ≡ None → drop 1 letters ≡ letters
 no_letter [] e = refl
 no_letter (l ∷ ls) e = absurd (cc)

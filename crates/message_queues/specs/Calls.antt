@@ -1,4 +1,4 @@
--- What each call is refused for, in its order.
+-- The refusals of each call, in order.
 use Rattle.std.specs.Prelude.{ℕ, Bool, not, ◌||◌, ◌==◌, List, [], ◌∷◌, length}
 use Rattle.monitor_model.specs.Queues.{Receiver, is_receiver, has_receiver, is_full, letters_of}
 

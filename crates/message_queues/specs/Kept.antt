@@ -1,4 +1,4 @@
--- A receiver as it is kept: its letters stand in a ring of as many as it takes.
+-- A receiver as it is kept: its letters are in a ring buffer for as many as it takes.
 use Rattle.std.specs.Prelude.{List, map}
 use Rattle.monitor_model.specs.Queues.{Receiver}
 use Rattle.message_queues.specs.declared.queues.Queue.{Queue}

@@ -1,8 +1,8 @@
 //! The message receivers, and the letters that wait at each.
 //!
-//! It stands on `monitor_model`, whose `Queues` says what each call leaves. The calls of `Queues`
-//! carry that each is its definition, refused exactly where it says; `send` and `receive` take no
-//! memory.
+//! The crate depends on `monitor_model`, whose `Queues` says what each call leaves. Each call of
+//! `Queues` is proved to be its definition, and is refused exactly if that says so. `send` and
+//! `receive` take no memory.
 #![tactic(auto)]
 
 mod queues;

@@ -17,7 +17,7 @@ use monitor_model::Letter;
 use std::alloc::Global;
 use std::marker::Model;
 
-/// What a receiver is called, its job, and a ring of as many letters as it takes.
+/// The name of a receiver, its job, and a ring buffer for as many letters as it takes.
 #[derive(Drop)]
 pub(crate) struct Queue {
     name: Short,
@@ -45,7 +45,7 @@ impl Model for Queues {
 }
 
 impl Queues {
-    /// No receiver.
+    /// Returns the state without receivers.
     pub fn new(alloc: Global) -> Queues
         ensures { result ≡ [] }
     {
@@ -55,7 +55,7 @@ impl Queues {
         }
     }
 
-    /// Declares a receiver for a job that takes so many letters, and makes the room for them.
+    /// Declares a receiver for a job, and takes the memory for this many letters.
     pub fn declare(&mut self, job: u32, name: Short, most: u8) -> Result<(), Trouble<Fault>>
         requires least { 1 ≤ most }
         requires most { most ≤ 32 }
@@ -70,7 +70,7 @@ impl Queues {
         Ok(())
     }
 
-    /// Puts a letter behind those that wait at a name. It takes no memory.
+    /// Puts a letter after those that wait at a name. It takes no memory.
     pub fn send(&mut self, name: &Short, message: Letter) -> Result<(), Fault>
         ensures refused { RefusedBy (send_refusals self.old name.now) result }
         ensures ok { OnOk result (self.new ≡ send self.old name.now message) }
@@ -86,7 +86,7 @@ impl Queues {
         Ok(())
     }
 
-    /// The oldest letter that waits for a job.
+    /// Returns the oldest letter that waits for a job.
     pub fn oldest(&self, job: u32) -> Option<&Letter>
         ensures { option_copied result ≡ slice_get (letters_of self.now job) 0 }
     {
@@ -99,7 +99,7 @@ impl Queues {
         }
     }
 
-    /// Takes out the oldest letter that waits for a job. It takes no memory.
+    /// Takes the oldest letter that waits for a job. It takes no memory.
     pub fn receive(&mut self, job: u32) -> Result<Letter, Fault>
         ensures refused { RefusedBy (receive_refusals self.old job) result }
         ensures letter { IfOk result (λ l. slice_get (letters_of self.old job) 0 ≡ Some l) }
@@ -112,7 +112,7 @@ impl Queues {
         }
     }
 
-    /// Drops the receiver of a job, and the letters that wait there.
+    /// Removes the receiver of a job, and the letters that wait there.
     pub fn remove(&mut self, job: u32)
         ensures { self.new ≡ drop_receiver self.old job }
     {
@@ -131,7 +131,7 @@ impl Queues {
         place_of(self.queues.as_slice(), job).is_some()
     }
 
-    /// Whether as many letters wait at the name as it takes.
+    /// Returns whether as many letters wait at the name as it takes.
     fn is_full(&self, name: &Short) -> bool
         ensures { result ≡ is_full self.now name.now }
     {
@@ -181,7 +181,7 @@ impl Queues {
     }
 }
 
-/// The place of the receiver of a name.
+/// Returns the place of the receiver of a name.
 fn place_at(queues: &[Queue], name: &Short) -> Option<usize>
     ensures { result ≡ position (λ queue. bytes_eq queue.name name.now) queues.now }
 {
@@ -190,14 +190,14 @@ fn place_at(queues: &[Queue], name: &Short) -> Option<usize>
         .position(|queue| queue.name.as_bytes() == name.as_bytes())
 }
 
-/// The place of the receiver of a job.
+/// Returns the place of the receiver of a job.
 fn place_of(queues: &[Queue], job: u32) -> Option<usize>
     ensures { result ≡ position (λ queue. queue.job == job) queues.now }
 {
     queues.iter().position(|queue| queue.job == job)
 }
 
-/// Puts a letter behind those of a ring that is not full.
+/// Puts a letter after those of a ring that is not full.
 fn push(letters: &mut HeapCircularBuffer<Letter>, message: Letter)
     requires { length letters.old.items < letters.old.capacity }
     ensures { letters.new ≡ buffer (letters.old.items ++ message ∷ []) letters.old.capacity }
@@ -205,7 +205,7 @@ fn push(letters: &mut HeapCircularBuffer<Letter>, message: Letter)
     letters.push_back(message);
 }
 
-/// Drops the queue of a job. The others keep their order.
+/// Removes the queue of a job. The others keep their order.
 fn drop_of(queues: &mut Vec<Queue>, job: u32)
     ensures { queues.new.items ≡ filter (λ queue. not (queue.job == job)) queues.old.items }
 {

@@ -9,7 +9,7 @@ use Rattle.monitor_calls.specs.Typing.{Typing, Line, Over, Open, IsOpen, goes_on
 abbrev Key : Type 0
 Key = Option (List ℕ)
 
--- EVENTS IN A ROW
+-- CONSECUTIVE EVENTS
 
 pub keys_on : (events more : List Event) → keys_in (events ++ more) ≡ keys_in events ++ keys_in more
 keys_on [] more = refl

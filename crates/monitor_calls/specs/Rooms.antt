@@ -1,4 +1,4 @@
--- Which room is enough for the copy of a reply.
+-- When memory that was taken before is enough for the copy of a reply.
 use Rattle.std.specs.Prelude.{◌≡◌, ℕ, Bool, true, false, List, Option, Some, None}
 use Rattle.monitor_calls.specs.declared.calls.Reply.{Reply}
 use Rattle.monitor_calls.specs.declared.calls.Reply.TheVariants.{Done, Opened, Block, Record, Name, Message, State, Failed, Expired}
@@ -23,7 +23,7 @@ pages_in (Page page) = None
 pages_in (Pages pages) = Some pages
 pages_in (Text text) = None
 
--- a page for a block, the very pages of a record, the very text of a message, and nothing for the
+-- a page for a block, the very pages of a record, the very string of a message, and nothing for the
 -- other replies
 abbrev pub HasRoom : Reply → ReplyRoom → Type 0
 HasRoom (Block page) room = has_page room ≡ true

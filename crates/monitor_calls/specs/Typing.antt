@@ -5,7 +5,7 @@ use Rattle.monitor_calls.specs.declared.events.Event.TheVariants.{Asked, Typed}
 
 -- Everything that is typed at a terminal, or everything so far.
 pub data Typing : Type 0 where
-  -- a key line, and what follows it
+  -- a key line, and the keys after it
   Line : List ℕ → Typing → Typing
   -- the end of the keys, however often a line is asked for
   Over : Typing

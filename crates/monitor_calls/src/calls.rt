@@ -1,4 +1,4 @@
-//! The monitor's calls: requests, replies, and both as they stand in a history.
+//! The monitor's calls: requests, replies, and both as entries of a history.
 
 ghost use Rattle.std.specs.Prelude.{◌≡◌};
 ghost use Rattle.monitor_calls.specs.Proper.{IsProperRequest, IsProperReply, IsProperEntry};
@@ -18,14 +18,14 @@ use basic_values::{Fault, Series, Text};
 /// What a job asks of the monitor.
 #[derive(Drop)]
 pub enum Request {
-    /// The job wants to act for an account.
+    /// The job asks to log in to an account.
     Login {
         account: Account,
         password: Short,
     },
     /// The job ends.
     Logout,
-    /// Opens a channel on a file, for update or not. A file that is made gets the code, or 60.
+    /// Opens a channel on a file, for update or not. A new file gets this code, or 60 without one.
     OpenFile {
         channel: u8,
         name: FileName,
@@ -48,8 +48,8 @@ pub enum Request {
         block: u16,
         page: Page,
     },
-    /// Reads a record of a channel's file: so many blocks from this one on, 1 to 3, as far as the
-    /// file goes. A channel for update then holds these blocks alone.
+    /// Reads a record of a channel's file: this many blocks from this one on, 1 to 3, or fewer at
+    /// the end of the file. A channel for update then locks these blocks alone.
     GetRecord {
         channel: u8,
         block: u16,
@@ -62,15 +62,15 @@ pub enum Request {
         block: u16,
         pages: Series<Page>,
     },
-    /// Lets go of what a channel holds.
+    /// Releases what a channel locks.
     Unlock {
         channel: u8,
     },
-    /// Takes a file away.
+    /// Deletes a file.
     Kill {
         name: FileName,
     },
-    /// Gives a file another name, and a code where one is said.
+    /// Renames a file, and gives it a code if there is one.
     Rename {
         old: FileName,
         new: FileName,
@@ -81,39 +81,39 @@ pub enum Request {
         owner: Account,
         index: u16,
     },
-    /// Makes a receiver of that name for the job, which takes so many messages.
+    /// Declares a receiver of that name for the job, which holds at most this many messages.
     Declare {
         name: Short,
         most: u8,
     },
-    /// Takes the job's receiver away.
+    /// Removes the job's receiver.
     Remove,
     /// Sends a message to the receiver of a name.
     Send {
         name: Short,
         text: Text,
     },
-    /// Takes out the oldest message that waits for the job.
+    /// Takes the oldest message that waits for the job.
     Receive,
-    /// The job rests so many seconds.
+    /// The job sleeps for this many seconds.
     Sleep {
         seconds: u16,
     },
-    /// The job has used 1,000 units more.
+    /// The job has used another 1,000 units.
     Tick,
-    /// Gives the job the printer until it gives it back.
+    /// Assigns the printer to the job until it deassigns it.
     Assign,
-    /// Gives the printer back.
+    /// Deassigns the printer.
     Deassign,
-    /// Begins a listing on the printer.
+    /// Begins a print job.
     OpenPrinter,
-    /// Prints up to 512 bytes in the listing.
+    /// Prints up to 512 bytes in the print job.
     Print {
         text: Text,
     },
-    /// Ends the listing.
+    /// Ends the print job.
     ClosePrinter,
-    /// Asks which job this is, for whom it acts, and how many calls it has made.
+    /// Asks for the job's number, its account, and how many calls it has made.
     Status,
 }
 
@@ -121,7 +121,7 @@ pub enum Request {
 #[derive(Drop)]
 pub enum Reply {
     Done,
-    /// A channel is open on a file of so many blocks, with these rights.
+    /// A channel is open on a file of this many blocks, with these rights.
     Opened {
         blocks: u16,
         read: bool,
@@ -131,7 +131,7 @@ pub enum Reply {
     Block(Page),
     /// The blocks that were read.
     Record(Series<Page>),
-    /// A file with its code. Its blocks are told to whom may read or write it.
+    /// A file with its code. Its number of blocks is given only to a job that may read or write it.
     Name {
         name: FileName,
         code: u8,
@@ -143,7 +143,7 @@ pub enum Reply {
         account: Account,
         text: Text,
     },
-    /// The job's number, its account, and its calls since its login, this one with them.
+    /// The job's number, its account, and its calls since its login, including this one.
     State {
         job: u32,
         account: Account,
@@ -156,14 +156,14 @@ pub enum Reply {
 }
 
 impl Request {
-    /// Whether it is a Get, which is asked with a blank page for the block.
+    /// Returns whether it is a Get, for which the job supplies a blank page.
     pub fn is_get(&self) -> bool
         ensures { result ≡ is_get self.now }
     {
         matches!(self, Request::Get { .. })
     }
 
-    /// Reads each number and text once: what is read is in its range, and that is all that a
+    /// Reads each number and string once: what is read is in its range, and that is all that a
     /// caller learns.
     fn read(&self)
         ensures { IsProperRequest self.now }
@@ -248,7 +248,7 @@ impl Request {
 }
 
 impl Reply {
-    /// Reads each number and text, as `Request::read` does.
+    /// Reads each number and string, as `Request::read` does.
     fn read(&self)
         ensures { IsProperReply self.now }
     {
@@ -285,8 +285,8 @@ impl Reply {
         }
     }
 
-    /// The same reply, for a history that keeps it beside the one who asked. It takes no memory but
-    /// the room that it is given.
+    /// Returns the same reply, for a history that keeps a copy of it. It takes no memory except the
+    /// room that is passed in.
     pub fn again(&self, room: ReplyRoom) -> Reply
         requires { HasRoom self.now room }
         ensures { result ≡ self.now }
@@ -308,8 +308,8 @@ impl Reply {
         }
     }
 
-    /// The same reply, where it has no page and no text. It stands apart from those that take the
-    /// room, which would be dropped at the end of each.
+    /// Returns the same reply if it has no page and no string. This is a function of its own: in
+    /// one match, the unused room would have to be dropped at the end of each arm.
     fn plain_again(&self) -> Reply
         requires { HasRoom self.now Small }
         ensures { result ≡ self.now }
@@ -356,7 +356,7 @@ pub struct Entry {
 }
 
 impl Entry {
-    /// The entry of a call, whose numbers and texts are in their ranges.
+    /// Returns the entry of a call, whose numbers and strings are in their ranges.
     pub fn new(job: u32, request: Request, reply: Reply) -> Entry
         ensures parts { result ≡ record { job = job; request = request; reply = reply } }
         ensures proper { IsProperEntry result }

@@ -1,4 +1,4 @@
-//! The room that a copy of a reply takes.
+//! The memory for a copy of a reply.
 
 ghost use Rattle.std.specs.Prelude.{◌≡◌, true, Some, IsSome, IfOk};
 ghost use Rattle.monitor_calls.specs.Rooms.{HasRoom, has_page, pages_in, text_in};
@@ -12,18 +12,18 @@ use std::alloc::Global;
 /// has its reply needs no more memory.
 #[derive(Drop)]
 pub enum ReplyRoom {
-    /// Enough for a reply without a page or a text.
+    /// Enough for a reply without a page or a string.
     Small,
     /// A page for a block, whatever its bytes.
     Page(Page),
     /// The very pages of a record.
     Pages(Series<Page>),
-    /// The very text of a message.
+    /// The very string of a message.
     Text(Text),
 }
 
 impl ReplyRoom {
-    /// The room for a copy of this very reply.
+    /// Takes and returns the room for a copy of this very reply.
     pub fn of(alloc: Global, reply: &Reply) -> Result<ReplyRoom, NoMemory>
         ensures { IfOk result (λ room. HasRoom reply.now room) }
     {
@@ -40,7 +40,7 @@ impl ReplyRoom {
         }
     }
 
-    /// Its page, with the bytes of this one.
+    /// Returns its page, filled with the bytes of this one.
     pub(crate) fn page_like(self, page: &Page) -> Page
         requires { has_page self ≡ true }
         ensures { result ≡ page.now }
@@ -54,7 +54,7 @@ impl ReplyRoom {
         }
     }
 
-    /// Its text.
+    /// Returns its string.
     pub(crate) fn text(self) -> Text
         requires { IsSome (text_in self) }
         ensures { text_in self ≡ Some result }
@@ -65,7 +65,7 @@ impl ReplyRoom {
         }
     }
 
-    /// Its pages.
+    /// Returns its pages.
     pub(crate) fn pages(self) -> Series<Page>
         requires { IsSome (pages_in self) }
         ensures { pages_in self ≡ Some result }
@@ -77,7 +77,7 @@ impl ReplyRoom {
     }
 }
 
-/// A copy of a text.
+/// Returns a copy of a string.
 pub fn copy_of(alloc: Global, text: &Text) -> Result<Text, NoMemory>
     ensures { IfOk result (λ copy. copy ≡ text.now) }
 {

@@ -1,4 +1,4 @@
--- What a writing wants of a quota, and what the last page of a record leaves for those before it.
+-- What a write needs of a quota, and what the last page of a record leaves for those before it.
 use Rattle.std.proofs.Common.{◌≡◌, ℕ, ◌+◌, ◌-◌, ◌<◌, ◌≤◌, ◌^◌, zero, suc, Bool, true, false, cond, List, [], ◌∷◌, length, slice_get, refl, sym, ap, ◌∙◌, subst, arith, Some, None}
 use Rattle.std.specs.Prelude.{Option, Result, Ok, Err, ◌==◌, nat_lt, is_some, unwrap_or, IsOk, OnOk}
 use Rattle.std.proofs.lemmas.Bool.{ltb-false, ne_eqb}
@@ -33,7 +33,7 @@ size_owned (file ∷ files) name =
       own_blocks : (f : File) (n : FileName) → f.name ≡ n → size f ≤ size_for f n.owner
       own_blocks f n e = subst (λ (x : FileName). size f ≤ size_for f x.owner) e (omega (arith, same_size f))
 
--- where the quota leaves what is wanted, the last block has a number of 16 bits
+-- if the quota leaves what is needed, the last block has a number of 16 bits
 pub last_small : (quota used size last : ℕ) → quota < 2 ^ 16 → size < 2 ^ 16 → size ≤ used → nat_lt (quota - used) (last - size) ≡ false → last < 2 ^ 16
 last_small quota used size last few small owned left =
     let le = ltb-false (quota - used) (last - size) left in
@@ -57,7 +57,7 @@ block_there : (file : File) (block : ℕ) → 1 ≤ block → block ≤ size fil
 block_there file zero some le = absurd (omega (arith, some))
 block_there file (suc place) some le = ap is_some (slice_get-get_or file.pages place [] (omega (arith, le)))
 
--- behind the pages that stand after a block, the file has the block
+-- after the pages that follow a block are written, the file has the block
 pub block_before : (files : List File) (name : FileName) (block next : ℕ) (pages : List (List ℕ)) → is_file files name ≡ true → 1 ≤ block → next ≡ block + 1 → 1 ≤ length pages → is_block (put_all files name next pages) name block ≡ true
 block_before files name block next [] is some after few = absurd (omega (arith, few))
 block_before files name block next (page ∷ pages) is some after few =
@@ -70,7 +70,7 @@ same_row tests others (Ok value) same by = sym same ∙ by
 same_row tests others (Err (Refused number)) same by = sym same ∙ by
 same_row tests others (Err NoMemory) same by = tt
 
--- the writing of a block from 1 of a file that is there is refused for want of room alone
+-- the write of a block from 1 of a file that exists can only be refused because no space is left
 pub write_row : {T : Type 0} (d : Disk) (name : FileName) (block last : ℕ) (result : Result T (Trouble ℕ)) → is_file d.files name ≡ true → 1 ≤ block → last ≡ block → RefusedByOrNoMemory (write_refusals d name block) result → RefusedByOrNoMemory (room_refusals d name last) result
 write_row d name block last result is some same by =
     let not_zero : (block == 0) ≡ false = ne_eqb block 0 (λ none. omega (arith, some, none)) in

@@ -53,7 +53,7 @@ all_read file block count left there rec small is le =
       short = (record_some count rec, (record_few count rec, omega (arith, is, some, inside, small, le)));
     }
 
--- nobody holds a block that a file has not
+-- nobody holds a block that a file does not have
 pub none_beyond : (m : State) (job channel : ℕ) (name : FileName) (block : ℕ) → GoodHolds m → size_at m.files name < block → is_held m.holds job channel name block ≡ false
 none_beyond m job channel name block good past = by_look (holder m.holds name block) refl where
   by_look : (o : Option (ℕ × ℕ)) → holder m.holds name block ≡ o → (is_some o && not (is_channel job channel o)) ≡ false

@@ -1,4 +1,4 @@
-//! The rows of the table that read and write through a channel.
+//! The table entries that read and write through a channel.
 
 ghost use Rattle.std.specs.Prelude.{◌≡◌, true, IfOk, IsOk, OnOk, OnErr};
 ghost use Rattle.monitor_model.specs.Files.{is_block};
@@ -15,7 +15,7 @@ use basic_values::errors::{
 use monitor_calls::{Page, Reply};
 
 impl Parts {
-    /// Closes a channel, which lets go of what it held.
+    /// Closes a channel, which releases what it held.
     #[tactic(auto, using(monitor_model::proofs::Counting::as_many_jobs))]
     pub(crate) fn close_file(&mut self, caller: Caller, channel: u8) -> Reply
         requires { IsCaller self.old caller }
@@ -30,7 +30,7 @@ impl Parts {
         Reply::Done
     }
 
-    /// Lets go of what a channel holds.
+    /// Releases what a channel holds.
     pub(crate) fn unlock(&mut self, caller: Caller, channel: u8) -> Reply
         requires { IsCaller self.old caller }
         ensures reply { result ≡ (row self.old caller (request.Unlock channel)).1 }
@@ -43,7 +43,7 @@ impl Parts {
         Reply::Done
     }
 
-    /// Reads a block into the page. A channel for update holds it then, and nothing else.
+    /// Reads a block into the page. A channel for update then holds it, and nothing else.
     pub(crate) fn get(&mut self, caller: Caller, channel: u8, block: u16, page: Page) -> Reply
         requires { IsCaller self.old caller }
         ensures reply { result ≡ (row self.old caller (request.Get channel block)).1 }
@@ -69,8 +69,7 @@ impl Parts {
         Reply::Block(page)
     }
 
-    /// Writes a block, and lets go of what the channel held. It takes memory only where the file
-    /// grows.
+    /// Writes a block, and releases what the channel held. It takes memory only if the file grows.
     pub(crate) fn put(
         &mut self,
         caller: Caller,

@@ -1,7 +1,7 @@
-//! The monitor: its state and its answer to each call, and a seat of one job at it. It stands on
-//! `monitor_model`, whose table `Monitor::answer` follows, and on the crates of its parts:
-//! `Monitor::answer` carries the promise that each reply and each new state are those of the model,
-//! `PlainSeat::close` that the history which it hands back is legal.
+//! The monitor: its state and its answer to each call, and a seat of one job at it. The crate
+//! depends on `monitor_model`, whose table `Monitor::answer` implements, and on the crates of its
+//! parts. `Monitor::answer` is proved to give the replies and the new states of the model.
+//! `PlainSeat::close` is proved to return a legal history.
 #![tactic(auto)]
 
 mod answers;

@@ -90,7 +90,7 @@ impl Seat for PlainSeat {
             self.new.history ≡ self.old.history ++ entry ∷ []) }
         ensures unchanged { OnErr result (self.new ≡ self.old) }
     {
-        // All room is taken first, so that nothing was asked if memory runs out.
+        // All memory is taken first, so that nothing was asked if memory runs out.
         let room = self.monitor.room_for_copy(alloc, self.job, &request)?;
         let page = blank_page(alloc, &request)?;
         self.history.reserve(1)?;

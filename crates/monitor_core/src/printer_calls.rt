@@ -1,4 +1,4 @@
-//! The rows of the table on the line printer.
+//! The table entries on the line printer.
 
 ghost use Rattle.std.specs.Prelude.{◌≡◌};
 ghost use Rattle.monitor_calls.specs.declared.calls.Request.TheVariants as request;
@@ -9,7 +9,7 @@ use basic_values::Text;
 use monitor_calls::Reply;
 
 impl Parts {
-    /// Keeps the printer for the job.
+    /// Assigns the printer to the job.
     pub(crate) fn assign(&mut self, caller: Caller) -> Reply
         ensures reply { result ≡ (row self.old caller request.Assign).1 }
         ensures state { self.new ≡ (row self.old caller request.Assign).0 }
@@ -20,7 +20,7 @@ impl Parts {
         }
     }
 
-    /// Lets go of the printer.
+    /// Deassigns the printer.
     pub(crate) fn deassign(&mut self, caller: Caller) -> Reply
         ensures reply { result ≡ (row self.old caller request.Deassign).1 }
         ensures state { self.new ≡ (row self.old caller request.Deassign).0 }
@@ -31,7 +31,7 @@ impl Parts {
         }
     }
 
-    /// Begins a listing.
+    /// Begins a print job.
     pub(crate) fn open_printer(&mut self, caller: Caller) -> Reply
         ensures reply { result ≡ (row self.old caller request.OpenPrinter).1 }
         ensures state { self.new ≡ (row self.old caller request.OpenPrinter).0 }
@@ -42,7 +42,7 @@ impl Parts {
         }
     }
 
-    /// Prints a text. It stands in the history alone.
+    /// Prints a string, which is kept only in the history.
     pub(crate) fn print(&self, caller: Caller, text: &Text) -> Reply
         ensures { result ≡ (row self.now caller (request.Print text.now)).1 }
     {
@@ -52,7 +52,7 @@ impl Parts {
         }
     }
 
-    /// Ends a listing.
+    /// Ends a print job.
     pub(crate) fn close_printer(&mut self, caller: Caller) -> Reply
         ensures reply { result ≡ (row self.old caller request.ClosePrinter).1 }
         ensures state { self.new ≡ (row self.old caller request.ClosePrinter).0 }

@@ -1,5 +1,5 @@
-//! What is read of files and of who holds their blocks: so many blocks from one on, as far as the
-//! file goes. It stands on the disk and on the interlock, and changes nothing.
+//! What is read of files and of who holds their blocks: a number of blocks from one on, up to the
+//! end of the file. It uses the disk and the interlock, and changes nothing.
 
 ghost use Rattle.std.specs.Prelude.{◌≡◌, ◌+◌, ◌<◌, ◌≤◌, ◌^◌, true, Some, length, IfOk};
 ghost use Rattle.monitor_model.specs.Files.{page_at, pages_of, is_block, size_at, the_file};
@@ -15,14 +15,14 @@ use monitor_calls::{FileName, Page};
 use std::alloc::Global;
 
 impl Parts {
-    /// Whether the file has the block.
+    /// Returns whether the file has the block.
     pub(crate) fn is_block(&self, name: &FileName, block: u16) -> bool
         ensures { result ≡ is_block self.now.files name.now block }
     {
         self.disk.place(name, block).is_some()
     }
 
-    /// The size of a file in blocks.
+    /// Returns the size of a file in blocks.
     #[tactic(auto, using(crate::proofs::Records::size_found))]
     pub(crate) fn size_of(&self, name: &FileName) -> u16
         ensures size { result ≡ size_at self.now.files name.now }
@@ -31,7 +31,7 @@ impl Parts {
         self.disk.size(name).unwrap_or(0)
     }
 
-    /// How many of so many blocks from this one on the file has.
+    /// Returns how many of this many blocks from this one on the file has.
     pub(crate) fn blocks_read(&self, name: &FileName, block: u16, count: u8) -> u8
         requires there { is_block self.now.files name.now block ≡ true }
         requires count { is_record count ≡ true }
@@ -45,7 +45,7 @@ impl Parts {
         }
     }
 
-    /// Whether another channel holds one of these blocks.
+    /// Returns whether another channel holds one of these blocks.
     pub(crate) fn any_held(
         &self,
         job: u32,
@@ -65,8 +65,8 @@ impl Parts {
         false
     }
 
-    /// Whether another channel holds the block, whatever its number. Nobody holds one that the file
-    /// has not, and so none above 65,535.
+    /// Returns whether another channel holds the block, whatever its number. Nobody holds one that
+    /// the file does not have, and so none above 65,535.
     #[tactic(auto, using(crate::proofs::Records::none_beyond))]
     fn is_held_at(&self, job: u32, channel: u8, name: &FileName, block: u32) -> bool
         requires { GoodHolds self.now }
@@ -79,7 +79,7 @@ impl Parts {
         }
     }
 
-    /// The pages of these blocks, which are there.
+    /// Returns the pages of these blocks, which exist.
     pub(crate) fn pages_read(
         &self,
         alloc: Global,
@@ -101,7 +101,7 @@ impl Parts {
         Ok(Series::from_vec(pages))
     }
 
-    /// The page of a block that is there.
+    /// Returns the page of a block that exists.
     fn page_read(&self, alloc: Global, name: &FileName, block: u16) -> Result<Page, NoMemory>
         requires { is_block self.now.files name.now block ≡ true }
         ensures { IfOk result (λ page. page_at self.now.files name.now block ≡ Some page) }
@@ -114,7 +114,7 @@ impl Parts {
     }
 }
 
-/// Whether a record may have so many blocks.
+/// Returns whether a record may have this many blocks.
 pub(crate) fn is_record(count: usize) -> bool
     ensures { result ≡ is_record count }
 {

@@ -1,4 +1,4 @@
-//! The rows of the table that read and write records of several blocks through a channel.
+//! The table entries that read and write records of several blocks through a channel.
 
 ghost use Rattle.std.specs.Prelude.{◌≡◌, ◌+◌, ◌-◌, true, length, IfOk, IsOk, OnOk, OnErr};
 ghost use Rattle.monitor_model.specs.Files.{is_block};
@@ -17,7 +17,7 @@ use basic_values::{NoMemory, Series};
 use monitor_calls::{Page, Reply};
 
 impl Parts {
-    /// Reads blocks, as far as the file goes. A channel for update holds them then, and no other.
+    /// Reads blocks, up to the end of the file. A channel for update then holds them, and no other.
     pub(crate) fn get_record(
         &mut self,
         caller: Caller,
@@ -57,8 +57,7 @@ impl Parts {
         Ok(Reply::Record(pages))
     }
 
-    /// Writes blocks, and lets go of what the channel held. It takes memory only where the file
-    /// grows.
+    /// Writes blocks, and releases what the channel held. It takes memory only if the file grows.
     #[tactic(auto, using(monitor_model::proofs::RecordLemmas::record_few))]
     pub(crate) fn put_record(
         &mut self,

@@ -1,5 +1,5 @@
-//! What a writing wants: blocks that are free and that the quota of the file's owner leaves, and
-//! several pages at once. It stands on the disk and on the accounts.
+//! Tests whether a write has the blocks that it needs, on the disk and within the quota of the
+//! file's owner, and writes several pages at once. It uses the disk and the accounts.
 
 ghost use Rattle.std.specs.Prelude.{◌≡◌, ◌+◌, ◌-◌, ◌<◌, ◌≤◌, ◌^◌, true, false, [], ◌∷◌, nat_lt};
 ghost use Rattle.std.specs.Prelude.{length, IsOk, OnOk, OnErr};
@@ -15,9 +15,8 @@ use block_files::Disk;
 use monitor_calls::{Account, FileName, Page};
 
 impl Parts {
-    /// Whether more blocks are wanted than the quota of the file's owner leaves, where the file's
-    /// last block is to be this one. The owner's files are looked through only where the file is
-    /// to grow.
+    /// Returns whether a file whose last block is to be this one needs more blocks than its owner's
+    /// quota leaves. It counts the owner's blocks only if the file is to grow.
     pub(crate) fn passes_quota(&self, name: &FileName, last: u32) -> bool
         ensures passes { result
             ≡ nat_lt (left_to self.now name.now.owner) (last - size_at self.now.files name.now) }
@@ -43,8 +42,8 @@ impl Parts {
     }
 }
 
-/// Writes pages to a file that is there, from this block on, the last one first: by that alone the
-/// file grows, so no other is refused or wants memory.
+/// Writes pages to a file that exists, from this block on, the last one first. The file grows by
+/// that write alone, so no other is refused or needs memory.
 #[tactic(auto, using(crate::proofs::Growth::write_row, crate::proofs::Growth::block_before))]
 pub(crate) fn write_all(
     disk: &mut Disk,

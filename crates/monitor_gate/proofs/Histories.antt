@@ -11,7 +11,7 @@ use Rattle.monitor_model.proofs.Histories.{legal_push, proper_push}
 use Rattle.monitor_gate.specs.declared.views.Pass.{Pass}
 use Rattle.monitor_gate.specs.OneHistory.{StartsWith, IsHistory, IsPassOf}
 
--- a job's part stays as it is where the entry is another job's
+-- a job's part stays as it is if the entry is another job's
 pub part_push_other : (job : ℕ) (history : List Entry) (entry : Entry) → entry.job ≢ job → part_of job (history ++ entry ∷ []) ≡ part_of job history
 part_push_other job history entry other =
     let own : Entry → Bool = λ e. e.job == job in
@@ -33,7 +33,7 @@ pub starts_trans : (long history seen : List Entry) → StartsWith long history 
 starts_trans long history seen a b =
     (b.0 ++ a.0, a.1 ∙ (ap (λ (l : List Entry). l ++ a.0) b.1 ∙ append_assoc seen b.0 a.0))
 
--- a pass is one of a longer history too, where the entries that came are of other jobs
+-- a pass is one of a longer history too, if the entries that came are of other jobs
 pub part_on : (long history : List Entry) (pass : Pass) → StartsWith long history → part_of pass.job long ≡ part_of pass.job history → IsPassOf history pass → IsPassOf long pass
 part_on long history pass more same part = record {
   seen = starts_trans long history pass.seen more part.seen;

@@ -58,7 +58,7 @@ begins m kept same empty = record {
 abbrev taken_by : Round → ℕ → Round
 taken_by round id = record round { taken = true; holder = id }
 
--- where nobody has the turn, a seat knows no less once another takes it
+-- if nobody has the turn, a seat knows no less once another takes it
 untaken : (m : State) (round : Round) (id j : ℕ) (u : Knows) → round.taken ≡ false → Knowing m round j u → Knowing m (taken_by round id) j u
 untaken m round id j (Spare p) free f = f
 untaken m round id j (Asks p) free f = f
@@ -150,11 +150,11 @@ holds_it m id p found s r at =
     let f = r.each id (HasTurn p found) at in
     record { turn = f; away = subst (λ (b : Bool). Placed m r.round.history r.round.holder b s) f.is_taken r.placed }
 
--- the round behind a turn in which the history became this one
+-- the round after a turn in which the history became this one
 abbrev after_turn : Round → List Entry → Round
 after_turn round history = record round { history = history; taken = false }
 
--- what another seat knows stays true where the history grew by entries of the holder's job alone
+-- what another seat knows stays true if the history grew by entries of the holder's job alone
 grew : (m : State) (round : Round) (long : List Entry) (id j : ℕ) (u : Knows) → j ≢ id → id ≡ round.holder → StartsWith long round.history
     → ((job : ℕ) → round.owner job ≢ some id → part_of job long ≡ part_of job round.history) → Knowing m round j u → Knowing m (after_turn round long) j u
 grew m round long id j (Spare p) other mine more same f = record {

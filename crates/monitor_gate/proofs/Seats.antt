@@ -39,7 +39,7 @@ given_none owner job j is = go (eqb j job)
     go true = refl
     go false = is
 
--- what a pass knows stays true where its own job stays with its seat
+-- what a pass knows stays true if its own job stays with its seat
 owned_on : (m : State) (history : List Entry) (owner owner' : ℕ → Option ℕ) (id : ℕ) (p : Pass) → owner' p.job ≡ owner p.job → Fits m history owner id p → Fits m history owner' id p
 owned_on m history owner owner' id p same f =
     record { opening_is = f.opening_is; owns = same ∙ f.owns; part = f.part }
@@ -57,7 +57,7 @@ two_seats : (views : List Knows) (i j : ℕ) (v w : Knows) → get_elem? views i
 two_seats views i j v w at_i at_j ne is =
     ne (ap kind (some-injective v w (sym at_i ∙ ap (get_elem? views) is ∙ at_j)))
 
--- the seat that has the turn keeps it, where it is not its view that changes
+-- the seat that has the turn keeps it, if it is not its view that changes
 placed_on : (m : State) (history : List Entry) (holder : ℕ) (taken : Bool) (s : Board) (views : List Knows)
     → ((p : Pass) → get_elem? s.views holder ≡ some (HasTurn p history) → get_elem? views holder ≡ some (HasTurn p history))
     → Placed m history holder taken s → Placed m history holder taken record { words = s.words; homes = s.homes; views = views }
@@ -68,12 +68,12 @@ placed_on m history holder true s views on pl =
 
 -- SPLIT
 
--- the round behind a split, in which the seat `new` has the next job
+-- the round after a split, in which the seat `new` has the next job
 abbrev one_more : Round → ℕ → Round
 one_more round new =
     record round { made = round.made + 1; owner = given_to round.owner round.made (some new) }
 
--- what another seat knows, behind a split
+-- what another seat knows after a split
 split_knowing : (m : State) (round : Round) (new id j : ℕ) (u : Knows) → j ≢ id → id ≡ round.spare → round.owner round.made ≡ none → Knowing m round j u → Knowing m (one_more round new) j u
 split_knowing m round new id j u other mine unmade = go u
   where
@@ -140,12 +140,12 @@ splits m id v p is room = subst (λ (x : Knows). Splits (Kept m) id x (left_of_s
 
 -- JOIN
 
--- the round behind a join, in which nobody has the job any more
+-- the round after a join, in which nobody has the job any more
 abbrev one_gone : Round → ℕ → Round
 one_gone round job =
     record round { gone = round.gone + 1; owner = given_to round.owner job none }
 
--- what a third seat knows, behind a join
+-- what a third seat knows after a join
 join_knowing : (m : State) (round : Round) (job id other j : ℕ) (u : Knows) → j ≢ id → j ≢ other → id ≡ round.spare → round.owner job ≡ some other → Knowing m round j u → Knowing m (one_gone round job) j u
 join_knowing m round job id other j u ne ne' mine theirs = go u
   where
@@ -209,13 +209,13 @@ joins m id v other w p q is is' = subst (λ (x : Knows × Knows). Joins (Kept m)
 
 -- CLOSE
 
--- nobody has the turn where no seat is out
+-- nobody has the turn if no seat is out
 at_rest : (m : State) (s : Board) (r : Kept m s) → how_many_out s.views ≡ 0 → (b : Bool) → Placed m r.round.history r.round.holder b s → IsHome m r.round.history s
 at_rest m s r rest false pl = pl
 at_rest m s r rest true pl =
     let someone = out_has s.views r.round.holder (HasTurn pl.pass r.round.history) pl.knows in absurd (omega arith)
 
--- the last board has the monitor at home, with the one history, in the state after it
+-- the last board has the monitor in its slot, with the one history, in the state after it
 pub record Closes (m : State) (p : SparePass) (homes : List (Maybe RecordedMonitor)) : Type 0 where
   pub kept : RecordedMonitor
   pub slot : get_elem? homes 0 ≡ some (Some kept)

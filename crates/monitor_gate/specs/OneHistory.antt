@@ -1,4 +1,5 @@
--- One history: what a call on a gate tells the seat that made it, and what is true of the whole history at the end.
+-- One history: what the seat that made a call on a gate learns, and what is true of the whole
+-- history at the end.
 use Rattle.std.specs.Prelude.{◌≡◌, ℕ, ◌<◌, ◌≤◌, List, [], ◌∷◌, ◌++◌}
 use mathlib.Core.Option.{some}
 use lib.ListN.{get_elem?}
@@ -16,13 +17,13 @@ use Rattle.monitor_gate.specs.declared.views.SparePass.{SparePass}
 abbrev pub StartsWith : List Entry → List Entry → Type 0
 StartsWith history seen = (more : List Entry) × (history ≡ seen ++ more)
 
--- a monitor that began in this state makes this history: each reply is its answer in the state at that place, and each
--- number and text is one of its type
+-- A monitor that began in this state makes this history. Each reply is its answer in the state at
+-- that place, and each number and string is in the range of its type.
 pub record IsHistory (opening : State) (history : List Entry) : Type 0 where
   pub legal : Legal opening history
   pub proper : Proper history
 
--- the pass behind a call that found this history
+-- the pass after a call that found this history
 abbrev pub after_call : Pass → List Entry → Request → Reply → Pass
 after_call pass found request answer = record {
   opening = pass.opening;
@@ -31,8 +32,8 @@ after_call pass found request answer = record {
   mine = pass.mine ++ (request, answer) ∷ [];
 }
 
--- The call found a history that begins with what the pass had seen. The reply is the monitor's in the state behind it,
--- and the call is the next entry, of the history and of the pass
+-- The call found a history that begins with what the pass had seen. The reply is the monitor's in
+-- the state after that history, and the call is the next entry, of the history and of the pass
 pub record Asked (pass : Pass) (request : Request) (answer : Reply) (pass' : Pass) : Type 0 where
   pub found : List Entry
   pub seen : StartsWith found pass.seen
@@ -49,8 +50,8 @@ pub record IsPassOf (history : List Entry) (pass : Pass) : Type 0 where
 abbrev pub Among : List Pass → ℕ → Type 0
 Among passes job = (k : ℕ) × (pass : Pass) × (get_elem? passes k ≡ some pass) × (pass.job ≡ job)
 
--- The history of a gate at its end, by its spare pass. Each seat that was split off has its pass among the ended ones,
--- and no other job has an entry
+-- The history of a gate at its end, by its spare pass. Each seat that was split off has its pass
+-- among the ended ones, and no other job has an entry
 pub record OneHistory (spare : SparePass) (history : List Entry) : Type 0 where
   pub is_history : IsHistory spare.opening history
   pub seen : StartsWith history spare.seen

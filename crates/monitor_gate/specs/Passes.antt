@@ -1,5 +1,5 @@
--- What a gate, the seat of a job and the spare seat are to a contract, and how passes change as seats are split off and
--- joined.
+-- What a gate, the seat of a job and the spare seat are to a contract, and how passes change as
+-- seats are split off and joined.
 use Rattle.std.specs.Prelude.{◌+◌, List, [], ◌∷◌, ◌++◌, length, nat_lt, if◌then◌else◌}
 use Rattle.atomic_table.specs.Seated.{TableId}
 use Rattle.monitor_calls.specs.declared.calls.Entry.{Entry}
@@ -34,18 +34,19 @@ spare_value gate pass = record { gate = gate; pass = pass }
 abbrev pub first_pass : State → SparePass
 first_pass opening = record { opening = opening; made = 0; seen = []; ended = [] }
 
--- the spare pass behind a split: one more was made
+-- the spare pass after a split: one more was made
 abbrev pub after_split : SparePass → SparePass
 after_split spare = record { opening = spare.opening; made = spare.made + 1; seen = spare.seen; ended = spare.ended }
 
--- the pass that is split off: of the next job, it has seen what the spare one has, and has made no calls
+-- the pass that is split off: it is of the next job, it has seen what the spare one has, and it has
+-- made no calls
 abbrev pub split_off : SparePass → Pass
 split_off spare = record { opening = spare.opening; job = spare.made; seen = spare.seen; mine = [] }
 
 abbrev pub longer : List Entry → List Entry → List Entry
 longer seen seen' = if nat_lt (length seen) (length seen') then seen' else seen
 
--- the spare pass behind a join: it keeps the ended pass, and has seen the longer of what both have
+-- the spare pass after a join: it keeps the ended pass, and has seen the longer of what both have
 abbrev pub after_join : SparePass → Pass → SparePass
 after_join spare pass = record {
   opening = spare.opening;

@@ -1,5 +1,5 @@
--- The rule of the table under a gate, and what each step on it tells its seat. It carries the proof of *one history*, and
--- no public promise needs it.
+-- The rule of the table under a gate, and what its seat learns at each step on it. It supports the
+-- proof of *one history*, and no public promise needs it.
 use Rattle.std.specs.Prelude.{◌≡◌, ◌≢◌, ℕ, ◌+◌, ◌<◌, ◌≤◌, Bool, true, false, List, [], ◌∷◌, length, Some, None}
 use Rattle.std.specs.Prelude.{Option as Maybe}
 use mathlib.Core.Option.{Option, none, some}
@@ -37,8 +37,9 @@ abbrev pub how_many_out : List Knows → ℕ
 how_many_out [] = 0
 how_many_out (knows ∷ rest) = is_out knows + how_many_out rest
 
--- what the rule alone knows of a board: the history, whether the turn is taken and which seat has it, which seat is the
--- spare one, how many seats were split off and how many joined, and the seat of each job whose seat is out
+-- What the rule alone knows of a board. It knows the history, whether the turn is taken and which
+-- seat has it, and which seat is the spare one. It also knows how many seats were split off and how
+-- many joined, and the seat of each job whose seat is out
 pub record Round : Type 0 where
   pub history : List Entry
   pub taken : Bool
@@ -48,12 +49,12 @@ pub record Round : Type 0 where
   pub gone : ℕ
   pub owner : ℕ → Option ℕ
 
--- this is the history, and the monitor is in the state behind it
+-- this is the history, and the monitor is in the state after it
 pub record Records (opening : State) (history : List Entry) (kept : RecordedMonitor) : Type 0 where
   pub items : kept.history.items ≡ history
   pub state : kept.monitor ≡ after opening history
 
--- nobody has the turn, and the monitor is at home
+-- nobody has the turn, and the monitor is in its slot
 pub record IsHome (opening : State) (history : List Entry) (board : Board) : Type 0 where
   pub turn : board.words ≡ 0 ∷ []
   pub kept : RecordedMonitor
@@ -83,7 +84,7 @@ pub record HasEnded (history : List Entry) (made : ℕ) (owner : ℕ → Option 
   pub unowned : owner pass.job ≡ none
   pub part : IsPassOf history pass
 
--- no job stands twice among these
+-- no job is twice among these
 abbrev pub Apart : List Pass → Type 0
 Apart passes = (i j : ℕ) (p q : Pass) → get_elem? passes i ≡ some p → get_elem? passes j ≡ some q → p.job ≡ q.job → i ≡ j
 
@@ -108,7 +109,8 @@ Knowing opening round id (Asks pass) = Fits opening round.history round.owner id
 Knowing opening round id (HasTurn pass found) = TurnFits opening round id pass found
 Knowing opening round id Spent = Unit {0}
 
--- There is one history. What each seat knows is of it, and a job whose seat was not split off has no part in it
+-- There is one history. What each seat knows is of it, and a job whose seat was not split off has
+-- no part in it
 pub record Kept (opening : State) (board : Board) : Type 0 where
   pub round : Round
   pub is_history : IsHistory opening round.history
@@ -118,7 +120,7 @@ pub record Kept (opening : State) (board : Board) : Type 0 where
   pub unmade : (job : ℕ) → round.made ≤ job → (round.owner job ≡ none) × (part_of job round.history ≡ [])
   pub each : (id : ℕ) (knows : Knows) → get_elem? board.views id ≡ some knows → Knowing opening round id knows
 
--- WHAT STEPS TELL
+-- WHAT STEPS SHOW
 
 abbrev pub first_view : State → Knows
 first_view opening = Spare (first_pass opening)
@@ -163,7 +165,7 @@ pub record HasTaken (pass : Pass) (kept : RecordedMonitor) (hand : Hand) : Type 
   pub hand_is : hand ≡ (HasTurn pass kept.history.items, (0, None) ∷ [])
   pub found : Found pass kept
 
--- the pass behind a turn in which the history became this one
+-- the pass after a turn in which the history became this one
 abbrev pub grown : Pass → List Entry → Pass
 grown pass history = record { opening = pass.opening; job = pass.job; seen = history; mine = part_of pass.job history }
 

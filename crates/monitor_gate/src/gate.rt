@@ -57,7 +57,8 @@ impl Model for JobSeat {
     ghost invariant = { λ s. IsAsking s.seat.me × (s.job ≡ (pass_of s.seat.me.0).job) };
 }
 
-/// The seat that the seats of jobs are split off, and joined to when they are done.
+/// The seat from which the seats of jobs are split off, and to which they are joined when they are
+/// done.
 #[derive(Drop)]
 pub struct Spare {
     made: u32,
@@ -84,7 +85,7 @@ impl Model for Spare {
 }
 
 impl JobSeat {
-    /// Its job's number, from 0.
+    /// Returns its job's number, from 0.
     pub fn job(&self) -> u32
         ensures { result ≡ self.now.pass.job }
     {
@@ -93,7 +94,7 @@ impl JobSeat {
 }
 
 impl Gate {
-    /// A gate over a monitor, and its spare seat, which has seen the empty history.
+    /// Makes a gate over a monitor, and its spare seat, which has seen the empty history.
     pub fn new(alloc: Global, monitor: Monitor) -> Result<(Gate, Spare), NoMemory>
         ensures opening { IfOk result (λ made. made.0.opening ≡ monitor) }
         ensures spare { IfOk result (λ made.
@@ -110,7 +111,7 @@ impl Gate {
         Ok((Gate { table, is_shut }, spare))
     }
 
-    /// The seat of the next job, from 0. It takes no memory.
+    /// Splits off the seat of the next job, from 0. It takes no memory.
     pub fn split(&self, spare: &mut Spare) -> JobSeat
         requires own { spare.old.gate ≡ self.now.gate }
         requires room { spare.old.pass.made < length spare.old.pass.opening.jobs }
@@ -123,7 +124,7 @@ impl Gate {
         JobSeat { job, seat }
     }
 
-    /// Turns every seat away from now on: each call that begins later answers at once that memory
+    /// Turns every seat away from now on: each call that begins later returns at once that memory
     /// ran out. It is for a run in which a job is out of memory, since such a run is lost.
     pub fn shut(&self) {
         self.is_shut.store(true, Ordering::SeqCst);

@@ -1,14 +1,14 @@
 //! The gate: one monitor, which jobs in many threads ask in turn, and the history of its answers.
 //!
-//! A gate is made over a monitor, with a spare seat. Off the spare seat a seat is split for each
-//! job, with which a thread asks (`gate`). What a seat knows is its pass (`views`): what it has
-//! seen of the history, and its own pairs in it. The seats stand at a table with one word, the
-//! turn, and one slot, in which the monitor lies with its history (`table`, `recorded`, `plays`).
-//! Once a gate is shut, every call answers that memory ran out.
+//! A gate is made over a monitor, with a spare seat. For each job, a seat is split off the spare
+//! seat, and a thread asks with it (`gate`). What a seat knows is its pass (`views`): what it has
+//! seen of the history, and its own pairs in it. The seats are at a table with one word and one
+//! slot. The word is the turn, and the slot has the monitor with its history (`table`, `recorded`,
+//! `plays`). Once a gate is shut, every call returns that memory ran out.
 //!
-//! `Gate::new`, `split`, `ask`, `join` and `close` carry the promise *one history*: there is one
-//! history of the monitor that answers one call at a time, each reply is the monitor's at its place
-//! there, and each seat made just the calls that the history has of its job.
+//! `Gate::new`, `split`, `ask`, `join` and `close` are proved to keep *one history*. There is one
+//! history of the monitor that answers one call at a time. Each reply is the monitor's at its place
+//! there. Each seat made exactly the calls that the history has of its job.
 #![tactic(auto)]
 
 mod gate;

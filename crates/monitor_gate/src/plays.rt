@@ -1,4 +1,4 @@
-//! The rule of the table, and what each step on it tells its seat.
+//! The rule of the table, and what its seat learns at each step on it.
 
 use crate::recorded::RecordedMonitor;
 use crate::views::Knows;
@@ -17,7 +17,7 @@ impl TableRule<Option<RecordedMonitor>, Knows, Snapshot<Monitor>> for OneTurn {
     ghost first = { λ key. first_view key.value };
 }
 
-/// The turn is tried.
+/// The step that tries the turn.
 pub(crate) struct TryTurn;
 
 impl Play<Option<RecordedMonitor>, Knows> for TryTurn {
@@ -26,7 +26,7 @@ impl Play<Option<RecordedMonitor>, Knows> for TryTurn {
     ghost then = { tried };
 }
 
-/// The turn is given back, with one entry more in the history.
+/// The step that returns the turn, with one entry more in the history.
 pub(crate) struct EndWithEntry;
 
 impl Play<Option<RecordedMonitor>, Knows> for EndWithEntry {
@@ -35,7 +35,7 @@ impl Play<Option<RecordedMonitor>, Knows> for EndWithEntry {
     ghost then = { ended_with_entry };
 }
 
-/// The turn is given back, with the history as it was found.
+/// The step that returns the turn, with the history as it was found.
 pub(crate) struct EndAsFound;
 
 impl Play<Option<RecordedMonitor>, Knows> for EndAsFound {
@@ -44,7 +44,7 @@ impl Play<Option<RecordedMonitor>, Knows> for EndAsFound {
     ghost then = { ended_as_found };
 }
 
-/// A job's seat is split off the spare seat, and joined to it again.
+/// Splits a job's seat off the spare seat, and joins it to it again.
 pub(crate) struct ForJob;
 
 impl Split<Knows> for ForJob {

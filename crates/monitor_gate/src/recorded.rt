@@ -28,7 +28,7 @@ impl RecordedMonitor {
         ensures ok { IfOk result (λ r. Answered job request r self.old self.new) }
         ensures memory { OnErr result (IsSame self.old self.new) }
     {
-        // All room is taken before the monitor is asked: where it is not there, nothing was asked.
+        // All memory is taken before the monitor is asked: if it runs out, nothing was asked.
         let room = self.monitor.room_for_copy(alloc, job, &request)?;
         let page = blank_page(alloc, &request)?;
         self.history.reserve(1)?;

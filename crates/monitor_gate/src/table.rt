@@ -1,6 +1,6 @@
 //! The table under a gate, and each call of a seat at it.
 //!
-//! A seat that finds the turn free has it. It takes the monitor out of the slot, has it answer,
+//! A seat that finds the turn free takes it. It takes the monitor out of the slot, has it answer,
 //! puts it back and gives the turn back. While one has the turn, the others yield and try again.
 
 ghost use Rattle.std.specs.Prelude.{◌≡◌, ◌<◌, [], IfOk, OnErr, length};
@@ -39,7 +39,7 @@ pub(crate) struct GateTable {
 }
 
 impl GateTable {
-    /// A table with the monitor at home, and its spare seat.
+    /// Makes a table with the monitor in its slot, and its spare seat.
     pub(crate) fn new(alloc: Global, monitor: Monitor) -> Result<(GateTable, TableSeat), NoMemory>
         ensures opening { IfOk result (λ made. made.0.table.shared.key.value ≡ monitor) }
         ensures own { IfOk result (λ made. made.1.table_id ≡ made.0.table.shared.table_id) }
@@ -109,7 +109,7 @@ impl GateTable {
         }
     }
 
-    /// The seat of the next job.
+    /// Splits off the seat of the next job.
     pub(crate) fn split(&self, spare: &mut TableSeat) -> TableSeat
         requires own { spare.old.table_id ≡ self.now.table.shared.table_id }
         requires spare { IsSpare spare.old.me }

@@ -1,4 +1,4 @@
-//! What the seats of a gate know. Proofs alone read it: no value of these types is made.
+//! What the seats of a gate know. Only proofs read it: no value of these types is made.
 
 use monitor_calls::{Entry, Reply, Request};
 use monitor_core::Monitor;

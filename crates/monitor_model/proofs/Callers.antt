@@ -1,4 +1,4 @@
--- Who acts for an account behind a call.
+-- Which jobs are logged in after a call.
 use Rattle.std.proofs.Common.{◌≡◌, ℕ, List, refl, sym, ◌∙◌, subst, inl, inr, ◌⊎◌, Some, None}
 use Rattle.std.specs.Prelude.{Option}
 use Rattle.std.proofs.lemmas.Bool.{cases_eq}
@@ -13,7 +13,7 @@ use Rattle.monitor_model.proofs.Tools.{either}
 use Rattle.monitor_model.proofs.JobLemmas.{account_of-count, account_of-log_in_other, account_of-end_job_same, account_of-end_job_other, account_of-set_channel}
 use Rattle.monitor_model.proofs.Outcomes.{table_is, Outcomes, answer_outcomes}
 
--- who has an account behind a call had it before, or is the caller and had none
+-- a job that has an account after a call had it before, or is the caller and had none
 module _ (m : State) (job : ℕ) (account : Account) where
   abbrev pub Had : List JobEntry → Type 0
   Had jobs =

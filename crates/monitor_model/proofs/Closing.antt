@@ -101,7 +101,7 @@ all_good_files accounts (file ∷ files) all owners =
 same_self : (account : Account) → same_account account account ≡ true
 same_self account = (Decides-same_account account account).1 refl
 
--- each account's files are within its quota, where the first account of each number is the only one
+-- each account's files are within its quota if no two accounts have the same number
 in_quota : (accounts : List AccountEntry) (files : List FileEntry) → are_apart accounts ≡ true → ((owner : Account) → has_account accounts owner ≡ true → volume_owned files owner ≤ quota_of accounts owner) → are_in_quota accounts files ≡ true
 in_quota [] files apart fits = refl
 in_quota (entry ∷ accounts) files apart fits =

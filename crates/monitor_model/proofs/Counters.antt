@@ -172,7 +172,7 @@ module _ (c : Counting) where
           writes = ap (λ b. cond b (page_in_put entry.request entry.reply c.block) None) on ∙ n.writes;
         }
 
-    -- as much of what is to be proved as lies behind some of the history
+    -- the claim for what comes after a part of the history
     record CountedOn (past rest : List Entry) : Type 0 where
       updates : List (List ℕ × List ℕ)
       safe : AreSafe m c.name c.block past rest updates

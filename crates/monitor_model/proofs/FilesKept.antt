@@ -22,15 +22,15 @@ use Rattle.monitor_model.proofs.OwnerLemmas.{own_size, other_size, at_most_size,
 use Rattle.monitor_model.proofs.RecordLemmas.{room_there}
 use Rattle.monitor_model.proofs.Moves.{Keeps}
 
--- WHERE A FILE COMES FROM
+-- THE ORIGIN OF A FILE
 
--- a file that is there behind a making was there before, or has the new name
+-- a file that exists after one was made existed before, or has the new name
 made_or : (files : List File) (new : File) (name : FileName) → is_file (make files new) name ≡ true → (is_file files name ≡ true) ⊎ (new.name ≡ name)
 made_or files new name is = by_test (is_file files name) (λ was. inl was)
     (λ no. by_test (same_name new.name name) (λ same. inr (same_name-true new.name name same))
     (λ differs. absurd (true≢false (sym is ∙ ap is_some (file_at-make_new files new name (none_of (file_at files name) no) ∙ ap (λ b. cond b (Some new) None) differs)))))
 
--- one that is there behind a removal was there before
+-- one that exists after one was deleted existed before
 removed_was : (files : List File) (gone name : FileName) → AreApart files → is_file (remove files gone) name ≡ true → is_file files name ≡ true
 removed_was files gone name apart is = either (cases_name name gone)
     (λ same. absurd (true≢false (sym is ∙ ap is_some (subst (λ n. file_at (remove files n) name ≡ None) same (removed_gone files name apart)))))
@@ -83,7 +83,7 @@ module _ (m : State) (g : GoodFiles m) (old : FileName) (is : is_file m.files ol
     quotas = λ owner known. omega (arith, owned-make owner (remove m.files old) new, fewer_left owner, g.quotas owner known, fewer_owned owner (the_file m.files old) new (same ∙ sym (ap (λ n. n.owner) (the_file-name m.files old))) small);
   }
 
--- a page is put where there is room
+-- a page is put if there is space
 room_kept : (after before old new block blocks : ℕ) → after + old ≡ before + new → new ≡ old + (block - old) → block - old ≤ blocks - before → before ≤ blocks → after ≤ blocks
 room_kept after before old new block blocks e f g h = omega arith
 

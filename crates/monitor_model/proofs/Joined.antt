@@ -1,4 +1,4 @@
--- The listings' texts, joined, are all that is printed.
+-- The bytes of the print jobs, joined, are all that is printed.
 use Rattle.std.proofs.Common.{◌≡◌, ◌≢◌, ℕ, ◌==◌, Bool, true, false, cond, List, [], ◌∷◌, ◌++◌, refl, sym, ap, ◌∙◌, subst, inl, inr, ◌⊎◌, Some, None}
 use Rattle.std.specs.Prelude.{Option}
 use Rattle.std.proofs.lemmas.Bool.{true≢false, eqb-true, eqb-false}
@@ -33,7 +33,7 @@ print_is : (request : Request) (answer : Reply) → (printed_by request answer �
 print_is (Print text) Done = inr (text, (refl, refl))
 print_is request answer = inl refl
 
--- FROM THE FRONT: the job, if one prints, whose listing goes on
+-- FROM THE START: the job, if one prints, whose print job goes on
 
 abbrev PrintsNow : State → Option ℕ → Type 0
 PrintsNow m (Some k) = is_printing m.printer k ≡ true
@@ -43,7 +43,7 @@ abbrev going_on : Option ℕ → List Entry → List ℕ
 going_on None history = []
 going_on (Some k) history = listing k history
 
--- what is printed is the rest of the listing that goes on, and the listings that begin
+-- what is printed is the rest of the print job that goes on, and the print jobs that begin
 abbrev Adds : Option ℕ → List Entry → Type 0
 Adds who history = printed history ≡ going_on who history ++ joined (listings history)
 
@@ -70,13 +70,13 @@ module _ (m : State) (g : Good m) (entry : Entry) (answered : IsAnswered m entry
   abbrev starts : Bool → List ℕ
   starts b = joined (cond b ((job, listing job rest) ∷ listings rest) (listings rest))
 
-  -- a text is printed by a job that prints, whose listing goes on
+  -- bytes are printed by a job that prints, whose print job goes on
   silent : (is_printing m.printer job ≡ true → ends ≡ false → ⊥) → text ≡ []
   silent never =
       either (print_is entry.request entry.reply) (λ none. none)
       (λ p. absurd (never (had_begun m entry answered p.0 p.1.0 p.1.1) (λ i. is_finish (p.1.0 i) (p.1.1 i))))
 
-  -- who prints behind the entry printed before it, where none began
+  -- a job that prints after the entry printed before it, if no print job began
   none_new : begins ≡ false → (k : ℕ) → is_printing new.printer k ≡ true → is_printing m.printer k ≡ true
   none_new off k now =
       either (came_from m entry answered k now) (λ was. was)
@@ -97,7 +97,7 @@ module _ (m : State) (g : Good m) (entry : Entry) (answered : IsAnswered m entry
       let still : PrintsNow new None = λ k. by_test (is_printing new.printer k) (λ now. absurd (true≢false (sym (none_new off k now) ∙ none k))) (λ e. e) in
       adds None still ∙ sym (ap starts off))
 
-  -- the job of the entry printed, and ends its listing
+  -- the job of the entry printed, and ends its print job
   from_ended : PrintsNow m (Some job) → ends ≡ true → begins ≡ false → ((who : Option ℕ) → PrintsNow new who → Adds who rest) → text ++ printed rest ≡ [] ++ starts begins
   from_ended was over off adds =
       let empty : text ≡ [] = silent (λ prints on. true≢false (sym over ∙ on)) in

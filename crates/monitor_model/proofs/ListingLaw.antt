@@ -1,4 +1,5 @@
--- The laws of the printer: a listing is one job's, who prints has begun one, and 8 comes where another job has the printer.
+-- The laws of the printer: a print job belongs to one job, a job that prints has begun one, and
+-- error 8 comes exactly if another job has the printer.
 use Rattle.std.proofs.Common.{◌≡◌, ℕ, true, false, List, [], ◌∷◌, ◌++◌, refl, sym, ap, ◌∙◌, subst, Some}
 use Rattle.std.proofs.lemmas.Bool.{true≢false}
 use Rattle.std.proofs.lemmas.List.{append_assoc, append-nil}
@@ -21,7 +22,7 @@ use Rattle.monitor_model.proofs.Histories.{after-append, after_push, legal_first
 use Rattle.monitor_model.proofs.Refusing.{by_row, row_gives, last_expires, first_held, stopped_at}
 use Rattle.monitor_model.proofs.PrinterCalls.{goes_on, came_from, stopped, begun, had_begun, not_done}
 
--- WHOSE LISTING GOES ON PRINTS
+-- A JOB WHOSE PRINT JOB GOES ON PRINTS
 
 along : (history : List Entry) (m : State) (k : ℕ) → Legal m history → NoFinish k history → is_printing m.printer k ≡ true → is_printing (after m history).printer k ≡ true
 along [] m k legal goes prints = prints
@@ -42,7 +43,7 @@ prints_alone m past entry job legal listing other uses =
     let answered = (legal_rest m past (entry ∷ []) legal).0 in
     not_done (after m past) entry answered job (listing_prints m past job before listing) other uses
 
--- WHO PRINTS HAS A LISTING THAT GOES ON
+-- A JOB THAT PRINTS HAS A PRINT JOB THAT GOES ON
 
 abbrev AllListed : State → List Entry → Type 0
 AllListed m past = (k : ℕ) → is_printing (after m past).printer k ≡ true → InListing past k
@@ -58,7 +59,7 @@ module _ (m : State) (past : List Entry) (entry : Entry) (answered : IsAnswered 
   abbrev new : State
   new = next s entry.job entry.request
 
-  -- the listing of a job goes on behind the entry, where the job prints behind it
+  -- the print job of a job goes on after the entry if the job prints after it
   listing_goes : Good s → (k : ℕ) → is_printing new.printer k ≡ true → InListing past k → InListing (past ++ entry ∷ []) k
   listing_goes g k now l =
       let goes : entry.job ≡ k → is_finish entry.request entry.reply ≡ false = λ same. by_test (is_finish entry.request entry.reply)
@@ -96,7 +97,7 @@ prints_in_listing m past entry text g free legal asked told =
     listed_on past [] m g before (λ k prints. absurd (true≢false (sym prints ∙ ap (λ p. is_printing p k) free))) entry.job
     (had_begun (after m past) entry answered text asked told)
 
--- 8 COMES WHERE ANOTHER JOB HAS IT
+-- 8 COMES EXACTLY IF ANOTHER JOB HAS IT
 
 from_8 : (m : State) (job : ℕ) (caller : Account) (request : Request) → wants_printer request ≡ true → refusal (refusals (counted m job) job caller request) ≡ Some 8 → is_anothers m.printer job ≡ true
 from_8 m job caller Assign wants row = stopped_at 8 (is_anothers m.printer job) 8 [] refl row

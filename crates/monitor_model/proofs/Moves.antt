@@ -31,8 +31,8 @@ abbrev pub HoldsNone : HoldMap → ℕ → ℕ → Type 0
 HoldsNone holds job channel =
     (name : FileName) (block : ℕ) → holder holds name block ≡ Some (job, channel) → ⊥
 
--- P is kept by each move that a call of the job may make, with what the refusals before it tell.
--- A move that frees what a channel holds is made for the channels of F alone
+-- P is kept by each move that a call of the job may make, given that the refusals before it did not
+-- apply. A move that frees what a channel holds is made for the channels of F alone
 pub record Keeps (job : ℕ) (F : ℕ → Type 0) (P : State → Type 0) : Type 0 where
   pub logs_in : (m : State) (account : Account) (password : List ℕ) → account_of m.jobs job ≡ None → is_password_of password (entry_of m.accounts account) ≡ true → P m → P (record m { jobs = log_in m.jobs job account })
   pub counts : (m : State) (caller : Account) → account_of m.jobs job ≡ Some caller → is_last m job caller ≡ false → P m → P (counted m job)
@@ -62,7 +62,7 @@ module _ (job : ℕ) (P : State → Type 0) where
   open_entry : (s : State) (channel : ℕ) → is_open s.jobs job channel ≡ true → channel_of s.jobs job channel ≡ Some (the_channel s.jobs job channel)
   open_entry s channel is = some_of (channel_of s.jobs job channel) closed is
 
-  -- what is read is held, where the channel is for update
+  -- what is read is held if the channel is for update
   took : {F : ℕ → Type 0} → Keeps job F P → (s : State) → P s → (channel : ℕ) (at : ChannelEntry) (first count : ℕ) → F channel → channel_of s.jobs job channel ≡ Some at → at.read ≡ true → count ≤ 3 → ((block : ℕ) → IsAmong first count block → (is_block s.files at.name block ≡ true) × (is_held s.holds job channel at.name block ≡ false)) → P (record s { holds = cond (at.update) (hold s.holds job channel at.name first count) s.holds })
   took k s p channel at first count f opened read few free =
       elim (at.update) as (λ v. at.update ≡ v → P (record s { holds = cond v (hold s.holds job channel at.name first count) s.holds })) [

@@ -39,7 +39,7 @@ unfolding may
 may-counted m job caller name right = refl
 
 module _ (m : State) (g : Good m) (job : ℕ) where
-  -- a channel that is open behind the call was open before and is not closed by it, or the call
+  -- a channel that is open after the call was open before and is not closed by it, or the call
   -- opened it
   abbrev pub FromJobs : Request → List JobEntry → Reply → Type 0
   FromJobs request jobs answer =

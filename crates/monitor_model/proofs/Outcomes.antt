@@ -29,7 +29,7 @@ abbrev pub NoneApply : List (Bool × ℕ) → Type 0
 NoneApply [] = Unit {0}
 NoneApply (refusal ∷ refusals) = (refusal.0 ≡ false) × NoneApply refusals
 
--- what holds of each refusal and, where none applies, of what is done
+-- what holds of each refusal and, if none applies, of what is done
 pub attempt_cases : (P : State × Reply → Type 0) (m : State) (refusals : List (Bool × ℕ)) (done : State × Reply) → ((n : ℕ) → P (m, Failed n)) → (NoneApply refusals → P done) → P (attempt m refusals done)
 attempt_cases P m [] done refused passed = passed tt
 attempt_cases P m (refusal ∷ refusals) done refused passed =
@@ -40,7 +40,7 @@ attempt_cases P m (refusal ∷ refusals) done refused passed =
 
 -- WHAT A CALL DOES, once it is counted
 
--- a call, so replied, that frees no block and closes no channel
+-- a call with this reply that frees no block and closes no channel
 pub record IsMild (request : Request) (reply : Reply) : Type 0 where
   pub no_end : (channel : ℕ) → is_end channel request reply ≡ false
   pub no_close : (channel : ℕ) → is_close channel request reply ≡ false
@@ -52,14 +52,14 @@ pub data Posting (s : State) (job : ℕ) (caller : Account) (receivers : List Re
   sends : (name : List ℕ) (letter : Letter) → is_full s.receivers name ≡ false → receivers ≡ send s.receivers name letter → Posting s job caller receivers
   hands_out : receivers ≡ receive s.receivers job → Posting s job caller receivers
 
--- how who has the printer changes, and by which request
+-- how the printer's owner changes, and by which request
 pub data Printing (s : State) (job : ℕ) (request : Request) (printer : Printer) : Type 0 where
   assigns : request ≡ Assign → is_anothers s.printer job ≡ false → printer ≡ assign s.printer job → Printing s job request printer
   deassigns : request ≡ Deassign → has_printer s.printer job ≡ true → is_printing s.printer job ≡ false → printer ≡ None → Printing s job request printer
   begins : request ≡ OpenPrinter → is_anothers s.printer job ≡ false → printer ≡ open_printer s.printer job → Printing s job request printer
   finishes : request ≡ ClosePrinter → is_printing s.printer job ≡ true → printer ≡ close_printer s.printer job → Printing s job request printer
 
--- R holds of whatever the table's rows do
+-- R holds of whatever the table's entries do
 pub record Deeds (s : State) (job : ℕ) (caller : Account) (R : Request → State × Reply → Type 0) : Type 0 where
   pub idle : (request : Request) (reply : Reply) → IsMild request reply → is_finish request reply ≡ false → ((n : ℕ) → reply ≢ Failed n) → R request (s, reply)
   pub posts : (request : Request) (reply : Reply) → IsMild request reply → is_finish request reply ≡ false → ((n : ℕ) → reply ≢ Failed n) → (receivers : List Receiver) → Posting s job caller receivers → R request (record s { receivers = receivers }, reply)

@@ -1,4 +1,4 @@
--- How many blocks the files of an owner have, behind each change of the list of files.
+-- How many blocks the files of an owner have after each change of the list of files.
 use Rattle.std.proofs.Common.{◌≡◌, ◌+◌, ◌≤◌, true, false, cond, List, [], ◌∷◌, sym, ap, subst, arith, Some}
 use Rattle.monitor_calls.specs.declared.names.Account.{Account}
 use Rattle.monitor_calls.specs.declared.files.FileName.{FileName}

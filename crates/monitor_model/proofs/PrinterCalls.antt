@@ -1,4 +1,4 @@
--- What one call does to the printer, and what a call on it tells that was done.
+-- What one call does to the printer, and what follows from a successful call.
 use Rattle.std.proofs.Common.{◌≡◌, ◌≢◌, ℕ, true, false, List, refl, sym, ap, ◌∙◌, subst, inl, inr, ◌⊎◌, None}
 use Rattle.std.specs.Prelude.{◌==◌, ◌&&◌}
 use Rattle.std.proofs.lemmas.Bool.{true≢false, not-false, and_parts, eqb-true}
@@ -24,7 +24,7 @@ use Rattle.monitor_model.proofs.PrinterLemmas.{self, prints_has, has_not, one_ha
 pub data Turn (m : State) (job : ℕ) (request : Request) (answer : Reply) (printer : Printer) : Type 0 where
   -- it leaves the printer, since the job is not logged in
   visits : account_of m.jobs job ≡ None → printer ≡ m.printer → Turn m job request answer printer
-  -- it leaves it, and ends no listing
+  -- it leaves it, and ends no print job
   stays : is_finish request answer ≡ false → printer ≡ m.printer → Turn m job request answer printer
   -- it changes it
   changes : answer ≡ Done → Printing (counted m job) job request printer → Turn m job request answer printer
@@ -39,7 +39,7 @@ module _ (m : State) (job : ℕ) where
   expired_finishes Logout = refl
   expired_finishes request = refl
 
-  -- a refusal ends no listing
+  -- a refusal ends no print job
   refused_goes : (request : Request) (n : ℕ) → is_end 0 request (Failed n) ≡ false → is_finish request (Failed n) ≡ false
   refused_goes Logout n e = absurd (cc)
   refused_goes request n e = refl
@@ -69,10 +69,10 @@ module _ (m : State) (job : ℕ) where
     }) (λ request n mild. stays (refused_goes request n (mild.no_end 0)) refl);
   }
 
-  -- WHO PRINTS BEHIND IT
+  -- WHO PRINTS AFTER IT
 
   module _ (k : ℕ) (request : Request) where
-    -- who printed, unless the call ended its listing
+    -- who printed, unless the call ended its print job
     on_changed : (printer : Printer) → Printing (counted m job) job request printer → is_printing m.printer k ≡ true → (job ≡ k → is_finish request Done ≡ false) → is_printing printer k ≡ true
     on_changed printer (assigns asked other is) prints goes =
         let same = none_else m.printer job k other prints in
@@ -95,7 +95,7 @@ module _ (m : State) (job : ℕ) where
     goes_on_turn answer printer (leaves ends same) prints goes =
         ap (λ p. is_printing p k) same ∙ prints_on m.printer job k (λ own. true≢false (sym ends ∙ goes own)) prints
 
-    -- and nobody else, but for the job that began a listing
+    -- and nobody else, except the job that began a print job
     from_changed : (printer : Printer) → Printing (counted m job) job request printer → is_printing printer k ≡ true → (is_printing m.printer k ≡ true) ⊎ ((job ≡ k) × (request ≡ OpenPrinter))
     from_changed printer (assigns asked other is) prints =
         let parts = and_parts (job == k) (is_printing m.printer job) (sym (ap (λ p. is_printing p k) is) ∙ prints) in
@@ -118,7 +118,7 @@ module _ (m : State) (job : ℕ) where
     from_turn answer printer (leaves ends same) prints =
         inl (printed_before m.printer job k (sym (ap (λ p. is_printing p k) same) ∙ prints))
 
-  -- what ends a listing leaves the job none
+  -- what ends a print job leaves the job none
   stopped_changed : (request : Request) (printer : Printer) → Printing (counted m job) job request printer → is_finish request Done ≡ true → is_printing printer job ≡ false
   stopped_changed request printer (assigns asked other is) ends =
       absurd (true≢false (sym ends ∙ ap (λ q. is_finish q Done) asked))
@@ -138,7 +138,7 @@ module _ (m : State) (job : ℕ) where
   stopped_turn g request answer printer (leaves ended same) ends =
       ap (λ p. is_printing p job) same ∙ has_not (free_printer m.printer job) job (freed m.printer job)
 
-  -- WHAT A CALL TELLS THAT WAS DONE: it passed the refusals of its row
+  -- WHAT FOLLOWS FROM A SUCCESSFUL CALL: it passed the refusal tests of its table entry
 
   module _ (asked : Request) (P : State → Type 0) where
     abbrev WhereDone : Request → State × Reply → Type 0

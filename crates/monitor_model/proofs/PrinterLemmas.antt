@@ -1,4 +1,4 @@
--- Who has the printer, and who prints, behind each change of it.
+-- Who has the printer, and who prints, after each change of it.
 use Rattle.std.proofs.Common.{◌≡◌, ◌≢◌, ℕ, ◌==◌, true, false, cond, refl, sym, ◌∙◌, Some, None, eq-eqb}
 use Rattle.std.specs.Prelude.{◌&&◌}
 use Rattle.std.proofs.lemmas.Bool.{true≢false, not-false, and_parts, eqb-true}
@@ -10,7 +10,7 @@ self job = eq-eqb job job refl
 
 -- WHO HAS IT
 
--- who prints has it
+-- a job that prints has it
 pub prints_has : (printer : Printer) (job : ℕ) → is_printing printer job ≡ true → has_printer printer job ≡ true
 prints_has None job prints = absurd (cc)
 prints_has (Some at) job prints = (and_parts (at.job == job) at.printing prints).0
@@ -25,12 +25,12 @@ one_has None job k own prints = absurd (cc)
 one_has (Some at) job k own prints =
     sym (eqb-true at.job job own) ∙ eqb-true at.job k (prints_has (Some at) k prints)
 
--- where no other job has it than this one, no other prints
+-- if no other job than this one has it, no other prints
 pub none_else : (printer : Printer) (job k : ℕ) → is_anothers printer job ≡ false → is_printing printer k ≡ true → job ≡ k
 none_else None job k own prints = absurd (cc)
 none_else (Some at) job k own prints = one_has (Some at) job k (not-false _ own) prints
 
--- BEHIND THE END OF A JOB
+-- AFTER THE END OF A JOB
 
 -- it has the printer no longer
 pub freed : (printer : Printer) (job : ℕ) → has_printer (free_printer printer job) job ≡ false
@@ -58,7 +58,7 @@ prints_on printer job k other prints =
       | false ↦ λ not_own. prints
     ] refl
 
--- BEHIND A LISTING
+-- AFTER A PRINT JOB
 
 -- nobody prints
 pub nobody_prints : (printer : Printer) (job k : ℕ) → is_printing (close_printer printer job) k ≡ false

@@ -1,4 +1,4 @@
--- The printer, worked out: who gets it, and what of a history its listings are.
+-- The printer, computed on examples: who gets it, and which print jobs a history has.
 use Rattle.std.proofs.Common.{◌≡◌, ℕ, List, [], ◌∷◌, replicate, refl, None}
 use Rattle.std.specs.Prelude.{codes}
 use Rattle.monitor_calls.specs.declared.calls.Entry.{Entry}
@@ -25,19 +25,19 @@ one_after_the_other : replies start ((0, Login owner (codes "DEMO")) ∷ (1, Log
 unfolding account_of calls_of log_in count
 one_after_the_other = refl
 
--- each refusal of the rows
+-- each refusal of the table entries
 refused : replies start ((0, Login owner (codes "DEMO")) ∷ (1, Login fellow (codes "DEMO")) ∷ (0, Deassign) ∷ (0, Print []) ∷ (0, ClosePrinter) ∷ (0, OpenPrinter) ∷ (0, Deassign) ∷ (0, Print (replicate 512 1)) ∷ (0, Print (replicate 513 1)) ∷ (1, Assign) ∷ (1, OpenPrinter) ∷ (1, Deassign) ∷ (1, Print []) ∷ (1, ClosePrinter) ∷ []) ≡
     Done ∷ Done ∷ Failed 9 ∷ Failed 9 ∷ Failed 9 ∷ Done ∷ Failed 3 ∷ Done ∷ Failed 31 ∷ Failed 8 ∷ Failed 8 ∷ Failed 9 ∷ Failed 9 ∷ Failed 9 ∷ []
 unfolding account_of calls_of log_in count
 refused = refl
 
--- a listing leaves it free
+-- a print job leaves it free
 free_behind_a_listing : replies start ((0, Login owner (codes "DEMO")) ∷ (1, Login fellow (codes "DEMO")) ∷ (0, OpenPrinter) ∷ (0, ClosePrinter) ∷ (1, Assign) ∷ []) ≡
     Done ∷ Done ∷ Done ∷ Done ∷ Done ∷ []
 unfolding account_of calls_of log_in count
 free_behind_a_listing = refl
 
--- where it is assigned, whether before or during the listing, it stays so until the end of its job
+-- if it is assigned, before or during the print job, it stays so until the end of its job
 assigned_behind_a_listing : replies start ((0, Login owner (codes "DEMO")) ∷ (1, Login fellow (codes "DEMO")) ∷ (0, OpenPrinter) ∷ (0, Assign) ∷ (0, ClosePrinter) ∷ (1, Assign) ∷ (0, Logout) ∷ (1, Assign) ∷ []) ≡
     Done ∷ Done ∷ Done ∷ Done ∷ Done ∷ Failed 8 ∷ Done ∷ Done ∷ []
 unfolding account_of calls_of log_in count end_job
@@ -49,12 +49,13 @@ free_behind_the_last_call : replies (record start { accounts = entry_with owner 
 unfolding account_of calls_of log_in count end_job
 free_behind_the_last_call = refl
 
--- LISTINGS
+-- PRINT JOBS
 
 abbrev line : List ℕ → Request
 line text = Print text
 
--- two listings of one job, and one of another; what was refused is no part of them, and the last goes on
+-- two print jobs of one job, and one of another; what was refused is no part of them, and the last
+-- goes on
 abbrev history : List Entry
 history =
     entry_for 0 OpenPrinter Done
@@ -81,6 +82,6 @@ all_printed = refl
 all_joined : joined (listings history) ≡ codes "ABDE"
 all_joined = refl
 
--- an empty listing is one; Expired ends one
+-- an empty print job counts as one; Expired ends one
 empty_listings : listings (entry_for 0 OpenPrinter Done ∷ entry_for 0 Tick Expired ∷ entry_for 1 OpenPrinter Done ∷ []) ≡ (0, []) ∷ (1, []) ∷ []
 empty_listings = refl

@@ -1,4 +1,4 @@
--- Quotas, worked out: on a disk of 8 blocks, and by whose quota a file grows.
+-- Quotas, computed on examples: on a disk of 8 blocks, and which owner's quota limits a file.
 use Rattle.std.proofs.Common.{◌≡◌, ℕ, true, false, List, [], ◌∷◌, replicate, refl, Some, None}
 use Rattle.std.specs.Prelude.{codes}
 use Rattle.std.specs.FinMap.{empty}
@@ -35,7 +35,7 @@ file_past_quota : is_good_volume 8 (entry_of_quota owner 1 ∷ []) (one_file 2) 
 unfolding same_name
 file_past_quota = refl
 
--- another account's quota is nothing to it
+-- another account's quota does not matter to it
 others_quota : is_good_volume 8 (entry_of_quota fellow 0 ∷ entry_of_quota owner 2 ∷ []) (one_file 2) ≡ true
 unfolding same_name
 others_quota = refl
@@ -46,7 +46,7 @@ greatest_quota = refl
 quota_past_any_disk : is_good_entry (entry_of_quota owner 16385) ≡ false
 quota_past_any_disk = refl
 
--- WRITINGS. The owner's quota is 1 block, and the caller's is the second number
+-- WRITES. The owner's quota is 1 block, and the caller's is the second number
 
 abbrev quota_1 : Account → ℕ → HoldMap → List (List ℕ) → ℕ → State
 quota_1 caller quota holds pages calls =
@@ -74,12 +74,13 @@ seven_are_free = refl
 none_is_left : left_to (by_owner (release empty 0 1) (block 2 ∷ []) 2) owner ≡ 0
 none_is_left = refl
 
--- a record is refused whole
+-- all of a record is refused
 writes_no_record : answer (by_owner empty (block 1 ∷ []) 0) 0 (PutRecord 1 1 (block 2 ∷ block 3 ∷ [])) ≡ (by_owner empty (block 1 ∷ []) 1, Failed 4)
 unfolding same_name account_of calls_of channel_of count
 writes_no_record = simp (holder-empty) refl
 
--- by a stranger, who has no quota at all: the file is made anew, and grows by its owner's
+-- by another account, which has no quota at all: the file is made anew, and its owner's quota
+-- limits it
 abbrev by_stranger : HoldMap → List (List ℕ) → ℕ → State
 by_stranger = quota_1 operator 0
 

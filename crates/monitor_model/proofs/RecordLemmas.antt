@@ -1,4 +1,5 @@
--- Records of several blocks: which pages a reading gives, whether one of so many blocks is held, and that a file which has room for its last page has room for those in front of it.
+-- Records of several blocks: the pages that a read returns, and whether one of several blocks is
+-- held. A file that has space for its last page has space for the pages before it.
 use Rattle.std.proofs.Common.{◌≡◌, ℕ, ◌+◌, ◌-◌, ◌<◌, ◌≤◌, true, false, List, [], ◌∷◌, length, take, drop, slice_get, zero, suc, get_or, refl, sym, ap, ◌∙◌, subst, arith, Some, None}
 use Rattle.std.specs.Prelude.{Option, ◌==◌, nat_lt, is_some, unwrap_or}
 use Rattle.std.proofs.Math.Nat.{min-le_left, min-le_right, le-min}
@@ -27,13 +28,13 @@ record_few count e = grind (arith, nat_tests)
 pub record_some : (count : ℕ) → is_record count ≡ true → 1 ≤ count
 record_some count e = grind (arith, nat_tests)
 
--- A CUT OF A LIST: so many elements behind the first k
+-- A SLICE OF A LIST: a number of elements after the first k
 
 module _ {X : Type 0} (n k : ℕ) (xs : List X) where
   cut_few : length (take n (drop k xs)) ≤ n
   cut_few = omega (arith, length-take n (drop k xs), min-le_left n (length (drop k xs)))
 
-  -- what stands at a place of it stands in the list, k places further on
+  -- an element of it is in the list, k places further on
   cut_at : (i : ℕ) (x : X) → slice_get (take n (drop k xs)) i ≡ Some x → slice_get xs (k + i) ≡ Some x
   cut_at i x e =
       let inside = slice_get_within (take n (drop k xs)) i x e in
@@ -42,7 +43,7 @@ module _ {X : Type 0} (n k : ℕ) (xs : List X) where
       slice_get_read xs (length xs) (k + i) x refl there
       (sym (get_or_from_slice_get (take n (drop k xs)) i x x e) ∙ get_or-take n (drop k xs) i x few ∙ get_or-drop k xs i x)
 
-  -- it reaches as far as the list does
+  -- it ends where the list ends
   cut_reaches : (i : ℕ) → i < n → k + i < length xs → i < length (take n (drop k xs))
   cut_reaches i few there =
       let both = le-min {k = suc i} {a = n} {b = length (drop k xs)} (omega (arith, few)) (omega (arith, there, length-drop k xs)) in
@@ -62,7 +63,7 @@ page_in file first count (suc k) page some lo e =
     let place : (first - 1) + (suc k - first) ≡ k = omega (arith, some, lo) in
     subst (λ n. slice_get file.pages n ≡ Some page) place (cut_at count (first - 1) file.pages (suc k - first) page e)
 
--- a block of a file is one from 1
+-- the blocks of a file count from 1
 pub block_above : (file : File) (block : ℕ) → is_some (page_of file block) ≡ true → 1 ≤ block
 block_above file zero e = absurd (cc)
 block_above file (suc k) e = omega arith
@@ -73,7 +74,7 @@ block_within file k there = by_look (slice_get file.pages k) refl there where
   by_look None is some = absurd (cc)
   by_look (Some page) is some = slice_get_within file.pages k page is
 
--- a block that is asked and is there is read
+-- a block that is asked for and exists is read
 pub among_read : (file : File) (first count block : ℕ) → 1 ≤ first → first ≤ block → block < first + count → is_some (page_of file block) ≡ true → block < first + length (pages_of file first count)
 unfolding pages_of
 among_read file first count zero some lo hi there = absurd (cc)
@@ -82,7 +83,7 @@ among_read file first count (suc k) some lo hi there =
     let reached = cut_reaches count (first - 1) file.pages (suc k - first) (omega (arith, lo, hi)) (omega (arith, some, lo, within)) in
     omega (arith, lo, reached)
 
--- of so many pages from a block on, each block has one, and no other block has
+-- if pages are written from a block on, each of these blocks has one, and no other block has
 pub page_among : (pages : List (List ℕ)) (first block : ℕ) → first ≤ block → block < first + length pages → (page : List ℕ) × (slice_get pages (block - first) ≡ Some page)
 page_among pages first block lo hi =
     (get_or pages (block - first) [], slice_get-get_or pages (block - first) [] (omega (arith, lo, hi)))
@@ -94,7 +95,7 @@ among_page pages first block page lo e =
 -- WHICH BLOCKS ARE HELD
 
 module _ (holds : HoldMap) (job channel : ℕ) (name : FileName) where
-  -- where none of so many is held, each is free
+  -- if none of these blocks is held, each is free
   pub none_held : (count first block : ℕ) → any_held holds job channel name first count ≡ false → first ≤ block → block < first + count → is_held holds job channel name block ≡ false
   none_held zero first block none lo hi = absurd (omega (arith, lo, hi))
   none_held (suc n) first block none lo hi =
@@ -103,13 +104,13 @@ module _ (holds : HoldMap) (job channel : ℕ) (name : FileName) where
       (λ later. none_held n (suc first) block parts.1 (omega (arith, later)) (omega (arith, hi)))
       (λ here. let same : first ≡ block = omega (arith, lo, here) in subst (λ b. is_held holds job channel name b ≡ false) same parts.0)
 
-  -- where one is held, one of so many is
+  -- if one is held, one of these blocks is
   pub some_held : (count first block : ℕ) → first ≤ block → block < first + count → is_held holds job channel name block ≡ true → any_held holds job channel name first count ≡ true
   some_held count first block lo hi held =
       by_test (any_held holds job channel name first count) (λ is. is)
       (λ none. absurd (true≢false (sym held ∙ none_held count first block none lo hi)))
 
-  -- and where one of so many is held, here is one
+  -- and if one of them is held, here is one
   pub one_held : (count first : ℕ) → any_held holds job channel name first count ≡ true → (block : ℕ) × ((first ≤ block) × ((block < first + count) × (is_held holds job channel name block ≡ true)))
   one_held zero first held = absurd (cc)
   one_held (suc n) first held =
@@ -126,7 +127,7 @@ module _ (name : FileName) where
   is_file-put_all (page ∷ pages) files first other =
       is_file-put (put_all files name (suc first) pages) name first page other ∙ is_file-put_all pages files (suc first) other
 
-  -- where there is no such file, nothing changes
+  -- if there is no such file, nothing changes
   pub put_all_none : (pages : List (List ℕ)) (files : List File) (first : ℕ) → file_at files name ≡ None → put_all files name first pages ≡ files
   put_all_none [] files first none = refl
   put_all_none (page ∷ pages) files first none =
@@ -142,9 +143,9 @@ module _ (name : FileName) where
       let grown : size_at (put files name block page) name ≡ size old + (block - size old) = ap size found ∙ size-written old block page in
       omega (arith, grown)
 
--- ROOM
+-- SPACE
 
--- so many blocks more are free, and the quota of the owner leaves them
+-- this many blocks more are free, and within the quota of the owner
 abbrev pub IsRoomFor : State → FileName → ℕ → Type 0
 IsRoomFor s name last =
     (last - size_at s.files name ≤ free s) × (last - size_at s.files name ≤ left_to s name.owner)
@@ -161,7 +162,8 @@ module _ (s : State) (name : FileName) (last : ℕ) where
       let wanted = last - size_at s.files name in
       or_from (nat_lt (free s) wanted) (nat_lt (left_to s name.owner) wanted) (le-ltb (free s) wanted room.0) (le-ltb (left_to s name.owner) wanted room.1)
 
--- a file that has got its last page has room for the page in front: nothing more is wanted; and no file wants nothing
+-- a file that has its last page has space for the page before it: it needs no more blocks; and no
+-- file needs none
 pub room_before : (s : State) (name : FileName) (first : ℕ) (page : List ℕ) (pages : List (List ℕ)) → lacks_room s name (suc first + length (page ∷ pages) - 1) ≡ false → lacks_room (record s { files = put_all s.files name (suc first) (page ∷ pages) }) name first ≡ false
 room_before s name first page pages e =
     let behind = put_all s.files name (suc first) (page ∷ pages) in
@@ -183,6 +185,6 @@ room_before s name first page pages e =
       less : (n f more : ℕ) → suc first + suc more - 1 - n ≤ f → first - n ≤ f
       less n f more le = omega (arith, le)
 
--- where no more than the quota is used, more is wanted than it leaves exactly where the sum would pass it
+-- if the quota is not exceeded, a file needs more than it leaves exactly if the sum would exceed it
 pub passes_quota : (quota used wanted : ℕ) → used ≤ quota → nat_lt (quota - used) wanted ≡ nat_lt quota (used + wanted)
 passes_quota quota used wanted le = grind (arith, nat_tests)

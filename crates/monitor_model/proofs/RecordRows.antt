@@ -1,4 +1,5 @@
--- Records of several blocks, worked out: a file of 4 blocks, and two channels that are open on it for update.
+-- Records of several blocks, computed on examples: a file of 4 blocks, and two channels that are
+-- open on it for update.
 use Rattle.std.proofs.Common.{◌≡◌, ℕ, List, [], ◌∷◌, refl, Some, None}
 use Rattle.std.specs.FinMap.{empty}
 use Rattle.monitor_calls.specs.declared.calls.Request.TheVariants.{GetRecord, PutRecord, Unlock}
@@ -21,7 +22,7 @@ open_on holds calls = both_open holds whole calls
 
 -- ONE AGAINST THE OTHER
 
--- what is held behind the first reading, that of the last block, the Unlock, and the reading behind it
+-- what is held after the first read, that of the last block, the Unlock, and the next read
 abbrev first_two : HoldMap
 first_two = hold empty 0 1 name 1 2
 
@@ -39,7 +40,7 @@ reads_two : answer (open_on empty 0) 0 (GetRecord 1 1 2) ≡ (open_on first_two 
 unfolding same_name account_of calls_of channel_of count pages_of
 reads_two = simp (holder-empty) refl
 
--- where one of the blocks is held by the other, none is held
+-- if the other channel holds one of the blocks, none is held
 holds_none : answer (open_on first_two 1) 0 (GetRecord 2 2 2) ≡ (open_on first_two 2, Failed 19)
 unfolding same_name account_of calls_of channel_of count pages_of
 holds_none = simp (holder-insert) refl
@@ -49,7 +50,7 @@ reads_the_last : answer (open_on first_two 2) 0 (GetRecord 2 4 2) ≡ (open_on a
 unfolding same_name account_of calls_of channel_of count pages_of
 reads_the_last = simp (holder-insert, holder-release, holder-empty) refl
 
--- a writing that is refused keeps what its channel held
+-- a write that is refused keeps what its channel held
 writes_none : answer (open_on and_last 3) 0 (PutRecord 1 3 (block 5 ∷ block 6 ∷ [])) ≡ (open_on and_last 4, Failed 19)
 unfolding same_name account_of calls_of channel_of count pages_of
 writes_none = simp (holder-insert, holder-release, holder-empty) refl
@@ -58,7 +59,7 @@ lets_go : answer (open_on and_last 4) 0 (Unlock 1) ≡ (open_on last_alone 5, Do
 unfolding same_name account_of calls_of channel_of count
 lets_go = refl
 
--- a reading lets go of what its channel held
+-- a read releases what its channel held
 reads_the_middle : answer (open_on last_alone 5) 0 (GetRecord 2 2 2) ≡ (open_on middle_two 6, Record (block 2 ∷ block 3 ∷ []))
 unfolding same_name account_of calls_of channel_of count pages_of
 reads_the_middle = simp (holder-insert, holder-release, holder-empty) refl
@@ -90,9 +91,9 @@ fourth_is_free : holder middle_two name 4 ≡ None
 unfolding same_name
 fourth_is_free = simp (holder-insert, holder-release, holder-empty) refl
 
--- REFUSALS, in the order of the row
+-- REFUSALS, in the order of the table entry
 
--- what is no record, before a block that is not there
+-- a bad record size comes before a block that does not exist
 too_many_asked : answer (open_on empty 0) 0 (GetRecord 1 0 4) ≡ (open_on empty 1, Failed 31)
 unfolding same_name account_of calls_of channel_of count pages_of
 too_many_asked = refl
@@ -135,7 +136,7 @@ grows : answer (open_on empty 0) 0 (PutRecord 1 6 (block 6 ∷ block 7 ∷ [])) 
 unfolding same_name account_of calls_of channel_of count written
 grows = simp (holder-empty) refl
 
--- or not at all, where the disk has room for its first page alone
+-- or not at all, if the disk has space for its first page alone
 grows_not : answer (record (open_on empty 0) { blocks = 6 }) 0 (PutRecord 1 6 (block 6 ∷ block 7 ∷ [])) ≡ (record (open_on empty 1) { blocks = 6 }, Failed 4)
 unfolding same_name account_of calls_of channel_of count
 grows_not = simp (holder-empty) refl

@@ -1,4 +1,4 @@
--- A call is refused by its row: by a number exactly where the first test that holds has it.
+-- The table entry of a call decides its refusal: the number is that of the first test that holds.
 use Rattle.std.proofs.Common.{◌≡◌, ◌≢◌, ℕ, ◌==◌, Bool, true, false, cond, List, [], ◌∷◌, ◌++◌, refl, sym, ap, ◌∙◌, subst, Some}
 use Rattle.std.specs.Prelude.{◌||◌}
 use Rattle.std.proofs.lemmas.Bool.{eqb-false, or_parts}
@@ -16,7 +16,7 @@ use Rattle.monitor_model.specs.History.{entry_for, IsAnswered}
 use Rattle.monitor_model.specs.Rights.{IsRefusedWith}
 use Rattle.monitor_model.proofs.Outcomes.{NoneApply, done_is, answer_outcomes}
 
--- ONE ROW
+-- ONE TABLE ENTRY
 
 pub fails : (n : ℕ) (m : State) (tests : List (Bool × ℕ)) (done : State × Reply) → refusal tests ≡ Some n → (attempt m tests done).1 ≡ Failed n
 fails n m [] done e = absurd (cc)
@@ -34,7 +34,7 @@ failed n m (test ∷ tests) done other e =
       | false ↦ λ is e. failed n m tests done (λ rest. other (is, rest)) e
     ] refl e
 
--- the first test that holds behind others that do not
+-- the first test that holds, after others that do not
 pub first_held : (tests rest : List (Bool × ℕ)) (test : Bool) (k : ℕ) → NoneApply tests → test ≡ true → refusal (tests ++ (test, k) ∷ rest) ≡ Some k
 first_held [] rest test k none is = ap (λ b. cond b (Some k) (refusal rest)) is
 first_held (other ∷ tests) rest test k none is =
@@ -99,7 +99,7 @@ done_is_none s job caller n =
 abbrev RefusedBy : ℕ → State → ℕ → Request → State × Reply → Type 0
 RefusedBy n m job request out = out.1 ≡ Failed n → IsRefusedWith n m (entry_for job request out.1)
 
--- a refusal by a number other than 5 comes by the row
+-- a refusal with a number other than 5 comes from the table entry
 pub by_row : (n : ℕ) (m : State) (entry : Entry) → (5 == n) ≡ false → IsAnswered m entry → entry.reply ≡ Failed n → IsRefusedWith n m entry
 by_row n m entry other answered is =
     subst (λ r. IsRefusedWith n m (entry_for entry.job entry.request r)) (sym answered.reply_is)
@@ -132,7 +132,7 @@ last_expires m entry caller answered some stays last =
     answered_by m entry caller answered some stays
     ∙ ap (λ b. (cond b (ended m entry.job, Expired) (answer_table (counted m entry.job) entry.job caller entry.request)).1) last
 
--- a refusal comes where the row gives it
+-- a refusal comes exactly if the table entry gives it
 pub row_gives : (n : ℕ) (m : State) (entry : Entry) → IsAnswered m entry → IsRefusedWith n m entry → entry.reply ≡ Failed n
 row_gives n m entry answered r =
     let s = counted m entry.job in

@@ -25,7 +25,7 @@ use Rattle.monitor_model.proofs.Moves.{answer_keeps}
 use Rattle.monitor_model.proofs.Holding.{covers}
 use Rattle.monitor_model.proofs.Histories.{after-append, legal_rest}
 
--- THE READING THAT BEGINS IT
+-- THE READ THAT BEGINS IT
 
 -- what is known of a call by which a page was read, in the state s that has counted it
 record IsGot (s : State) (job channel block : ℕ) (page : List ℕ) (new : State) : Type 0 where
@@ -37,7 +37,7 @@ record IsGot (s : State) (job channel block : ℕ) (page : List ℕ) (new : Stat
   page_is : page_at s.files (the_channel s.jobs job channel).name block ≡ Some page
   new_is : new ≡ got s job channel first count
 
--- a reading ends what the channel held
+-- a read ends what the channel held
 reads_end : (request : Request) (answer : Reply) (channel block : ℕ) (page : List ℕ) → Reads request answer channel block page → is_end channel request answer ≡ true
 reads_end (Get at first) (Block read) channel block page r = eq-eqb at channel r.0
 reads_end (GetRecord at first count) (Record pages) channel block page r = eq-eqb at channel r.0
@@ -118,14 +118,14 @@ module _ (m : State) (job : ℕ) where
     }) (λ request n mild. by_mild request _ mild);
   }
 
-  -- a reading goes through a channel that is open
+  -- a read goes through a channel that is open
   pub reading_is_open : (request : Request) (channel block : ℕ) (page : List ℕ) → Reads request (reply m job request) channel block page → (entry : ChannelEntry) × (channel_of m.jobs job channel ≡ Some entry)
   reading_is_open request channel block page r =
       let g : IsGot (counted m job) job channel block page (next m job request) = answer_outcomes m job Got get_outcomes request channel block page r in
       let s = counted m job in
       (the_channel s.jobs job channel, sym (channel_of-count m.jobs job job channel) ∙ some_of (channel_of s.jobs job channel) closed g.is_open)
 
-  -- behind a reading through a channel for update, the channel holds the block
+  -- after a read through a channel for update, the channel holds the block
   holding_from_reading : (request : Request) (channel block : ℕ) (page : List ℕ) (entry : ChannelEntry) (name : FileName) → channel_of m.jobs job channel ≡ Some entry → entry.name ≡ name → entry.update ≡ true → Reads request (reply m job request) channel block page → IsHolding (next m job request) job channel name block page
   holding_from_reading request channel block page entry name is_open on update r =
       let g : IsGot (counted m job) job channel block page (next m job request) = answer_outcomes m job Got get_outcomes request channel block page r in
@@ -149,7 +149,7 @@ module _ (m : State) (job : ℕ) where
 
 -- FROM CALL TO CALL
 
--- what a channel holds, it holds behind a call that does not free it
+-- what a channel holds, it still holds after a call that does not free it
 pub held_after : (m : State) (job : ℕ) (request : Request) (k d : ℕ) (name : FileName) (block : ℕ) (page : List ℕ) → (k ≡ job → is_end d request (reply m job request) ≡ false) → IsHolding m k d name block page → IsHolding (next m job request) k d name block page
 held_after m job request k d name block page stays h =
     let F : ℕ → Type 0 = λ c. is_end c request (reply m job request) ≡ true in

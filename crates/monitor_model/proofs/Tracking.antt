@@ -1,4 +1,4 @@
--- Each block that is held lies in a span of the channel that holds it.
+-- Each block that is held is in a span of the channel that holds it.
 use Rattle.std.proofs.Common.{◌≡◌, ◌≢◌, ℕ, true, false, cond, List, [], ◌∷◌, ◌++◌, length, refl, sym, ap, ◌∙◌, subst, arith, inl, inr, ◌⊎◌, Some, None}
 use Rattle.std.specs.FinMap.{empty}
 use Rattle.std.proofs.lemmas.Bool.{true≢false, ne_eqb}
@@ -38,12 +38,12 @@ record IsFresh (m : State) (job : ℕ) (request : Request) (answer : Reply) (nam
   on : entry.name ≡ name
   update : entry.update ≡ true
 
--- who has no account has no channel
+-- a job that has no account has no channel
 pub closed_visitor : (m : State) → Good m → (job : ℕ) → account_of m.jobs job ≡ None → (channel : ℕ) → channel_of m.jobs job channel ≡ None
 closed_visitor m g job none channel = closed_nobody m.jobs job (g.jobs.visitors job none) channel
 
 module _ (m : State) (g : Good m) (job : ℕ) where
-  -- what is held behind the call was held before and is not freed by it, or the call took it
+  -- what is held after the call was held before and is not freed by it, or the call took it
   abbrev From : Request → HoldMap → Reply → Type 0
   From request holds answer =
       (name : FileName) (block k d : ℕ) → holder holds name block ≡ Some (k, d) → ((holder m.holds name block ≡ Some (k, d)) × (k ≡ job → is_end d request answer ≡ false)) ⊎ IsFresh m job request answer name block k d
@@ -70,7 +70,7 @@ module _ (m : State) (g : Good m) (job : ℕ) where
       let was = holder_was-release_job m.holds job name block k d is in
       inl (was.0, λ same. absurd (was.1 same))
 
-  -- a reading of so many blocks
+  -- a read of several blocks
   read_traced : (request : Request) (answer : Reply) (channel first count : ℕ) → is_open (counted m job).jobs job channel ≡ true → ((d : ℕ) → channel ≢ d → is_end d request answer ≡ false) → ((block : ℕ) → IsAmong first count block → (page : List ℕ) × Reads request answer channel block page) → Traced request (got (counted m job) job channel first count, answer)
   read_traced request answer channel first count is ends reads =
       let s = counted m job in
@@ -132,7 +132,7 @@ module _ (m : State) (g : Good m) (job : ℕ) where
 
 -- ALL CALLS
 
--- each block that is held behind the history lies in a span of its channel
+-- each block that is held after the history is in a span of its channel
 abbrev pub AllTracked : State → List Entry → Type 0
 AllTracked m past =
     (name : FileName) (block k d : ℕ) → holder (after m past).holds name block ≡ Some (k, d) → (page : List ℕ) × InSpan m past k d name block page

@@ -1,4 +1,4 @@
--- A call of the table in a state and in its twin, where it is made through no channel on the names.
+-- A call of the table in a state and in its twin, if it is made through no channel on the names.
 use Rattle.std.proofs.Common.{◌≡◌, ◌≢◌, ℕ, ◌≤◌, ◌+◌, ◌-◌, Bool, true, false, cond, List, [], ◌∷◌, ◌++◌, length, refl, sym, ap, ◌∙◌, subst, arith}
 use Rattle.std.specs.Prelude.{not, ◌&&◌, ◌||◌, ◌==◌, nat_le, nat_lt}
 use Rattle.std.proofs.lemmas.Bool.{not-false}
@@ -66,7 +66,7 @@ module _ (names : List FileName) (s : State) (gs : List File) (alike : Alike nam
       subst (λ b. Parallel (cond (is_file s.files name) (to_open_there kind s caller name) (to_open_new kind s caller name)) (cond b (to_open_there kind t caller name) (to_open_new kind t caller name))) (sym (alike-is_file names s.files gs name alike))
       (elim (is_file s.files name) as (λ v. Parallel (cond v (to_open_there kind s caller name) (to_open_new kind s caller name)) (cond v (to_open_there kind t caller name) (to_open_new kind t caller name))) [ true ↦ there_parallel kind name | false ↦ new_parallel kind name ])
 
-  -- a writing that has room has room in the twin, where there is more
+  -- a write that has space has space in the twin, which has more
   room : (name : FileName) (last : ℕ) → has_name names name ≡ false → lacks_room s name last ≡ false → lacks_room t name last ≡ false
   room name last out e =
       let enough = room_there s name last e in
@@ -76,7 +76,7 @@ module _ (names : List FileName) (s : State) (gs : List File) (alike : Alike nam
         at_most : (w f g v : ℕ) → w ≤ f → f ≤ g → v ≡ w → v ≤ g
         at_most w f g v p q e = omega arith
 
-  -- the tests of a reading and of a writing that name no block of the file
+  -- the tests of a read and of a write that name no block of the file
   abbrev reading : ℕ → List (Bool × ℕ)
   reading channel =
       (nat_lt 12 channel, 46) ∷ (not (is_open s.jobs job channel), 9) ∷ (not (the_channel s.jobs job channel).read, 10) ∷ []
@@ -85,7 +85,7 @@ module _ (names : List FileName) (s : State) (gs : List File) (alike : Alike nam
   writing channel wrong =
       (nat_lt 12 channel, 46) ∷ (not (is_open s.jobs job channel), 9) ∷ (not (the_channel s.jobs job channel).write, 10) ∷ (wrong, 31) ∷ []
 
-  -- a writing that is not refused by 4, its last number, has room
+  -- a write that is not refused with 4, its last number, has space
   has_room_left : (channel last : ℕ) (wrong held : Bool) (done : State × Reply) → (attempt s (writing channel wrong ++ (held, 19) ∷ (lacks_room s (the_channel s.jobs job channel).name last, 4) ∷ []) done).1 ≢ Failed 4 → NoneApply (writing channel wrong) → held ≡ false → lacks_room s (the_channel s.jobs job channel).name last ≡ false
   has_room_left channel last wrong held done has_room h free_now =
       let full : Bool = lacks_room s (the_channel s.jobs job channel).name last in

@@ -1,4 +1,5 @@
--- The smallest histories of two jobs that update one block: unsafe without update mode, safe with it.
+-- The smallest histories of two jobs that update one block: unsafe without update mode, safe with
+-- it.
 use Rattle.std.proofs.Common.{◌≡◌, ℕ, ◌<◌, suc, Bool, true, false, List, [], ◌∷◌, ◌++◌, length, drop, replicate, refl, sym, ap, ◌∙◌, subst, lit<, Some, None}
 use Rattle.std.specs.Prelude.{Option}
 use Rattle.std.specs.FinMap.{empty}

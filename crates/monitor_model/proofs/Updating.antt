@@ -36,9 +36,9 @@ use Rattle.monitor_model.proofs.SpanHolds.{held_after, span_holds}
 use Rattle.monitor_model.proofs.Tracking.{tracked}
 use Rattle.monitor_model.proofs.Writings.{put_ends, writing}
 
--- THE TWO PARTS OF A WRITING
+-- THE TWO PARTS OF A WRITE
 
--- a writing goes through a channel that is open on the file, and is one of the request
+-- a write goes through a channel that is open on the file, and its block is one of the request
 record IsWriting (m : State) (entry : Entry) (name : FileName) (block : ℕ) (page : List ℕ) : Type 0 where
   on : is_on name (channel_of m.jobs entry.job (channel_in entry.request)) ≡ true
   page_is : page_in_put entry.request entry.reply block ≡ Some page
@@ -76,7 +76,7 @@ module _ (k d : ℕ) (name : FileName) (block : ℕ) (page : List ℕ) where
         none_along entries (next m entry.job entry.request) (good_after m entry.job entry.request g) legal.1 none.1 (held_after m entry.job entry.request k d name block page stays h),
       )
 
--- the span right after the reading that began it
+-- the span right after the read that began it
 begun : {m : State} {past : List Entry} {job channel : ℕ} {name : FileName} {block : ℕ} {page : List ℕ} → (s : InSpan m past job channel name block page) → InSpan m (s.before ++ s.by ∷ []) job channel name block page
 begun s =
     record {
@@ -107,7 +107,7 @@ writes_over_what_it_read m past entry name block old new g none legal update =
 
 -- A BLOCK THAT NOBODY WRITES STAYS
 
--- so it does where a file gets another code under its own name
+-- and also if a file gets another code under its own name
 page_of-renamed : (file : File) (name : FileName) (code block : ℕ) → page_of (renamed file name code) block ≡ page_of file block
 page_of-renamed file name code zero = refl
 page_of-renamed file name code (suc block) = refl

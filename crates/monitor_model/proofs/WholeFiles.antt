@@ -1,4 +1,5 @@
--- Every answer to a proper request keeps the names, codes and pages of the files those of their types.
+-- Every answer to a proper request keeps the names, codes and pages of the files in the ranges of
+-- their types.
 use Rattle.std.proofs.Common.{◌≡◌, ℕ, ◌-◌, zero, suc, true, false, cond, List, [], ◌∷◌, ◌++◌, replicate, set, refl, lit<, Some, None}
 use Rattle.std.specs.Prelude.{Option, is_some, unwrap_or}
 use Rattle.std.specs.List.{AllByRecursion}

@@ -65,13 +65,13 @@ page_at-put_all (bytes ∷ pages) files name first block page there some above i
 
 -- THE CALL
 
--- what is known of a writing in the state s that has counted it
+-- what is known of a write in the state s that has counted it
 record IsPut (s : State) (job channel block : ℕ) (page : List ℕ) (new : State) : Type 0 where
   is_open : is_open s.jobs job channel ≡ true
   free : is_held s.holds job channel (the_channel s.jobs job channel).name block ≡ false
   page_is : is_file s.files (the_channel s.jobs job channel).name ≡ true → page_at new.files (the_channel s.jobs job channel).name block ≡ Some page
 
--- a writing releases what its channel held
+-- a write releases what its channel held
 pub put_ends : (request : Request) (answer : Reply) (block : ℕ) (page : List ℕ) → page_in_put request answer block ≡ Some page → is_end (channel_in request) request answer ≡ true
 put_ends (Put at first bytes) Done block page e = eq-eqb at at refl
 put_ends (PutRecord at first pages) Done block page e = eq-eqb at at refl
@@ -151,7 +151,7 @@ module _ (m : State) (job : ℕ) where
     }) (λ request n mild. by_mild request _ mild);
   }
 
-  -- where its channel is open on the file, no other channel holds the block, which then has the page
+  -- if its channel is open on the file, no other channel holds the block, which then has the page
   pub writing : Good m → (request : Request) (name : FileName) (block : ℕ) (page : List ℕ) → is_on name (channel_of m.jobs job (channel_in request)) ≡ true → page_in_put request (reply m job request) block ≡ Some page → (is_held m.holds job (channel_in request) name block ≡ false) × (page_at (next m job request).files name block ≡ Some page)
   writing g request name block page on e =
       let p : IsPut (counted m job) job (channel_in request) block page (next m job request) = answer_outcomes m job Written writing_outcomes request block page e in

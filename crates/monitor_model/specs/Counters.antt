@@ -13,7 +13,7 @@ use Rattle.monitor_model.specs.State.{State}
 use Rattle.monitor_model.specs.Spans.{is_end}
 use Rattle.monitor_model.specs.Updates.{page_in_put, Stays, AreSafe}
 
--- where the jobs count: the file and the block, the channel through which each job reaches it, the
+-- how the jobs count: the file and the block, the channel through which each job reaches it, the
 -- number that a page contains, and the number that comes after a number
 pub record Counting : Type 0 where
   pub name : FileName

@@ -1,4 +1,4 @@
--- Listings: what the printer printed, from the call that opened it up to what ended that.
+-- Print jobs: what the printer printed, from the call that opened it up to what ended that.
 use Rattle.std.specs.Prelude.{◌≡◌, ◌==◌, ℕ, Bool, true, false, if◌then◌else◌, List, [], ◌∷◌, ◌++◌}
 use Rattle.monitor_calls.specs.declared.calls.Entry.{Entry}
 use Rattle.monitor_calls.specs.declared.calls.Request.{Request}
@@ -8,7 +8,7 @@ use Rattle.monitor_calls.specs.declared.calls.Reply.TheVariants.{Done, Expired}
 
 -- CALLS
 
--- an OpenPrinter that was done begins a listing of its job
+-- an OpenPrinter that was done begins a print job of its job
 abbrev pub is_begin : Request → Reply → Bool
 is_begin OpenPrinter Done = true
 is_begin request reply = false
@@ -21,12 +21,12 @@ is_finish request Expired = true
 is_finish ClosePrinter Done = true
 is_finish request reply = false
 
--- the text of a Print that was done is printed, and nothing else
+-- the bytes of a Print that was done are printed, and nothing else
 abbrev pub printed_by : Request → Reply → List ℕ
 printed_by (Print text) Done = text
 printed_by request reply = []
 
--- whether a request wants the printer, and whether it wants it or prints
+-- whether a request asks for the printer, and whether it asks for it or prints
 abbrev pub wants_printer : Request → Bool
 wants_printer Assign = true
 wants_printer OpenPrinter = true
@@ -36,15 +36,16 @@ abbrev pub uses_printer : Request → Bool
 uses_printer (Print text) = true
 uses_printer request = wants_printer request
 
--- A LISTING THAT GOES ON
+-- A PRINT JOB THAT GOES ON
 
--- none of these calls ends a listing of the job
+-- none of these calls ends a print job of the job
 abbrev pub NoFinish : ℕ → List Entry → Type 0
 NoFinish job [] = Unit {0}
 NoFinish job (entry ∷ entries) =
     (entry.job ≡ job → is_finish entry.request entry.reply ≡ false) × NoFinish job entries
 
--- behind the history `past` the job prints a listing: it began one, and nothing has ended it since
+-- after the history `past` the job is printing: it began a print job, and nothing has ended that
+-- since
 pub record InListing (past : List Entry) (job : ℕ) : Type 0 where
   pub before : List Entry
   pub by : Entry
@@ -55,14 +56,14 @@ pub record InListing (past : List Entry) (job : ℕ) : Type 0 where
   pub is_done : by.reply ≡ Done
   pub no_finish : NoFinish job between
 
--- ALL LISTINGS
+-- ALL PRINT JOBS
 
 -- what is printed in a history, joined
 abbrev pub printed : List Entry → List ℕ
 printed [] = []
 printed (entry ∷ entries) = printed_by entry.request entry.reply ++ printed entries
 
--- what the job prints up to the first end of its listing, joined
+-- what the job prints up to the first end of its print job, joined
 abbrev pub listing : ℕ → List Entry → List ℕ
 listing job [] = []
 listing job (entry ∷ entries) =
@@ -72,7 +73,7 @@ listing job (entry ∷ entries) =
     else printed_by entry.request entry.reply ++ listing job entries)
     else listing job entries
 
--- the listings in the order in which they begin: the job of each, and its text
+-- the print jobs in the order in which they begin: the job of each, and its bytes
 abbrev pub listings : List Entry → List (ℕ × List ℕ)
 listings [] = []
 listings (entry ∷ entries) =
@@ -80,7 +81,7 @@ listings (entry ∷ entries) =
     then (entry.job, listing entry.job entries) ∷ listings entries
     else listings entries
 
--- their texts, joined
+-- their bytes, joined
 abbrev pub joined : List (ℕ × List ℕ) → List ℕ
 joined [] = []
 joined (first ∷ rest) = first.1 ++ joined rest

@@ -16,9 +16,9 @@ use Rattle.monitor_model.specs.Answer.{next}
 use Rattle.monitor_model.specs.History.{after}
 use Rattle.monitor_model.specs.Spans.{channel_in, InSpan}
 
--- WRITINGS
+-- WRITES
 
--- the page that a request, so replied, writes as a block of its channel's file
+-- the page that a request, with this reply, writes as a block of its channel's file
 abbrev pub page_in_put : Request → Reply → ℕ → Option (List ℕ)
 page_in_put (Put channel at page) Done block = if at == block then Some page else None
 page_in_put (PutRecord channel at pages) Done block =
@@ -41,8 +41,9 @@ NoWriting m (entry ∷ entries) name block =
 
 -- SAFE UPDATES
 
--- After the history `past` from m the entry writes the block: through a channel that was open for
--- update when it read the page `old` of the block, and no call has released the block since.
+-- After the history `past` from m the entry writes the block through a channel. The channel was
+-- open for update when it read the page `old` of the block, and no call has released the block
+-- since.
 pub record IsSafeUpdate (m : State) (past : List Entry) (entry : Entry) (name : FileName) (block : ℕ) (old new : List ℕ)
     : Type 0 where
   pub span : InSpan m past entry.job (channel_in entry.request) name block old
@@ -50,8 +51,8 @@ pub record IsSafeUpdate (m : State) (past : List Entry) (entry : Entry) (name : 
 
 -- THE CHAIN OF A BLOCK
 
--- whether a call, so replied, takes the file of this name away: it deletes the file, gives it
--- another name, or makes it anew
+-- whether a call, with this reply, takes the file of this name away: it deletes the file, renames
+-- it, or makes it anew
 abbrev pub takes_away : FileName → Request → Reply → Bool
 takes_away name (Kill gone) Done = same_name gone name
 takes_away name (Rename old new code) Done = same_name old name && not (same_name new name)
@@ -88,19 +89,19 @@ abbrev pub last_page : List ℕ → List (List ℕ × List ℕ) → List ℕ
 last_page page [] = page
 last_page page (update ∷ updates) = last_page update.1 updates
 
--- UNSAFE WRITINGS OF A HISTORY
+-- UNSAFE WRITES OF A HISTORY
 
 -- whether the entry's channel holds the block
 abbrev pub holds_block : State → Entry → FileName → ℕ → Bool
 holds_block m entry name block =
     is_channel entry.job (channel_in entry.request) (holder m.holds name block)
 
--- the numbers of so many blocks, from one on
+-- the numbers of consecutive blocks, from one on
 abbrev pub block_numbers : ℕ → List (List ℕ) → List ℕ
 block_numbers block [] = []
 block_numbers block (page ∷ pages) = block ∷ block_numbers (suc block) pages
 
--- the blocks that a request, so replied, writes
+-- the blocks that a request, with this reply, writes
 abbrev pub blocks_put : Request → Reply → List ℕ
 blocks_put (Put channel block page) Done = block ∷ []
 blocks_put (PutRecord channel block pages) Done = block_numbers block pages

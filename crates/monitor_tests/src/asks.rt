@@ -26,7 +26,7 @@ pub(crate) const STRANGER: Account = Account {
     programmer: 1,
 };
 
-/// One byte more than a message or a text that is printed may have.
+/// One byte more than a message, or a string that is printed, may have.
 const LONG: [u8; LONGEST_MESSAGE + 1] = [65; LONGEST_MESSAGE + 1];
 
 /// One of the two jobs.
@@ -86,7 +86,7 @@ pub(crate) enum Ask {
     Unlock(u8),
     Kill(Label),
     Rename(Label, Label),
-    /// The file of the owner at that index.
+    /// The file of the owner at this index.
     Listed(u16),
     /// The receiver, and how many messages it takes.
     Declare(Label, u8),
@@ -101,9 +101,9 @@ pub(crate) enum Ask {
     Assign,
     Deassign,
     OpenPrinter,
-    /// The longest text that is printed at once, of this byte.
+    /// The longest string that is printed at once, of this byte.
     Print(u8),
-    /// A text that is one byte too long.
+    /// A string that is one byte too long.
     PrintLong,
     ClosePrinter,
     Status,
@@ -129,7 +129,7 @@ fn page(alloc: Global, byte: u8) -> Result<Page, Fail> {
     Ok(page)
 }
 
-/// The request that a job makes.
+/// Returns the request that a job makes.
 pub(crate) fn request(alloc: Global, ask: Ask) -> Result<Request, Fail> {
     match ask {
         Ask::Login(account) => login(account, b"DEMO"),
@@ -148,7 +148,7 @@ pub(crate) fn request(alloc: Global, ask: Ask) -> Result<Request, Fail> {
     }
 }
 
-/// A request that holds no name and nothing that takes memory.
+/// Returns a request that has no name and nothing that takes memory.
 fn plain(ask: Ask) -> Request {
     match ask {
         Ask::Logout => Request::Logout,

@@ -34,7 +34,7 @@ fn a_file_grows_over_a_hole_of_zeros(rt: HostRuntime) -> Result<(), Fail> {
     expect_rows(rt.alloc(), 5, 100, &HOLE)
 }
 
-/// What a disk of three blocks has no room for is done behind a Kill.
+/// What does not fit on a disk of three blocks fits after a Kill.
 static FULL: [Row; 8] = [
     (Zero, Login(OWNER), Done),
     (Zero, Open(1, First, Fresh, None), Opened(0, true, true)),

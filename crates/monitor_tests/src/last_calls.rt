@@ -108,14 +108,14 @@ fn a_stranger_writes_in_the_owners_quota(rt: HostRuntime) -> Result<(), Fail> {
     expect_rows_in_quota(rt.alloc(), 2, &OVER_A_STRANGERS)
 }
 
-/// Fails with the place of the first row that is replied otherwise, over a disk of eight blocks of
-/// which the owner may have so many.
+/// Fails with the place of the first row that is replied otherwise, over a disk of eight blocks
+/// with this quota for the owner.
 fn expect_rows_in_quota(alloc: Global, quota: u16, rows: &[Row]) -> Result<(), Fail> {
     let volume = volume_in_quota(alloc, 8, 100, quota)?;
     expect_rows_over(alloc, &volume, rows)
 }
 
-/// Two jobs want the printer.
+/// Two jobs ask for the printer.
 static PRINTER: [Row; 24] = [
     (Zero, OpenPrinter, Failed(5)),
     (Zero, Login(OWNER), Done),

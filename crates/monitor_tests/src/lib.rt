@@ -1,5 +1,5 @@
-//! Tests of the monitor, by its public calls alone: rows of what a job asks and what it is replied,
-//! one behind another, over one monitor with two jobs.
+//! Tests of the monitor, by its public calls alone: rows of what a job asks and the reply, one
+//! after another, over one monitor with two jobs.
 #![tactic(auto)]
 
 #[cfg(test)]

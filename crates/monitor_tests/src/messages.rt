@@ -41,7 +41,7 @@ fn a_job_receives_in_the_order_of_sending(rt: HostRuntime) -> Result<(), Fail> {
     expect_rows(rt.alloc(), 8, 100, &TWO_MESSAGES)
 }
 
-/// What was sent to a job is gone when the job ends, and so is its receiver.
+/// What was sent to a job is gone when the job ends, and its receiver too.
 static LOGGED_IN_AGAIN: [Row; 14] = [
     (Zero, Login(OWNER), Done),
     (One, Login(STRANGER), Done),
@@ -92,7 +92,7 @@ fn expect_full_queue(run: &mut Run, alloc: Global) -> Result<(), Fail> {
     expect_received(run, alloc, 32)
 }
 
-/// Fails unless so many messages are taken, the first of byte 0, the next of byte 1.
+/// Fails unless this many messages are taken, the first of byte 0, the next of byte 1.
 fn expect_sent(run: &mut Run, alloc: Global, count: u8) -> Result<(), Fail> {
     for byte in 0..count {
         let is_sent = run.is_replied(alloc, One, Send(Second, byte), Done)?;

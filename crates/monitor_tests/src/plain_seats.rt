@@ -12,7 +12,7 @@ use monitor_core::{Monitor, PlainSeat, Seat};
 use std::alloc::Global;
 use std::test::Fail;
 
-/// What the seat's job asks, and what it is to be replied.
+/// What the seat's job asks, and the expected reply.
 type Call = (Ask, Said);
 
 /// An account of three calls: the third ends the job.
@@ -50,8 +50,8 @@ fn a_seat_keeps_the_pages_of_records(rt: HostRuntime) -> Result<(), Fail> {
     expect_none(rt.alloc(), wrong_call(rt.alloc(), 100, &RECORDS)?)
 }
 
-/// The place of the first call that the seat kept with another reply, or of the end where it kept
-/// more or fewer.
+/// Returns the place of the first call that the seat kept with another reply, or of the end if it
+/// kept more or fewer.
 fn wrong_call(alloc: Global, limit: u16, calls: &[Call]) -> Result<Option<usize>, Fail> {
     let record = kept(alloc, limit, calls)?;
     if record.as_slice().len() != calls.len() {
@@ -63,7 +63,7 @@ fn wrong_call(alloc: Global, limit: u16, calls: &[Call]) -> Result<Option<usize>
     )
 }
 
-/// What the seat kept of the calls.
+/// Returns what the seat kept of the calls.
 fn kept(alloc: Global, limit: u16, calls: &[Call]) -> Result<RunRecord, Fail> {
     let volume = empty_volume(alloc, 8, limit)?;
     let mut seat = opened(alloc, &volume)?;

@@ -4,7 +4,7 @@ use crate::asks::{Label, OWNER};
 use basic_values::Text;
 use monitor_calls::{Account, FileName, Page, Reply};
 
-/// What a job is replied. Of a block and of a message it tells the one byte that it is full of.
+/// The reply to a job. Of a block and of a message it has the one byte that fills it.
 #[derive(Clone, Copy)]
 pub(crate) enum Said {
     Done,
@@ -13,7 +13,7 @@ pub(crate) enum Said {
     Block(u8),
     /// The byte of each page.
     Record(&'static [u8]),
-    /// A file of the owner, its code, and its blocks where they are told.
+    /// A file of the owner, its code, and its blocks if the reply has them.
     Name(Label, u8, Option<u16>),
     /// The job and the account that sent it, and its byte.
     Message(u32, Account, u8),
@@ -24,7 +24,7 @@ pub(crate) enum Said {
 }
 
 impl Said {
-    /// Whether the monitor replied so.
+    /// Returns whether the monitor replied so.
     pub(crate) fn is_reply(self, reply: &Reply) -> bool {
         match reply {
             Reply::Done => matches!(self, Said::Done),

@@ -73,7 +73,7 @@ fn a_denied_file_tells_no_blocks(rt: HostRuntime) -> Result<(), Fail> {
     expect_rows_over(rt.alloc(), &volume, &DIRECTORY)
 }
 
-/// A file of two blocks with the code 60, and one of three with the code 0.
+/// Returns a file of two blocks with the code 60, and one of three with the code 0.
 fn volume(alloc: Global) -> Result<Volume, Fail> {
     let accounts = accounts(alloc, 100)?;
     let mut files = Vec::new(alloc);

@@ -11,7 +11,7 @@ use monitor_core::Monitor;
 use std::alloc::Global;
 use std::test::Fail;
 
-/// A job, what it asks, and what it is to be replied.
+/// A job, what it asks, and the expected reply.
 pub(crate) type Row = (Job, Ask, Said);
 
 /// A monitor with two jobs.
@@ -22,7 +22,7 @@ pub(crate) struct Run {
 }
 
 impl Run {
-    /// Two jobs over a volume, which has to be good.
+    /// Opens two jobs over a volume, which has to be good.
     pub(crate) fn open(alloc: Global, volume: &Volume) -> Result<Run, Fail> {
         if !volume.is_good() {
             return Err(Fail::new("the volume is not good"));
@@ -31,13 +31,12 @@ impl Run {
         Ok(Run { monitor })
     }
 
-    /// Fails with the place of the first row that is replied otherwise, where the rows are asked in
-    /// turn.
+    /// Asks the rows in turn, and fails with the place of the first one that is replied otherwise.
     pub(crate) fn expect_rows(&mut self, alloc: Global, rows: &[Row]) -> Result<(), Fail> {
         expect_none(alloc, self.first_wrong(alloc, rows)?)
     }
 
-    /// The disk that the monitor leaves.
+    /// Returns the disk that the monitor leaves.
     pub(crate) fn into_volume(self) -> Result<Volume, Fail> {
         let Run { monitor } = self;
         Ok(monitor.into_volume()?)
@@ -53,7 +52,7 @@ impl Run {
         Ok(None)
     }
 
-    /// Whether a job is replied so.
+    /// Returns whether a job is replied so.
     pub(crate) fn is_replied(
         &mut self,
         alloc: Global,
@@ -73,8 +72,8 @@ impl Run {
     }
 }
 
-/// Fails with the place of the first row that is replied otherwise, over a disk of so many blocks
-/// without files. Each account allows so many calls.
+/// Fails with the place of the first row that is replied otherwise, over a disk of this many blocks
+/// without files. Each account allows this many calls.
 pub(crate) fn expect_rows(
     alloc: Global,
     blocks: u16,
@@ -85,13 +84,13 @@ pub(crate) fn expect_rows(
     expect_rows_over(alloc, &volume, rows)
 }
 
-/// The same over a volume, which has to be good.
+/// Does the same over a volume, which has to be good.
 pub(crate) fn expect_rows_over(alloc: Global, volume: &Volume, rows: &[Row]) -> Result<(), Fail> {
     let mut run = Run::open(alloc, volume)?;
     run.expect_rows(alloc, rows)
 }
 
-/// A disk of so many blocks without files.
+/// Returns a disk of this many blocks without files.
 pub(crate) fn empty_volume(alloc: Global, blocks: u16, limit: u16) -> Result<Volume, Fail> {
     let accounts = accounts(alloc, limit)?;
     Ok(Volume {
@@ -101,7 +100,7 @@ pub(crate) fn empty_volume(alloc: Global, blocks: u16, limit: u16) -> Result<Vol
     })
 }
 
-/// The same where the owner has this quota.
+/// Returns the same disk, on which the owner has this quota.
 pub(crate) fn volume_in_quota(
     alloc: Global,
     blocks: u16,
@@ -116,12 +115,12 @@ pub(crate) fn volume_in_quota(
     })
 }
 
-/// The three accounts, each of which allows so many calls, and any number of blocks.
+/// Returns the three accounts, each of which allows this many calls, and any number of blocks.
 pub(crate) fn accounts(alloc: Global, limit: u16) -> Result<Vec<AccountEntry>, Fail> {
     accounts_in_quota(alloc, limit, MOST_QUOTA)
 }
 
-/// The same where the owner has this quota.
+/// Returns the same accounts, of which the owner has this quota.
 fn accounts_in_quota(alloc: Global, limit: u16, quota: u16) -> Result<Vec<AccountEntry>, Fail> {
     let password = short(b"DEMO")?;
     let mut accounts = Vec::new(alloc);

@@ -1,4 +1,4 @@
-//! Which texts are names, and which volumes are good.
+//! Which strings are names, and which volumes are good.
 
 use crate::asks::{OWNER, short};
 use crate::expects::expect_none;
@@ -10,7 +10,7 @@ use monitor_calls::{
 use std::alloc::Global;
 use std::test::Fail;
 
-/// A text, and whether it is a short one, a password, and a terminal's name.
+/// A string, and whether it is a short one, a password, and a terminal's name.
 type TextRow = (&'static [u8], bool, bool, bool);
 
 static TEXTS: [TextRow; 8] = [
@@ -24,7 +24,7 @@ static TEXTS: [TextRow; 8] = [
     (b"A B", false, false, false),
 ];
 
-/// Whether a text is what its row says.
+/// Returns whether a string is what its row says.
 fn is_taken(row: &TextRow) -> bool {
     let (text, is_short, is_password, is_name) = *row;
     Short::of(text).is_some() == is_short
@@ -102,7 +102,7 @@ fn account_entry(
     })
 }
 
-/// The account [100,5], and another.
+/// Returns the account [100,5], and another.
 fn two_accounts(alloc: Global, second: AccountEntry) -> Result<Vec<AccountEntry>, Fail> {
     let mut accounts = Vec::new(alloc);
     accounts.push(account_entry(OWNER, b"DEMO", 100, MOST_QUOTA)?)?;
@@ -195,7 +195,7 @@ fn names_of_old_decks_are_in_their_ranges(rt: HostRuntime) -> Result<(), Fail> {
     expect_none(rt.alloc(), first_wrong_name()?)
 }
 
-/// A volume with the account [100,5] in this quota, and two files.
+/// Returns a volume with the account [100,5] in this quota, and two files.
 fn volume(alloc: Global, second: FileEntry, quota: u16) -> Result<Volume, Fail> {
     let mut accounts = Vec::new(alloc);
     accounts.push(account_entry(OWNER, b"DEMO", 100, quota)?)?;
@@ -245,7 +245,7 @@ fn is_good_quota(alloc: Global, row: &(u16, u8, bool)) -> Result<bool, Fail> {
     Ok(volume.is_good())
 }
 
-/// A file of so many pages of zeros.
+/// Returns a file of this many pages of zeros.
 pub(crate) fn file_entry(
     alloc: Global,
     name: FileName,

@@ -1,4 +1,4 @@
--- The entries of a listing, one by one.
+-- The entries of a print job, one by one.
 use Rattle.std.proofs.Common.{◌≡◌, ℕ, ◌+◌, ◌<◌, zero, suc, Bool, true, false, cond, List, [], ◌∷◌, ◌++◌, length, drop, get_or, sym, ap, ◌∙◌, subst, append_assoc, append-nil, arith}
 use Rattle.std.proofs.lemmas.Bool.{eq-eqb, ne_eqb}
 use Rattle.std.proofs.lemmas.List.{drop_more, get_or_read}
@@ -16,7 +16,7 @@ named names (first ∷ entries) zero entry all lt is =
 named names (first ∷ entries) (suc at) entry all lt is =
     named names entries at entry all.1 (omega (arith, lt)) is
 
--- nothing of a listing stands from its end on
+-- nothing of a print job comes at or after its end
 pub ended :
     (job : ℕ) (entries : List Entry) (at : ℕ) (entry : Entry) →
     at < length entries → entry ≡ get_or entries at entry → entry.job ≡ job →
@@ -34,7 +34,7 @@ pub all_written :
     listing job (drop at entries) ≡ [] → out ++ listing job (drop at entries) ≡ whole → out ≡ whole
 all_written job entries at out whole none is = sym (ap (λ rest. out ++ rest) none ∙ append-nil out) ∙ is
 
--- what is left of a listing where an entry of its job does not end it
+-- what is left of a print job if an entry of its job does not end it
 goes_on :
     (job : ℕ) (entries : List Entry) (at : ℕ) (entry : Entry) →
     at < length entries → entry ≡ get_or entries at entry → entry.job ≡ job →
@@ -58,7 +58,7 @@ one_written job entries at entry out written whole lt is own goes is_written bef
     ap (λ w. w ++ rest) is_written ∙ append_assoc out (printed_by entry.request entry.reply) rest
     ∙ ap (λ t. out ++ t) (sym (goes_on job entries at entry lt is own goes)) ∙ before
 
--- an entry of another job is passed over
+-- an entry of another job is skipped
 pub passed_over :
     (job : ℕ) (entries : List Entry) (at : ℕ) (entry : Entry) (out whole : List ℕ) →
     at < length entries → entry ≡ get_or entries at entry → (entry.job ≡ job → ⊥) →
@@ -71,7 +71,7 @@ passed_over job entries at entry out whole lt is other before =
     ∙ ap (λ b. cond b more rest) (ne_eqb entry.job job other) in
     ap (λ t. out ++ t) (sym here) ∙ before
 
--- THE LISTINGS THAT BEGIN FROM A PLACE ON
+-- THE PRINT JOBS THAT BEGIN FROM A PLACE ON
 
 module _ (names : List (List ℕ)) (entries : List Entry) (at : ℕ) (entry : Entry) (lt : at < length entries) (is : entry ≡ get_or entries at entry) where
   abbrev from : ℕ → List ℕ
@@ -83,7 +83,7 @@ module _ (names : List (List ℕ)) (entries : List Entry) (at : ℕ) (entry : En
   by_begin : (begin : Bool) → is_begin entry.request entry.reply ≡ begin → from at ≡ listing_texts names (cond begin ((entry.job, listing entry.job (drop (at + 1) entries)) ∷ listings (drop (at + 1) entries)) (listings (drop (at + 1) entries)))
   by_begin begin e = here ∙ ap (λ b. listing_texts names (cond b ((entry.job, listing entry.job (drop (at + 1) entries)) ∷ listings (drop (at + 1) entries)) (listings (drop (at + 1) entries)))) e
 
-  -- the one that begins here, and those behind it
+  -- the one that begins here, and those after it
   pub begun :
       (out written whole name : List ℕ) → is_begin entry.request entry.reply ≡ true →
       entry.job < length names → name ≡ get_or names entry.job name →

@@ -1,4 +1,4 @@
--- What is written of the listings of a history: how many there are, and each with its terminal.
+-- What is written of the print jobs of a history: how many there are, and each with its terminal.
 use Rattle.std.specs.Prelude.{ℕ, ◌<◌, List, [], ◌∷◌, ◌++◌, length, codes, get_or}
 use Rattle.std.specs.Fmt.{decimal}
 use Rattle.monitor_calls.specs.declared.calls.Entry.{Entry}
@@ -15,13 +15,13 @@ listing_text name text =
     (codes "LISTING " ++ name ++ codes " " ++ decimal (length text) ++ codes "\n")
     ++ (text ++ codes "\n")
 
--- the listings in their order, each one a job and its text
+-- the print jobs in order, each with its job and its bytes
 abbrev pub listing_texts : List (List ℕ) → List (ℕ × List ℕ) → List ℕ
 listing_texts names [] = []
 listing_texts names (listing ∷ listings) =
     listing_text (get_or names listing.0 []) listing.1 ++ listing_texts names listings
 
--- how many listings there are, and then all of them
+-- how many print jobs there are, and then all of them
 abbrev pub printed_text : List (List ℕ) → List Entry → List ℕ
 printed_text names history =
     (codes "PRINTED " ++ decimal (length (listings history)) ++ codes "\n")

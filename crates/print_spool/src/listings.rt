@@ -10,12 +10,12 @@ use itoa::Buffer;
 use monitor_calls::{Entry, Reply, Request, TerminalName};
 use std::alloc::Global;
 
-/// What the printer printed in a history: how many listings there are, and each one behind the name
-/// of its terminal and the number of its bytes, in the order in which they begin. Each job has a
-/// name.
+/// Returns what the printer printed in a history: how many print jobs there are, and then each one
+/// in the order in which they begin. The name of the terminal and the number of bytes come before
+/// each. Each job has a name.
 ///
-/// Each entry is read once for the number of listings, once for where they begin, and once in a
-/// listing that is open; those of a monitor's history do not overlap.
+/// It reads each entry once to count the print jobs, once to find where they begin, and once in
+/// each print job that is open there. The print jobs of a monitor's history do not overlap.
 pub fn printed(
     alloc: Global,
     names: &[TerminalName],
@@ -43,7 +43,7 @@ fn count_listings(history: &[Entry]) -> usize
     count
 }
 
-/// Writes the listings that begin in these entries.
+/// Writes the print jobs that begin in these entries.
 fn push_listings(
     alloc: Global,
     out: &mut Vec<u8>,
@@ -63,7 +63,7 @@ fn push_listings(
     Ok(())
 }
 
-/// Writes the listing that a job has begun in front of these entries.
+/// Writes the print job that a job has begun before these entries.
 fn push_listing(
     alloc: Global,
     out: &mut Vec<u8>,
@@ -79,10 +79,10 @@ fn push_listing(
     push_titled(out, name, text.as_slice())
 }
 
-// The writes of a listing stand in functions of their own: with the text still to be dropped at
-// each early end, one long chain of them is dear to check.
+// The writes of a print job are in functions of their own. In one function, the string would still
+// have to be dropped at each early return, and the long chain of writes would be slow to check.
 
-/// Writes a listing with the line in front of it.
+/// Writes a print job with the line before it.
 fn push_titled(out: &mut Vec<u8>, name: &TerminalName, text: &[u8]) -> Result<(), NoMemory>
     ensures { OnOk result (out.new.items ≡ out.old.items ++ listing_text name.now text.now) }
 {
@@ -91,7 +91,7 @@ fn push_titled(out: &mut Vec<u8>, name: &TerminalName, text: &[u8]) -> Result<()
     Ok(out.push(b'\n')?)
 }
 
-/// Writes the line in front of a listing, which has so many bytes.
+/// Writes the line before a print job, which has this many bytes.
 fn push_title(out: &mut Vec<u8>, name: &TerminalName, count: usize) -> Result<(), NoMemory>
     ensures { OnOk result (out.new.items ≡ out.old.items
         ++ (codes "LISTING " ++ name.now ++ codes " " ++ decimal count ++ codes "\n")) }
@@ -111,7 +111,7 @@ fn push_count(out: &mut Vec<u8>, count: usize) -> Result<(), NoMemory>
     Ok(out.push(b'\n')?)
 }
 
-/// Writes what a job prints, up to the end of its listing.
+/// Writes what a job prints, up to the end of its print job.
 fn push_printed(out: &mut Vec<u8>, job: u32, later: &[Entry]) -> Result<(), NoMemory>
     ensures { OnOk result (out.new.items ≡ out.old.items ++ listing job later.now) }
 {
@@ -126,7 +126,7 @@ fn push_printed(out: &mut Vec<u8>, job: u32, later: &[Entry]) -> Result<(), NoMe
     Ok(())
 }
 
-/// Whether a listing begins by this entry.
+/// Returns whether a print job begins with this entry.
 fn begins(entry: &Entry) -> bool
     ensures { result ≡ is_begin entry.now.request entry.now.reply }
 {
@@ -136,7 +136,7 @@ fn begins(entry: &Entry) -> bool
     )
 }
 
-/// Whether the listing of the entry's job ends by it.
+/// Returns whether this entry ends the print job of its job.
 fn finishes(entry: &Entry) -> bool
     ensures { result ≡ is_finish entry.now.request entry.now.reply }
 {
@@ -147,7 +147,7 @@ fn finishes(entry: &Entry) -> bool
     }
 }
 
-/// What an entry prints.
+/// Returns what an entry prints.
 fn text_of(entry: &Entry) -> &[u8]
     ensures { result.now ≡ printed_by entry.now.request entry.now.reply }
 {

@@ -13,7 +13,7 @@ use basic_values::limits::LONGEST_MESSAGE;
 use monitor_model::PrinterEntry;
 use std::marker::Model;
 
-/// The line printer: free, or a job's, which has it assigned, has a listing open on it, or both.
+/// The line printer: free, or a job's, which has it assigned, has a print job open on it, or both.
 #[derive(Drop)]
 pub struct Printer {
     entry: Option<PrinterEntry>,
@@ -28,15 +28,15 @@ impl Model for Printer {
 }
 
 impl Printer {
-    /// The printer is free.
+    /// Returns a printer that is free.
     pub fn new() -> Printer
         ensures { result ≡ None }
     {
         Printer { entry: None }
     }
 
-    /// A job has the printer for itself, behind its listings too. Refused by 8 where another job
-    /// has it.
+    /// Assigns the printer to a job, which then keeps it after its print jobs too. Fails with 8 if
+    /// another job has it.
     pub fn assign(&mut self, job: u32) -> Result<(), Fault>
         ensures refused { RefusedBy (assign_refusals self.old job) result }
         ensures ok { OnOk result (self.new ≡ assign self.old job) }
@@ -54,8 +54,8 @@ impl Printer {
         Ok(())
     }
 
-    /// A job gives the printer back. Refused by 9 where it has it not, and by 3 where it has a
-    /// listing open on it.
+    /// Deassigns the printer. Fails with 9 if the job does not have it, and with 3 if the job has a
+    /// print job open on it.
     pub fn deassign(&mut self, job: u32) -> Result<(), Fault>
         ensures refused { RefusedBy (deassign_refusals self.old job) result }
         ensures ok { OnOk result (self.new ≡ None) }
@@ -71,8 +71,8 @@ impl Printer {
         Ok(())
     }
 
-    /// A job begins a listing. Refused by 8 where another job has the printer, and by 3 where this
-    /// one has a listing open on it.
+    /// Begins a print job of a job. Fails with 8 if another job has the printer, and with 3 if this
+    /// one has a print job open on it.
     pub fn open(&mut self, job: u32) -> Result<(), Fault>
         ensures refused { RefusedBy (open_refusals self.old job) result }
         ensures ok { OnOk result (self.new ≡ open_printer self.old job) }
@@ -93,8 +93,8 @@ impl Printer {
         Ok(())
     }
 
-    /// Whether a job may print a text of so many bytes. Refused by 9 where it has no listing open,
-    /// and by 31 where the text is longer than 512 bytes.
+    /// Checks whether a job may print a string of this many bytes. Fails with 9 if it has no print
+    /// job open, and with 31 if the string is longer than 512 bytes.
     pub fn print(&self, job: u32, length: u32) -> Result<(), Fault>
         ensures { RefusedBy (print_refusals self.now job length) result }
     {
@@ -107,8 +107,8 @@ impl Printer {
         Ok(())
     }
 
-    /// A job ends its listing. The printer is free where the job has it not assigned. Refused by 9
-    /// where it has no listing open.
+    /// Ends a job's print job. The printer is then free unless the job has it assigned. Fails with
+    /// 9 if the job has no print job open.
     pub fn close(&mut self, job: u32) -> Result<(), Fault>
         ensures refused { RefusedBy (close_refusals self.old job) result }
         ensures ok { OnOk result (self.new ≡ close_printer self.old job) }
@@ -129,7 +129,7 @@ impl Printer {
         Ok(())
     }
 
-    /// A job ends, and with it what it has of the printer.
+    /// Ends what a job has of the printer, at the end of the job.
     pub fn end(&mut self, job: u32)
         ensures { self.new ≡ free_printer self.old job }
     {

@@ -1,4 +1,4 @@
--- What sort of word each word is.
+-- The kind of each word.
 use Rattle.std.proofs.Common.{◌≡◌, ◌∙◌, ◌+◌, ℕ, suc, Bool, true, false, ◌==◌, List, [], ◌∷◌, ◌++◌, take, Some, None, inl, inr, refl, sym, ap, subst, true≢false, arith}
 use Rattle.std.specs.Prelude.{◌⊎◌, codes, bytes_eq, IsUtf8, chars, encode_utf8_all}
 use Rattle.std.specs.List.{list_any, before_first, position_or_len}
@@ -26,7 +26,7 @@ pub record IsWord (word : Text) : Type 0 where
   pub plain : IsPlain word
   pub no_flag : is_flag word ≡ false
 
--- a flag that the command has not
+-- a flag that the command does not have
 pub record IsStray (word : Text) : Type 0 where
   pub ends_none : bytes_eq word (codes "--") ≡ false
   pub flag : is_flag word ≡ true
@@ -41,7 +41,7 @@ pub data Sort (word : Text) : Type 0 where
   AMark : (mark : Mark) → word ≡ mark_word mark → Sort word
   Stray : IsStray word → Sort word
 
--- behind a minus stands a character, where something stands
+-- after a minus comes a character, if anything comes
 some_char : (y : ℕ) (bytes : Text) → IsUtf8 (45 ∷ y ∷ bytes) → (c : ℕ) × (cs : List ℕ) × (chars (y ∷ bytes) ≡ c ∷ cs)
 some_char y bytes u =
     let later = IsUtf8-past_char (45 ∷ y ∷ bytes) (y ∷ bytes) 45 u (ap (λ front. front ++ (y ∷ bytes)) (sym (encode_ascii 45 (omega arith)))) in
@@ -51,7 +51,7 @@ some_char y bytes u =
     go [] is e = let bad : [] ≡ y ∷ bytes = sym (ap encode_utf8_all is) ∙ e in absurd (cc)
     go (c ∷ cs) is e = (c, cs, is)
 
--- one minus, and no second one behind it
+-- one minus, and no second one after it
 module _ (y : ℕ) (bytes : Text) (e : (y == 45) ≡ false) where
   ends_none : bytes_eq (45 ∷ y ∷ bytes) (codes "--") ≡ false
   ends_none = rw e refl

@@ -1,4 +1,4 @@
--- What a parse of words comes to: the command refuses them, or has found what they say.
+-- The result of parsing words: the command rejects them, or has found what they say.
 use Rattle.std.proofs.Common.{◌≡◌, ◌∙◌, Bool, true, false, ◌||◌, List, [], ◌∷◌, ◌++◌, Option, Some, None, inl, inr, refl, sym, ap, ap₂, subst, append_assoc}
 use Rattle.std.specs.Prelude.{◌⊎◌, fold, codes, bytes_eq, IsUtf8, is_some, option_and_then, option_map, if◌then◌else◌}
 use Rattle.std.specs.List.{AllByRecursion}
@@ -25,7 +25,7 @@ use Rattle.program_words.proofs.Walks.{IsPlain, held_at, walk_at, step, fault_at
 use Rattle.program_words.proofs.Flags.{either, Sort, AnEnd, AWord, AMark, Stray, sort}
 use Rattle.program_words.proofs.Rows.{truth_text, rows_at, flag_at, words_at, is_true, wanted_in, read, read_at}
 
--- WHAT IS SAID behind these uses
+-- WHAT IS SAID after these uses
 
 abbrev sorted_from : Bool → List Text → Sorted
 sorted_from true words = record { flags = []; plain = words }
@@ -172,7 +172,7 @@ closing w = or_else (entered_fault app w.stopped) (or_else (settle_fault shape.r
 fault_parts : (words : List Text) → fault_of command_app words ≡ or_else (walk_fault shape [] (walk_at false []) words) (closing (fold (walked shape.rules []) (walk_at false []) words))
 fault_parts words = refl
 
--- by what is told of the pending word, and by the rows behind that and at the end
+-- from the result for the pending word, and from the table entries after it and at the end
 abbrev closing_by : Kinds → List Row → List Row → Kinds
 closing_by settling rows last = or_else settling (or_else (defaults_fault rows shape.rules) (check_fault shape last false))
 
@@ -226,7 +226,7 @@ none_by First words rows wanted found e = ap (λ words. said_with (words ++ []) 
 none_by Second words rows wanted found e = absurd (cc)
 none_by Full words rows wanted found e = absurd (cc)
 
--- the words are refused, and say nothing, or are taken, and say what was found
+-- the words are rejected, and say nothing, or are taken, and say what was found
 pub record Refused (words : List Text) : Type 0 where
   pub refused : ErrorKind
   pub fault : fault_of command_app words ≡ refused ∷ []
@@ -279,7 +279,7 @@ pub simple_and_free : is_simple_and_free command_app ≡ true
 unfolding clap_on_literals
 simple_and_free = refl
 
--- the command refuses the words
+-- the command rejects the words
 pub refused_says : (words : List Text) (e : Error) → AllByRecursion IsUtf8 words → HasKind (fault_of command_app words) e → (kind_of e ≡ kind.OutOfMemory → ⊥) → None ≡ said words
 refused_says words e u has other = go (parsed words u)
   where

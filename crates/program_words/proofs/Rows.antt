@@ -1,4 +1,5 @@
--- The rows at the end of the walk, with the defaults of the flags, and what is read of them.
+-- The table entries at the end of the walk, with the defaults of the flags, and what is read of
+-- them.
 use Rattle.std.proofs.Common.{◌≡◌, Bool, true, false, List, [], ◌∷◌, ◌++◌, Option, Some, None, refl, sym, ap, ◌∙◌, append-nil}
 use Rattle.std.specs.Prelude.{codes, bytes_eq, fold, slice_get, option_and_then, option_map, if◌then◌else◌}
 use Rattle.clap.specs.Words.{Row, Text, first_of, one_of}
@@ -12,7 +13,7 @@ use Rattle.program_words.specs.Words.{Said, said_with}
 use Rattle.program_words.proofs.Uses.{shape, row_of_id, other_row, own_row, Mark, History, Printer, Use, mark_rule, mark_id, rows_for, Place, First, Second, Full, place_at, plain_at, has_mark, marked, AreValid, FoundWords, words_as, found_at, marks_found, has_none, has_some, none_there, at_missing}
 use Rattle.program_words.proofs.Walks.{held, held_at, settled_is}
 
--- DEFAULTS: false, of a flag that is not there
+-- DEFAULTS: false, of a flag that was not given
 
 abbrev flag_default : Mark → List Row → List Row
 flag_default mark rows = with_default rows (filled (mark_rule mark))
@@ -30,7 +31,7 @@ defaulted_is Printer rows = refl
 added : (mark : Mark) (rows : List Row) → row_of_id (mark_id mark) rows ≡ None → defaulted mark false rows ≡ rows ++ default_row mark ∷ []
 added mark rows none = at_missing (mark_id mark) (more_values DefaultValue (codes "false" ∷ [])) (default_row mark ∷ []) rows none
 
--- another argument's row stays the same
+-- another argument's entry stays the same
 other_default : (mark : Mark) (id : Text) (rows : List Row) → bytes_eq (mark_id mark) id ≡ false → row_of_id id (flag_default mark rows) ≡ row_of_id id rows
 other_default mark id rows ne = ap (row_of_id id) (defaulted_is mark rows) ∙ go (has_row (mark_id mark) rows) refl
   where
@@ -53,7 +54,7 @@ own_default Printer rows false e =
     ap (one_of (codes "printer")) (defaulted_is Printer rows ∙ ap (λ has. defaulted Printer has rows) (has_none (codes "printer") rows e) ∙ added Printer rows e)
     ∙ ap (option_and_then row_text) (own_row (codes "printer") rows (default_row Printer) refl e)
 
--- THE ROWS AT THE END
+-- THE ENTRIES AT THE END
 
 abbrev pub rows_at : List Use → List Row
 rows_at uses = finished shape.rules (held_at uses)
@@ -86,7 +87,7 @@ words_at uses v =
     λ id e f. ap (row_of_id id) (ended_is uses v) ∙ other_default Printer id (flag_default History (rows_for uses)) f ∙ other_default History id (rows_for uses) e in
     words_as (place_at uses) (plain_at uses) (rows_for uses) (rows_at uses) (same (codes "action") refl refl) (same (codes "count") refl refl) (found_at uses v)
 
--- WHAT IS READ OF ROWS
+-- WHAT IS READ OF ENTRIES
 
 abbrev pub is_true : Option Text → Bool
 is_true None = false

@@ -1,4 +1,5 @@
--- The uses of the command's arguments so far, the newest first, and the rows that are kept of them.
+-- The uses of the command's arguments so far, the newest first, and the table entries that are kept
+-- of them.
 use Rattle.std.proofs.Common.{◌≡◌, ℕ, Bool, true, false, cond, ◌||◌, List, [], ◌∷◌, ◌++◌, Option, Some, None, refl, ap, subst, ◌∙◌, append-nil}
 use Rattle.std.specs.Prelude.{codes, bytes_eq, if◌then◌else◌}
 use Rattle.std.specs.List.{find}
@@ -56,7 +57,7 @@ abbrev pub rows_for : List Use → List Row
 rows_for [] = []
 rows_for (newest ∷ uses) = rows_for uses ++ row_for newest ∷ []
 
--- WHERE THE NEXT PLAIN WORD GOES
+-- THE ARGUMENT OF THE NEXT PLAIN WORD
 
 pub data Place : Type 0 where
   First : Place
@@ -113,7 +114,7 @@ AreValid (Flag mark ∷ uses) = (has_mark mark uses ≡ false) × AreValid uses
 AreValid (Action text ∷ uses) = (place_at uses ≡ First) × AreValid uses
 AreValid (Count text ∷ uses) = (place_at uses ≡ Second) × AreValid uses
 
--- WHAT IS FOUND IN THE ROWS
+-- WHAT IS FOUND IN THE TABLE
 
 abbrev pub row_of_id : Text → List Row → Option Row
 row_of_id id rows = find (λ r. bytes_eq r.id id) rows
@@ -125,11 +126,11 @@ or_none : (found : Option Row) → option_or found None ≡ found
 or_none None = refl
 or_none (Some row) = refl
 
--- a row of another argument
+-- an entry of another argument
 pub other_row : (id : Text) (rows : List Row) (row : Row) → bytes_eq row.id id ≡ false → row_of_id id (rows ++ row ∷ []) ≡ row_of_id id rows
 other_row id rows row e = behind id rows row ∙ rw e (or_none (row_of_id id rows))
 
--- the first row of this one
+-- the first entry of this one
 pub own_row : (id : Text) (rows : List Row) (row : Row) → bytes_eq row.id id ≡ true → row_of_id id rows ≡ None → row_of_id id (rows ++ row ∷ []) ≡ Some row
 own_row id rows row e none = behind id rows row ∙ ap (λ found. option_or found (if bytes_eq row.id id then Some row else None)) none ∙ rw e refl
 
@@ -142,13 +143,13 @@ FoundWords First words rows = (words ≡ []) × (row_of_id (codes "action") rows
 FoundWords Second words rows = (a : Text) × (words ≡ a ∷ []) × (row_of_id (codes "action") rows ≡ Some (action_row a)) × (row_of_id (codes "count") rows ≡ None)
 FoundWords Full words rows = (a : Text) × (b : Text) × (words ≡ a ∷ b ∷ []) × (row_of_id (codes "action") rows ≡ Some (action_row a)) × (row_of_id (codes "count") rows ≡ Some (count_row b))
 
--- in rows that have the same of them
+-- in tables that have the same of them
 pub words_as : (place : Place) (words : List Text) (rows later : List Row) → row_of_id (codes "action") later ≡ row_of_id (codes "action") rows → row_of_id (codes "count") later ≡ row_of_id (codes "count") rows → FoundWords place words rows → FoundWords place words later
 words_as First words rows later e f found = (found.0, e ∙ found.1, f ∙ found.2)
 words_as Second words rows later e f found = (found.0, found.1, e ∙ found.2, f ∙ found.3)
 words_as Full words rows later e f found = (found.0, found.1, found.2, e ∙ found.3, f ∙ found.4)
 
--- the plain words are those that the rows have
+-- the plain words are those that the table has
 pub found_at : (uses : List Use) → AreValid uses → FoundWords (place_at uses) (plain_at uses) (rows_for uses)
 found_at [] v = (refl, refl, refl)
 found_at (Flag History ∷ uses) v = words_as (place_at uses) (plain_at uses) (rows_for uses) _ (other_row (codes "action") (rows_for uses) (flag_row History) refl) (other_row (codes "count") (rows_for uses) (flag_row History) refl) (found_at uses v.1)
@@ -172,7 +173,7 @@ marks_found Printer (Action a ∷ uses) v = other_row (codes "printer") (rows_fo
 marks_found History (Count b ∷ uses) v = other_row (codes "history") (rows_for uses) (count_row b) refl ∙ marks_found History uses v.1
 marks_found Printer (Count b ∷ uses) v = other_row (codes "printer") (rows_for uses) (count_row b) refl ∙ marks_found Printer uses v.1
 
--- A ROW THAT IS THERE, OR NOT
+-- AN ENTRY THAT EXISTS, OR NOT
 
 pub has_none : (id : Text) (rows : List Row) → row_of_id id rows ≡ None → has_row id rows ≡ false
 has_none id [] e = refl

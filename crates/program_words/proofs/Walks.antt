@@ -179,7 +179,7 @@ unfolding clap_on_literals
 flag_step History uses v e = flag_walk History uses v e
 flag_step Printer uses v e = flag_walk Printer uses v e
 
--- what is told of it, by what is told of the pending word and by the rows behind that
+-- its result, from the result for the pending word and from the table entries after it
 abbrev reacts : Mark → Kinds → List Row → Kinds
 reacts mark settling rows = or_else settling (use_fault false (filled (mark_rule mark)) [] rows)
 

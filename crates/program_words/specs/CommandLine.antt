@@ -1,4 +1,4 @@
--- The command that `clap` parses, and the words as it finds them. Nobody has to believe this file.
+-- The command that `clap` parses, and the words as it finds them. You need not trust this file.
 use Rattle.std.specs.Prelude.{Option, Some, true, option_map, codes}
 use Rattle.clap.specs.Words.{App, Rule, new_app, new_rule, with_rule}
 use Rattle.clap.specs.declared.builder.action.ArgAction.TheVariants.{SetTrue}

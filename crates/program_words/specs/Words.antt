@@ -1,4 +1,4 @@
--- What the words behind the program's name ask for.
+-- What the words after the program's name ask for.
 use Rattle.std.specs.Prelude.{ℕ, ◌≤◌, Bool, true, false, not, ◌&&◌, ◌==◌, List, [], ◌∷◌, Option, Some, None, if◌then◌else◌, bytes_eq, codes}
 use Rattle.std.specs.Option.{option_and_then}
 use Rattle.program_words.specs.declared.words.Wanted.{Wanted}
@@ -7,7 +7,7 @@ use Rattle.program_words.specs.declared.words.Asked.TheVariants.{Run, Check, Dri
 use Rattle.program_words.specs.declared.words.TheConstants.{MOST_DRILL_JOBS}
 use Rattle.basic_values.specs.Decimals.{number_between}
 
--- a word that begins with a minus and goes on behind it is a flag
+-- a word that begins with a minus and goes on after it is a flag
 abbrev pub is_flag : List ℕ → Bool
 is_flag [] = false
 is_flag (byte ∷ []) = false
@@ -24,14 +24,14 @@ with_flag word sorted = record sorted { flags = word ∷ sorted.flags }
 abbrev pub with_plain : List ℕ → Sorted → Sorted
 with_plain word sorted = record sorted { plain = word ∷ sorted.plain }
 
--- the first word `--` is neither, and behind it no word is a flag
+-- the first word `--` is neither, and after it no word is a flag
 abbrev pub sorted : List (List ℕ) → Sorted
 sorted [] = record { flags = []; plain = [] }
 sorted (word ∷ words) =
     if bytes_eq word (codes "--") then record { flags = []; plain = words }
     else if is_flag word then with_flag word (sorted words) else with_plain word (sorted words)
 
--- an action, a count behind it where there is one, and what is wanted by flags
+-- an action, a count after it if there is one, and what the flags ask for
 pub record Said : Type 0 where
   pub action : List ℕ
   pub count : Option (List ℕ)
@@ -43,7 +43,7 @@ nothing_wanted = record { history = false; printer = false }
 abbrev pub is_nothing : Wanted → Bool
 is_nothing wanted = not wanted.history && not wanted.printer
 
--- no flag but `--history` and `--printer`, and each once at the most
+-- no flag except `--history` and `--printer`, and each once at the most
 abbrev pub wanted_more : List ℕ → Wanted → Option Wanted
 wanted_more flag wanted =
     if bytes_eq flag (codes "--history")
@@ -66,11 +66,11 @@ said_with (action ∷ count ∷ []) wanted =
     Some (record { action = action; count = Some count; wanted = wanted })
 said_with (action ∷ count ∷ third ∷ words) wanted = None
 
--- with what is wanted by the flags before these
+-- with what the flags before these ask for
 abbrev pub said_in : Wanted → List (List ℕ) → List (List ℕ) → Option Said
 said_in wanted flags plain = option_and_then (said_with plain) (wanted_from wanted flags)
 
--- run, with what is wanted of it, and check and replay, without anything
+-- run, with what its flags ask for, and check and replay, without anything
 abbrev pub asked_alone : List ℕ → Wanted → Asked
 asked_alone action wanted =
     if bytes_eq action (codes "run") then Run wanted

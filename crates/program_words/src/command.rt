@@ -11,7 +11,7 @@ use clap::error::ErrorKind;
 use clap::{Arg, ArgAction, Command};
 use std::alloc::{AllocError, Global};
 
-/// An action, a count behind it where there is one, and what is wanted by flags.
+/// An action, a count after it if there is one, and what the flags ask for.
 #[derive(Clone, Copy)]
 pub(crate) struct Said<'a> {
     pub(crate) action: &'a str,
@@ -19,7 +19,7 @@ pub(crate) struct Said<'a> {
     pub(crate) wanted: Wanted,
 }
 
-/// One flat command without help and version.
+/// Returns one flat command without help and version.
 fn command<'a>(alloc: Global) -> Result<Command<'a>, AllocError>
     ensures { IfOk result (λ command. app_of command ≡ command_app) }
 {
@@ -41,7 +41,7 @@ fn command<'a>(alloc: Global) -> Result<Command<'a>, AllocError>
         .arg(printer)
 }
 
-/// Words that are refused say nothing, unless it was for want of memory.
+/// Returns nothing for words that the command rejects, or an error if memory ran out.
 fn refused<'a>(kind: ErrorKind) -> Result<Option<Said<'a>>, NoMemory>
     ensures nothing { IfOk result (λ told. told ≡ None) }
     ensures other { IfOk result (λ _. kind ≡ ErrorKind.OutOfMemory → ⊥) }
@@ -53,7 +53,7 @@ fn refused<'a>(kind: ErrorKind) -> Result<Option<Said<'a>>, NoMemory>
     }
 }
 
-/// What the words say; nothing where the command refuses them.
+/// Returns what the words say, and nothing if the command rejects them.
 pub(crate) fn said_by(alloc: Global, words: &[String]) -> Result<Option<Said<'_>>, NoMemory>
     ensures { IfOk result (λ told. said_option told ≡ said (map string_bytes words.now)) }
 {

@@ -1,4 +1,4 @@
-//! What the program does by its words.
+//! The action that the program's words ask for.
 
 ghost use Rattle.std.specs.Prelude.{◌≡◌, IfOk, map, string_bytes};
 ghost use Rattle.basic_values.specs.Decimals.{number_between};
@@ -12,7 +12,7 @@ use std::alloc::Global;
 /// The most terminals of a drill.
 pub const MOST_DRILL_JOBS: u32 = 16;
 
-/// What is wanted of a run behind its report.
+/// What a run writes after its report.
 #[derive(Clone, Copy, Debug, PartialEq, Eq)]
 pub struct Wanted {
     /// The text of its history.
@@ -22,7 +22,7 @@ pub struct Wanted {
 }
 
 impl Wanted {
-    /// Whether nothing is.
+    /// Returns whether none of it is asked for.
     fn is_nothing(self) -> bool
         ensures { result ≡ is_nothing self }
     {
@@ -33,17 +33,17 @@ impl Wanted {
 /// What the words ask for.
 #[derive(Clone, Copy, Debug, PartialEq, Eq)]
 pub enum Asked {
-    /// A run, and what is wanted of it.
+    /// A run, and what its flags ask for.
     Run(Wanted),
     Check,
-    /// A drill with so many terminals, from 1 to `MOST_DRILL_JOBS`.
+    /// A drill with this many terminals, from 1 to `MOST_DRILL_JOBS`.
     Drill(u32),
-    /// That a run of a deck is checked again.
+    /// A check that a run of a deck has a given history.
     Replay,
     Nothing,
 }
 
-/// What the words ask for, as one flat command takes them.
+/// Returns what the words ask for, as one flat command takes them.
 pub fn asked_by(alloc: Global, words: &[String]) -> Result<Asked, NoMemory>
     ensures asked { IfOk result (λ told. told ≡ asked (map string_bytes words.now)) }
     ensures few { IfOk result (λ told. IsFew told) }
@@ -54,7 +54,7 @@ pub fn asked_by(alloc: Global, words: &[String]) -> Result<Asked, NoMemory>
     }
 }
 
-/// What an action asks for, with what stands beside it.
+/// Returns what an action asks for, with its count and its flags.
 fn asked_of(said: Said<'_>) -> Asked
     ensures asked { result ≡ asked_plainly (said_seen said.entry) }
     ensures few { IsFew result }
@@ -70,7 +70,7 @@ fn asked_of(said: Said<'_>) -> Asked
     }
 }
 
-/// A drill with so many terminals as the text spells.
+/// Returns a drill with as many terminals as the digits say.
 fn drill_of(count: &[u8]) -> Asked
     ensures asked { result ≡ drill_by (number_between 1 MOST_DRILL_JOBS count.now) }
     ensures few { IsFew result }

@@ -1,5 +1,5 @@
-//! What the protection code of a file lets a caller do. It stands on `monitor_model`, whose
-//! definition `allows` carries.
+//! What the protection code of a file lets a caller do. The crate depends on `monitor_model`, and
+//! `allows` is proved to be its definition.
 #![tactic(auto)]
 
 ghost use Rattle.std.specs.Prelude.{◌≡◌};
@@ -9,8 +9,9 @@ use basic_values::limits::SYSTEM_PROJECT;
 use monitor_calls::Account;
 pub use monitor_model::Right;
 
-/// Whether a file's code leaves the right to the caller. It does to project 1, and to others where
-/// it lacks the bit that refuses the owner, another account of the owner's project, or all others.
+/// Returns whether a file's code leaves the right to the caller. It always does for project 1. For
+/// others it does if it lacks the bit that refuses the owner, another account of the owner's
+/// project, or all others.
 #[tactic(auto, unfolding(monitor_model::specs::Allows::allows))]
 pub fn allows(caller: Account, owner: Account, code: u8, right: Right) -> bool
     ensures { result ≡ allows caller owner code right }
@@ -18,7 +19,7 @@ pub fn allows(caller: Account, owner: Account, code: u8, right: Right) -> bool
     caller.project == SYSTEM_PROJECT || code & refusing_bit(caller, owner, right) == 0
 }
 
-/// The bit of a code that refuses the right to the caller.
+/// Returns the bit of a code that refuses the right to the caller.
 fn refusing_bit(caller: Account, owner: Account, right: Right) -> u8
     ensures { result ≡ refusing_bit caller owner right }
 {

@@ -1,8 +1,8 @@
 //! The program: time sharing after RSTS/E, with BASIC-PLUS jobs, between standard input and output.
 //!
-//! `begin` and `finish` of `time_sharing` do the work; its `rsts_main`, which is both in turn,
-//! promises what they do. The ends are those of `rsts_io`, and the pacer is the idle one of
-//! `terminal_runner`.
+//! `begin` and `finish` of `time_sharing` do the work; the contract of its `rsts_main`, which is
+//! both in turn, says what they do. The ends are those of `rsts_io`, and the pacer is the idle one
+//! of `terminal_runner`.
 #![tactic(auto)]
 
 mod arguments;
@@ -29,13 +29,13 @@ fn outcome_of<R: Env + AllocGlobal + Input + Print + Threads + Wait + Sync>(rt: 
     match words_of(rt) {
         Ok(words) => asked(rt, words.as_slice()),
         Err(error) if error.kind() == io::ErrorKind::OutOfMemory => Outcome::NoMemory,
-        // A word that is no text asks for nothing that the program does.
+        // A word that is not UTF-8 asks for nothing that the program does.
         Err(_) => Outcome::Usage,
     }
 }
 
 /// Does what these words ask between standard input and output, and returns how it ended. `begin`
-/// does what waits for nobody, and only `finish` may wait.
+/// does what needs no waiting, and only `finish` may wait.
 fn asked<R: AllocGlobal + Input + Print + Threads + Wait + Sync>(
     rt: &R,
     words: &[String],
@@ -48,7 +48,8 @@ fn asked<R: AllocGlobal + Input + Print + Threads + Wait + Sync>(
     }
 }
 
-/// Writes the outcome's line, if it has one. If standard error fails, the status still tells.
+/// Writes the outcome's line, if it has one. If standard error fails, the status still says how it
+/// ended.
 fn tell(rt: &impl Eprint, outcome: &Outcome) {
     let line = outcome.line();
     if let Ok(text) = str::from_utf8(line.as_slice())

@@ -1,4 +1,4 @@
--- What was copied to a buffer's front is the next part of the bytes.
+-- What was copied to the start of a buffer is the next part of the bytes.
 use Rattle.std.proofs.Common.{◌≡◌, ℕ, ◌+◌, ◌-◌, List, ◌++◌, length, take, drop, sym, ap, ◌∙◌, arith, length-drop}
 use Rattle.std.proofs.lemmas.List.{take-append-drop, drop-drop, take_at, take_all}
 

@@ -17,7 +17,7 @@ next_more a b (Some left) y z p q =
     let r : AreNext b (Some p.0) z = subst (λ (w : Option (List ℕ)). AreNext b w z) p.2 q in
     (r.0, p.1 ∙ ap (λ (t : List ℕ). a ++ t) r.1 ∙ sym (append_assoc a b r.0), r.2)
 
--- what was taken before, and a buffer's front behind it
+-- what was taken before, and a prefix of the buffer after it
 pub took_more : (limit : ℕ) (bytes chunk : List ℕ) (n : ℕ) (old mid new : SourceState) → mid.taken ≡ old.taken + length bytes → AreNext bytes old.left mid.left → n ≤ length chunk → AreNext (take n chunk) mid.left new.left
     → new.taken ≡ mid.taken + n → new.taken ≤ old.taken + (limit + 1) → TookNext limit old new
 took_more limit bytes chunk n old mid new before p fits q after few =
@@ -43,7 +43,7 @@ pub given_more : (a b : List ℕ) (x y z : Option (List ℕ)) → Appended a x y
 given_more a b None y z p q = subst (λ (w : Option (List ℕ)). Appended b w z) p q
 given_more a b (Some given) y z p q = subst (λ (w : Option (List ℕ)). Appended b w z) p q ∙ ap (λ (t : List ℕ). Some t) (append_assoc given a b)
 
--- a front of the second part, behind the first
+-- a prefix of the second part, after the first
 pub broke_off_behind : (a b : List ℕ) (old mid new : SinkState) → Written a old mid → BrokeOff b mid new → BrokeOff (a ++ b) old new
 broke_off_behind a b old mid new p q =
     let f = q.front in
@@ -52,7 +52,7 @@ broke_off_behind a b old mid new p q =
       fault = q.fault ∙ ap raised p.no_fault;
     }
 
--- a front of the first part is a front of both
+-- a prefix of the first part is a prefix of both
 pub broke_off_first : (a b : List ℕ) (old new : SinkState) → BrokeOff a old new → BrokeOff (a ++ b) old new
 broke_off_first a b old new q =
     let f = q.front in

@@ -1,9 +1,9 @@
--- What sources and sinks in memory are seen as.
+-- The views of sources and sinks in memory.
 use Rattle.std.specs.Prelude.{ℕ, ◌==◌, Bool, List, Some}
 use Rattle.std.specs.List.{list_any}
 use Rattle.rsts_io.specs.Ends.{SourceState, SinkState}
 
--- how many bytes a sink in memory has room for: 16 MiB
+-- how many bytes a sink in memory can hold: 16 MiB
 abbrev pub sink_room : ℕ
 sink_room = 16777216
 
@@ -44,7 +44,7 @@ pub record DribbleStore : Type 0 where
   pub faults : ℕ
   pub most : ℕ
 
--- each as a source or a sink that can tell its bytes
+-- each as a source or a sink that reports its bytes
 abbrev pub plain_feed_state : PlainFeed → SourceState
 plain_feed_state feed = record { left = Some feed.left; taken = feed.taken; faults = 0 }
 

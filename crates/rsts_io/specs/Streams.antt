@@ -1,4 +1,4 @@
--- What a source over a reader and a sink over a writer do with those bytes, where they are known.
+-- What a source over a reader and a sink over a writer do with those bytes, if they are known.
 use Rattle.std.specs.Prelude.{◌≡◌, ℕ, ◌-◌, ◌^◌, ◌⊎◌, List, take, Option, None}
 use Rattle.std.specs.Io.KnownBytes.{Keeps, Appends, Consumes, IsAtEnd}
 use Rattle.rsts_io.specs.Ends.{SourceState, SinkState}
@@ -7,7 +7,7 @@ use Rattle.rsts_io.specs.declared.source.Took.TheVariants as took
 use Rattle.rsts_io.specs.declared.sink.Gave.{Gave}
 use Rattle.rsts_io.specs.declared.sink.Gave.TheVariants as gave
 
--- neither can tell its bytes of itself
+-- neither reports its bytes itself
 abbrev pub untold_source : ℕ → ℕ → SourceState
 untold_source taken faults = record { left = None; taken = taken; faults = faults }
 

@@ -5,7 +5,7 @@ use Rattle.rsts_io.specs.Ends.{SourceState, SinkState, Rose, AreNext, Appended}
 use Rattle.rsts_io.specs.declared.whole.ReadEnd.{ReadEnd}
 use Rattle.rsts_io.specs.declared.whole.ReadEnd.TheVariants as end
 
--- the bytes were all that was left, where that is told
+-- the bytes were all that was left, if that is reported
 abbrev pub AreAll : List ℕ → Option (List ℕ) → Option (List ℕ) → Type 0
 AreAll bytes None after = after ≡ None
 AreAll bytes (Some left) after = (left ≡ bytes) × (after ≡ Some [])
@@ -34,8 +34,8 @@ ReadWhole limit (Err end.Fault) old new = Rose old.faults new.faults
 ReadWhole limit (Err end.TooLong) old new = IsTooMuch limit old new
 ReadWhole limit (Err end.NoMemory) old new = new.faults ≡ old.faults
 
--- what was taken stood next, where that is told, and is at most one byte more than an input may
--- have
+-- what was taken was the next of what was left, if that is reported, and is at most one byte more
+-- than an input may have
 pub record TookNext (limit : ℕ) (old new : SourceState) : Type 0 where
   pub bytes : List ℕ
   pub count : new.taken ≡ old.taken + length bytes
@@ -47,13 +47,13 @@ pub record Written (bytes : List ℕ) (old new : SinkState) : Type 0 where
   pub given : Appended bytes old.given new.given
   pub no_fault : new.faults ≡ old.faults
 
--- a front of the bytes was given, and not all of them
+-- a prefix of the bytes was given, and not all of them
 abbrev pub GaveFront : List ℕ → Option (List ℕ) → Option (List ℕ) → Type 0
 GaveFront bytes given given' =
     (front rest : List ℕ) × (bytes ≡ front ++ rest) × (0 < length rest)
     × Appended front given given'
 
--- the sink failed once, and has a front of the bytes, and not all of them
+-- the sink failed once, and has a prefix of the bytes, and not all of them
 pub record BrokeOff (bytes : List ℕ) (old new : SinkState) : Type 0 where
   pub front : GaveFront bytes old.given new.given
   pub fault : Rose old.faults new.faults

@@ -4,11 +4,10 @@ ghost use Rattle.std.specs.Prelude.{◌≡◌, ◌+◌, ◌-◌, ◌≤◌, ◌+
 ghost use Rattle.std.specs.Prelude.{vec_capacity};
 ghost use Rattle.rsts_io.specs.Memory.{sink_room, is_listed};
 
-/// How many bytes a sink in memory has room for.
+/// The number of bytes that a sink in memory can hold.
 pub const SINK_ROOM: usize = 16_777_216;
 
-/// Copies the bytes from `at` on to the buffer's front, as many as it has room for, and tells how
-/// many.
+/// Copies the bytes from `at` on to the start of the buffer, as many as fit, and returns how many.
 pub(crate) fn copy_next(bytes: &[u8], at: usize, buffer: &mut [u8]) -> usize
     requires { at ≤ length bytes.now }
     ensures count { result ≡ min (length bytes.now - at) (length buffer.old) }
@@ -20,15 +19,14 @@ pub(crate) fn copy_next(bytes: &[u8], at: usize, buffer: &mut [u8]) -> usize
     count
 }
 
-/// Whether a call is among those that fail.
+/// Returns whether a call is among those that fail.
 pub(crate) fn is_listed(call: u64, failing: &[u64]) -> bool
     ensures { result ≡ is_listed call failing.now }
 {
     failing.contains(&call)
 }
 
-/// Keeps as much of the piece's front as there is room for, and tells how many bytes. It takes no
-/// memory.
+/// Keeps as much of the start of the piece as fits, and returns how many bytes. It takes no memory.
 pub(crate) fn keep_front(kept: &mut Vec<u8>, piece: &[u8]) -> usize
     requires length { vec_len kept.old ≤ sink_room }
     requires room { sink_room ≤ vec_capacity kept.old }

@@ -11,7 +11,7 @@ use basic_values::NoMemory;
 use std::alloc::Global;
 use std::marker::Model;
 
-/// A source of given bytes, which never fails and gives so many bytes a call at the most.
+/// A source of given bytes, which never fails and gives at most this many bytes a call.
 #[derive(Drop)]
 pub struct DribbleSource {
     inner: PlainSource,
@@ -30,7 +30,7 @@ impl Model for DribbleSource {
 }
 
 impl DribbleSource {
-    /// A source that gives these bytes, so many a call at the most, and then is at its end.
+    /// Returns a source that gives these bytes, at most this many a call, and then is at its end.
     pub fn new(alloc: Global, bytes: &[u8], most: usize) -> Result<DribbleSource, NoMemory>
         requires { 0 < most }
         ensures left { IfOk result (λ source. source.left ≡ bytes.now) }
@@ -59,8 +59,8 @@ impl Source for DribbleSource {
     }
 }
 
-/// A sink that keeps what it is given, so many bytes a call at the most. It fails where its room of
-/// 16 MiB is full, and counts that.
+/// A sink that keeps what it is given, at most this many bytes a call. It fails if its 16 MiB are
+/// full, and counts that.
 #[derive(Drop)]
 pub struct DribbleSink {
     inner: PlainSink,
@@ -83,7 +83,7 @@ impl Model for DribbleSink {
 }
 
 impl DribbleSink {
-    /// An empty sink, with its room taken, that takes so many bytes a call at the most.
+    /// Returns an empty sink, with its memory taken, that takes at most this many bytes a call.
     pub fn new(alloc: Global, most: usize) -> Result<DribbleSink, NoMemory>
         requires { 0 < most }
         ensures given { IfOk result (λ sink. sink.given ≡ []) }
@@ -94,7 +94,7 @@ impl DribbleSink {
         Ok(DribbleSink { inner, most })
     }
 
-    /// What it was given.
+    /// Returns what it was given.
     pub fn bytes(&self) -> &[u8]
         ensures bytes { result.now ≡ self.now.given }
         ensures room { length self.now.given ≤ sink_room }

@@ -1,12 +1,12 @@
 //! The ends of the program: sources of bytes, and sinks for bytes.
 //!
-//! A source and a sink tell of themselves by their ghost `state`. `Source::take` and `Sink::give`
-//! carry the promise: `IsTaken` and `Accepts` say what each answer changes of it. Ends in memory
-//! tell their bytes; `MemorySource` and `MemorySink` fail where they are told, `PlainSource` never,
-//! and `PlainSink` where it is full. `DribbleSource` and `DribbleSink` are the same, with few bytes
-//! a call. `StdSource` and `StdSink`, over any reader and writer, tell none. `read_all` reads a
-//! source to its end, and `give_all` gives a sink all bytes. It stands on `basic_values`, for the
-//! want of memory.
+//! A source and a sink report of themselves by their ghost `state`. `Source::take` and `Sink::give`
+//! have the contracts: `IsTaken` and `Accepts` say what each answer changes of that state. Ends in
+//! memory report their bytes. `MemorySource` and `MemorySink` fail at given calls, `PlainSource`
+//! never fails, and `PlainSink` fails if it is full. `DribbleSource` and `DribbleSink` are the
+//! same, with few bytes a call. `StdSource` and `StdSink`, over any reader and writer, do not
+//! report their bytes. `read_all` reads a source to its end, and `give_all` gives a sink all bytes.
+//! The crate depends on `basic_values`, for out of memory.
 #![tactic(auto)]
 
 mod copies;

@@ -1,4 +1,4 @@
-//! Sources and sinks in memory that fail the calls that they are told.
+//! Sources and sinks in memory that fail at given calls.
 
 ghost use Rattle.std.specs.Prelude.{◌≡◌, ℕ, ◌-◌, ◌<◌, ◌≤◌, ◌⊎◌, ◌↔◌, true, [], min, length, Some};
 ghost use Rattle.std.specs.Prelude.{IfOk};
@@ -12,7 +12,7 @@ use basic_values::NoMemory;
 use std::alloc::Global;
 use std::marker::Model;
 
-/// A source of given bytes. It counts its calls, from 1, and fails those that it was told.
+/// A source of given bytes. It counts its calls, from 1, and fails those that it was made to fail.
 #[derive(Drop)]
 pub struct MemorySource {
     bytes: Vec<u8>,
@@ -40,7 +40,7 @@ impl Model for MemorySource {
 }
 
 impl MemorySource {
-    /// A source of these bytes that fails the calls of these numbers.
+    /// Returns a source of these bytes that fails the calls of these numbers.
     pub fn new(alloc: Global, bytes: &[u8], failing: &[u64]) -> Result<MemorySource, NoMemory>
         ensures left { IfOk result (λ source. source.left ≡ bytes.now) }
         ensures taken { IfOk result (λ source. source.taken ≡ 0) }
@@ -87,8 +87,8 @@ impl Source for MemorySource {
     }
 }
 
-/// A sink that keeps what it is given. It counts its calls, from 1, and fails those that it was
-/// told, and where its room of 16 MiB is full.
+/// A sink that keeps what it is given. It counts its calls, from 1. It fails those that it was made
+/// to fail, and if its 16 MiB are full.
 #[derive(Drop)]
 pub struct MemorySink {
     kept: Vec<u8>,
@@ -114,7 +114,7 @@ impl Model for MemorySink {
 }
 
 impl MemorySink {
-    /// An empty sink, with its room taken, that fails the calls of these numbers.
+    /// Returns an empty sink, with its memory taken, that fails the calls of these numbers.
     pub fn new(alloc: Global, failing: &[u64]) -> Result<MemorySink, NoMemory>
         ensures given { IfOk result (λ sink. sink.given ≡ []) }
         ensures failing { IfOk result (λ sink. sink.failing ≡ failing.now) }
@@ -130,7 +130,7 @@ impl MemorySink {
         })
     }
 
-    /// What it was given.
+    /// Returns what it was given.
     pub fn bytes(&self) -> &[u8]
         ensures bytes { result.now ≡ self.now.given }
         ensures room { length self.now.given ≤ sink_room }

@@ -1,4 +1,4 @@
-//! Sources and sinks in memory that never fail, but for a sink that is full.
+//! Sources and sinks in memory that never fail, except for a sink that is full.
 
 ghost use Rattle.std.specs.Prelude.{◌≡◌, ℕ, ◌+◌, ◌-◌, ◌<◌, ◌≤◌, ◌↔◌, [], min, length, Some, IfOk};
 ghost use Rattle.rsts_io.specs.Ends.{IsTaken, Accepts};
@@ -30,7 +30,7 @@ impl Model for PlainSource {
 }
 
 impl PlainSource {
-    /// A source that gives these bytes, and then is at its end.
+    /// Returns a source that gives these bytes, and then is at its end.
     pub fn new(alloc: Global, bytes: &[u8]) -> Result<PlainSource, NoMemory>
         ensures left { IfOk result (λ source. source.left ≡ bytes.now) }
         ensures taken { IfOk result (λ source. source.taken ≡ 0) }
@@ -61,7 +61,7 @@ impl Source for PlainSource {
     }
 }
 
-/// A sink that keeps what it is given. It fails where its room of 16 MiB is full, and counts that.
+/// A sink that keeps what it is given. It fails if its 16 MiB are full, and counts that.
 #[derive(Drop)]
 pub struct PlainSink {
     kept: Vec<u8>,
@@ -80,7 +80,7 @@ impl Model for PlainSink {
 }
 
 impl PlainSink {
-    /// An empty sink, with its room taken.
+    /// Returns an empty sink, with its memory taken.
     pub fn new(alloc: Global) -> Result<PlainSink, NoMemory>
         ensures given { IfOk result (λ sink. sink.given ≡ []) }
         ensures faults { IfOk result (λ sink. sink.faults ≡ 0) }
@@ -91,7 +91,7 @@ impl PlainSink {
         })
     }
 
-    /// What it was given.
+    /// Returns what it was given.
     pub fn bytes(&self) -> &[u8]
         ensures bytes { result.now ≡ self.now.given }
         ensures room { length self.now.given ≤ sink_room }

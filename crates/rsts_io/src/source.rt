@@ -3,10 +3,10 @@
 ghost use Rattle.std.specs.Prelude.{◌<◌, length};
 ghost use Rattle.rsts_io.specs.Ends.{SourceState, IsTaken};
 
-/// What a source answers.
+/// The result of taking bytes from a source.
 #[derive(Clone, Copy, Debug, PartialEq, Eq)]
 pub enum Took {
-    /// So many bytes stand at the buffer's front.
+    /// This many bytes are at the start of the buffer.
     Bytes(usize),
     /// There are no more.
     End,
@@ -14,10 +14,10 @@ pub enum Took {
     Failed,
 }
 
-/// Where bytes come from.
+/// An origin of bytes.
 pub trait Source {
-    /// The bytes that are left, where the source can tell; how many were taken; how often it
-    /// failed, up to the greatest number of 64 bits.
+    /// The bytes that are left, if the source reports them; how many were taken; how often it
+    /// failed, up to the largest number of 64 bits.
     ghost state: { Self → SourceState };
 
     /// Puts the next bytes into the buffer: at least one, unless it is at its end or fails.

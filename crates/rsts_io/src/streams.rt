@@ -1,5 +1,5 @@
-//! The real ends: any reader and any writer of std. They can't tell what they read and write;
-//! `read` and `written` say it of a reader and a writer whose bytes are known.
+//! The real ends: any reader and any writer of std. They do not report what they read and write;
+//! `read` and `written` say it for a reader and a writer whose bytes are known.
 
 ghost use Rattle.std.specs.Prelude.{◌≡◌, ◌<◌, length};
 ghost use Rattle.rsts_io.specs.Ends.{IsTaken, Accepts};
@@ -18,7 +18,7 @@ pub struct StdSource<R: Read> {
 }
 
 impl<R: Read> StdSource<R> {
-    /// A source from which nothing was taken yet.
+    /// Returns a source from which nothing was taken yet.
     pub fn new(inner: R) -> StdSource<R>
         ensures taken { result.taken ≡ 0 }
         ensures faults { result.faults ≡ 0 }
@@ -69,7 +69,7 @@ pub struct StdSink<W: Write> {
 }
 
 impl<W: Write> StdSink<W> {
-    /// A sink that has not failed yet.
+    /// Returns a sink that has not failed yet.
     pub fn new(inner: W) -> StdSink<W>
         ensures { result.faults ≡ 0 }
     {

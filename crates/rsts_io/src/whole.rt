@@ -12,7 +12,7 @@ use std::alloc::{AllocError, Global};
 /// The most bytes of an input of a run and of a check: 8 MiB.
 pub const INPUT_LIMIT: usize = 8_388_608;
 
-/// The most bytes of an input of a replay, in which a history stands: 256 MiB.
+/// The most bytes of an input of a replay, which has a history: 256 MiB.
 pub const REPLAY_LIMIT: usize = 268_435_456;
 
 /// Why an input was not read.
@@ -35,13 +35,13 @@ impl From<AllocError> for ReadEnd {
     }
 }
 
-/// All the bytes of a source, up to its end, of which there may be so many. It asks for no byte
-/// beyond the first that is too many.
+/// Reads all the bytes of a source, up to its end, of which there may be at most this many. It asks
+/// for no byte after the first that is too many.
 pub fn read_all<S: Source>(alloc: Global, source: &mut S, limit: usize) -> Result<Vec<u8>, ReadEnd>
     requires { limit ≤ REPLAY_LIMIT }
     ensures ended { ReadWhole limit result (S.state source.old) (S.state source.new) }
-    // Whatever the answer, what was taken stood next, and is at most one byte more than an input
-    // may have.
+    // Whatever the answer, what was taken was the next of what was left, and is at most one byte
+    // more than an input may have.
     ensures next { TookNext limit (S.state source.old) (S.state source.new) }
     ensures too_long { IsOverLimit limit (S.state source.old) (S.state source.new)
         → result ≡ Err ReadEnd.TooLong }
@@ -78,7 +78,7 @@ fn read_through<S: Source>(
     }
 }
 
-/// Takes at most so many bytes to the buffer's front.
+/// Takes at most this many bytes to the start of the buffer.
 fn take_some<S: Source>(source: &mut S, chunk: &mut [u8], most: usize) -> Took
     requires room { 0 < length chunk.old }
     requires some { 0 < most }
@@ -103,7 +103,7 @@ pub fn give_all<K: Sink>(sink: &mut K, bytes: &[u8]) -> Result<(), SinkFault>
     give_piece(sink, rest)
 }
 
-/// How many bytes the first line has, with its LF.
+/// Returns how many bytes the first line has, with its LF.
 fn line_length(bytes: &[u8]) -> usize
     ensures line { MatchOption (position (λ b. b == 10) bytes.now)
         (result ≡ length bytes.now) (λ at. result ≡ at + 1) }
@@ -115,7 +115,7 @@ fn line_length(bytes: &[u8]) -> usize
     }
 }
 
-/// The place of the first such byte.
+/// Returns the place of the first such byte.
 fn place_of(byte: u8, text: &[u8]) -> Option<usize>
     ensures place { result ≡ position (λ b. b == byte) text.now }
     ensures within { IfSome result (λ at. at < length text.now) }

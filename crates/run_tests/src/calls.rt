@@ -30,7 +30,7 @@ pub(crate) struct Want<'a> {
     pub(crate) written: &'a [u8],
 }
 
-/// The words of a call.
+/// Returns the words of a call.
 pub(crate) fn words_of(alloc: Global, asked: &[&str]) -> Result<Vec<String>, Fail> {
     let mut words = Vec::new(alloc);
     for word in asked {
@@ -39,7 +39,7 @@ pub(crate) fn words_of(alloc: Global, asked: &[&str]) -> Result<Vec<String>, Fai
     Ok(words)
 }
 
-/// The program between two ends. Nothing is owned here, so nothing is dropped behind the call.
+/// Calls the program between two ends. Nothing is owned here, so nothing is dropped after the call.
 pub(crate) fn between<R: Threads + Wait + Sync, S: Source, K: Sink, P: Pacer + Sync>(
     rt: &R,
     alloc: Global,
@@ -51,8 +51,8 @@ pub(crate) fn between<R: Threads + Wait + Sync, S: Source, K: Sink, P: Pacer + S
     rsts_main(rt, alloc, words, source, sink, pacer)
 }
 
-/// What the program answers to words and an input over ends that fail at the listed calls, and the
-/// sink.
+/// Returns the outcome of the program for words and an input over ends that fail at the listed
+/// calls, and the sink.
 pub(crate) fn answered<R: Threads + Wait + Sync, P: Pacer + Sync>(
     rt: &R,
     alloc: Global,
@@ -69,14 +69,14 @@ pub(crate) fn answered<R: Threads + Wait + Sync, P: Pacer + Sync>(
     Ok((outcome, sink))
 }
 
-/// Fails with what was written or told, unless a call left this.
+/// Fails with what was written or reported, unless a call left this.
 pub(crate) fn expect_left(outcome: &Outcome, written: &[u8], want: Want<'_>) -> Result<(), Fail> {
     expect_text(written, want.written)?;
     expect_text(outcome.line().as_slice(), want.line.as_bytes())?;
     expect(outcome.status() == want.status, "another status")
 }
 
-/// A call over ends that fail at the listed calls leaves this.
+/// Fails unless a call over ends that fail at the listed calls leaves this.
 pub(crate) fn expect_between<R: Threads + Wait + Sync>(
     rt: &R,
     alloc: Global,
@@ -90,7 +90,7 @@ pub(crate) fn expect_between<R: Threads + Wait + Sync>(
     expect_left(&outcome, sink.bytes(), want)
 }
 
-/// A call over ends that never fail leaves this.
+/// Fails unless a call over ends that never fail leaves this.
 pub(crate) fn expect_call<R: Threads + Wait + Sync>(
     rt: &R,
     alloc: Global,
@@ -101,7 +101,7 @@ pub(crate) fn expect_call<R: Threads + Wait + Sync>(
     expect_between(rt, alloc, asked, input, (&[], &[]), want)
 }
 
-/// What a call leaves that writes this and says nothing.
+/// Returns what a call leaves that writes this and says nothing.
 pub(crate) fn good(written: &[u8]) -> Want<'_> {
     Want {
         status: 0,
@@ -110,7 +110,7 @@ pub(crate) fn good(written: &[u8]) -> Want<'_> {
     }
 }
 
-/// What a call leaves that writes nothing.
+/// Returns what a call leaves that writes nothing.
 pub(crate) fn refused(status: u8, line: &str) -> Want<'_> {
     Want {
         status,

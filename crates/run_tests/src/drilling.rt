@@ -13,7 +13,7 @@ use time_sharing::Outcome;
 /// The count of terminals as a word, and as a number.
 static COUNTS: [(&str, u32); 5] = [("1", 1), ("2", 2), ("4", 4), ("8", 8), ("16", 16)];
 
-/// As many Puts were done as the counter tells, and what was written tells both.
+/// Fails unless as many Puts were done as the counter says, and the line has both numbers.
 fn expect_drilled(alloc: Global, outcome: &Outcome, written: &[u8], jobs: u32) -> Result<(), Fail> {
     let drill = match outcome {
         Outcome::Drilled(drill) => drill,

@@ -10,7 +10,7 @@ use terminal_runner::IdlePacer;
 
 static VERSIONS: [&[u8]; 2] = [FIRST_SUM, FIRST_SUM_2];
 
-/// How many lines are whole in some bytes, and one.
+/// Returns how many lines are whole in some bytes, and one.
 fn last_line(bytes: &[u8]) -> usize {
     let mut line = 1usize;
     for byte in bytes {
@@ -27,7 +27,7 @@ fn expect_cut<R: Threads + Wait + Sync>(rt: &R, alloc: Global, front: &[u8]) -> 
     expect_call(rt, alloc, &["run"], front, refused(2, told.as_str()))
 }
 
-/// A deck is cut behind each of its bytes but the last.
+/// Fails unless a deck that is cut after each of its bytes but the last is rejected.
 fn expect_cuts<R: Threads + Wait + Sync>(rt: &R, alloc: Global, deck: &[u8]) -> Result<(), Fail> {
     for (end, _) in deck.iter().enumerate() {
         expect_cut(rt, alloc, &deck[..end])?;
@@ -44,7 +44,7 @@ fn a_deck_that_is_cut_at_any_byte_is_refused(rt: HostRuntime) -> Result<(), Fail
 }
 
 /// A word, the takes and the gifts that fail, the status, the line, and what is written. The first
-/// sum is taken by two calls, the second of which tells its end, and given by two.
+/// sum is taken by two calls, the second of which reports its end, and given by two.
 type Failing = (
     &'static str,
     &'static [u64],
@@ -68,7 +68,7 @@ static FAILING: [Failing; 11] = [
     ("check", &[], &[2], 0, "", b"GOOD 1 0 1\n"),
 ];
 
-/// A row leaves this of a deck.
+/// Fails unless a row leaves this of a deck.
 fn expect_failing<R: Threads + Wait + Sync>(
     rt: &R,
     alloc: Global,
@@ -93,7 +93,7 @@ fn each_call_of_each_end_fails_in_turn(rt: HostRuntime) -> Result<(), Fail> {
     Ok(())
 }
 
-/// The first sum is run between ends that move at most so many bytes a call.
+/// Runs the first sum between ends that move at most this many bytes a call.
 fn expect_dribbling<R: Threads + Wait + Sync>(
     rt: &R,
     alloc: Global,
@@ -117,8 +117,8 @@ fn ends_that_move_few_bytes_a_call_change_nothing(rt: HostRuntime) -> Result<(),
     Ok(())
 }
 
-/// How many lines of the deck stay in front, what stands behind them, how many of its first lines
-/// do not follow, the line that is refused, and its cause.
+/// How many lines of the deck stay at the start, what comes after them, how many of its first lines
+/// do not follow, the line that is rejected, and its cause.
 type Row<'a> = (usize, &'a [u8], usize, u32, &'static str);
 
 const VERSION: &str = "not a version 1, 2 or 3 deck";
@@ -154,7 +154,7 @@ static NO_PROJECT: [Row<'static>; 2] = [
     (2, b"ACCOUNT 0,5 DEMO 100 8\n", 3, 3, RANGE),
 ];
 
-/// How many bytes the first so many lines have.
+/// Returns how many bytes this many of the first lines have.
 fn length_of_lines(deck: &[u8], lines: usize) -> usize {
     let (mut count, mut length) = (0usize, 0usize);
     for byte in deck {
@@ -168,7 +168,7 @@ fn length_of_lines(deck: &[u8], lines: usize) -> usize {
     length
 }
 
-/// The first lines of a deck, other bytes, and the lines behind the first so many.
+/// Returns the first lines of a deck, other bytes, and the lines after this many of the first.
 fn changed(
     alloc: Global,
     deck: &[u8],
@@ -184,7 +184,7 @@ fn changed(
     Ok(bytes)
 }
 
-/// A run and a check refuse an input at this line for this cause.
+/// Fails unless a run and a check reject an input at this line for this cause.
 fn expect_refused<R: Threads + Wait + Sync>(
     rt: &R,
     alloc: Global,
@@ -198,7 +198,7 @@ fn expect_refused<R: Threads + Wait + Sync>(
     expect_call(rt, alloc, &["check"], input, want)
 }
 
-/// A deck is refused with its lines changed as a row tells.
+/// Fails unless a deck is rejected with its lines changed as a row says.
 fn expect_row<R: Threads + Wait + Sync>(
     rt: &R,
     alloc: Global,
@@ -222,7 +222,7 @@ fn expect_rows<R: Threads + Wait + Sync>(
     Ok(())
 }
 
-/// Other bytes, and behind them lines of so many letters behind a greater-than sign.
+/// Returns other bytes, and after them lines of this many letters after a greater-than sign.
 fn with_long_lines(
     alloc: Global,
     front: &[u8],
@@ -239,7 +239,7 @@ fn with_long_lines(
     Ok(bytes)
 }
 
-/// The lines of so many terminals.
+/// Returns the lines of this many terminals.
 fn terminals(alloc: Global, count: u32) -> Result<Vec<u8>, Fail> {
     let mut terminals = Vec::new(alloc);
     for number in 1..=count {
@@ -249,8 +249,8 @@ fn terminals(alloc: Global, count: u32) -> Result<Vec<u8>, Fail> {
     Ok(terminals)
 }
 
-/// A key line of 256 bytes in place of line 6, and a text of two lines of 300 bytes in a block. The
-/// 64th terminal has no room.
+/// Fails unless these are rejected: a key line of 256 bytes in place of line 6, a text of two lines
+/// of 300 bytes in a block, and a 64th terminal.
 fn expect_long<R: Threads + Wait + Sync>(rt: &R, alloc: Global, deck: &[u8]) -> Result<(), Fail> {
     let keys = with_long_lines(alloc, b"", 1, 256)?;
     let file = with_long_lines(alloc, b"FILE [100,5]A<60> 1\n", 2, 300)?;

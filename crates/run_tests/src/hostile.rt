@@ -1,4 +1,4 @@
-//! Programs that ask for more than there is, and a file that a stranger is denied.
+//! Programs that ask for more than there is, and a file that is denied to a stranger.
 
 use crate::pacing::{Hold, expect_ordered};
 use crate::screens::{LOGIN, ONE_ACCOUNT, System, expect_at, expect_system};
@@ -65,7 +65,7 @@ static PROGRAMS: [System<'static>; 6] = [
     ),
 ];
 
-/// PRINT of a number in so many parentheses.
+/// Returns PRINT of a number in this many parentheses.
 fn print_in_parentheses(alloc: Global, levels: usize) -> Result<String, Fail> {
     let mut line = String::from_str(alloc, "PRINT ")?;
     for _ in 0..levels {
@@ -88,7 +88,7 @@ fn hostile_programs_are_met_by_a_named_answer(rt: HostRuntime) -> Result<(), Fai
     expect_at(&rt, rt.alloc(), 1, &rows)
 }
 
-/// The owner of a file reads, writes and holds its block; a stranger opens it, asks for the catalog
+/// The owner of a file reads, writes and locks its block; a stranger opens it, asks for the catalog
 /// of its owner, and prints.
 const FRONT: &str = "RSTS-DECK 1\nDISK 8\nACCOUNT 100,5 OWN 100\nACCOUNT 100,6 OTHER 100\n\
 FILE [100,5]S<60> 1\n";
@@ -106,7 +106,8 @@ const STRANGER: &str = "HELLO 100,6;OTHER\r\nReady\r\nOPEN '[100,5]S' AS FILE 1%
 ?Protection violation\r\nReady\r\nCAT [100,5]\r\nS     .        -  <60>\r\nReady\r\n\
 PRINT 2%+3%\r\n 5 \r\nReady\r\nBYE\r\nBye\r\n";
 
-/// The stranger opens while the owner holds, and the owner goes when the stranger has seen all.
+/// The stranger opens while the owner has the lock, and the owner goes when the stranger has seen
+/// all.
 const HOLDS: &[Hold] = &[
     Hold {
         job: 1,
@@ -122,7 +123,7 @@ const HOLDS: &[Hold] = &[
     },
 ];
 
-/// The two terminals run over a file of that text, and this is written.
+/// Runs the two terminals over a file of that text, and fails unless this is written.
 fn expect_over<R: Threads + Wait + Clock + Sync>(
     rt: &R,
     alloc: Global,

@@ -17,7 +17,7 @@ use time_sharing::Outcome;
 /// How many milliseconds a call waits for a call of another job.
 const MOST_NAPS: u32 = 20_000;
 
-/// A job's call of that number is held until another job has so many calls answered.
+/// A job's call of that number is held until another job has this many calls answered.
 #[derive(Clone, Copy)]
 pub(crate) struct Hold {
     pub(crate) job: u32,
@@ -33,7 +33,7 @@ struct Calls {
     after: AtomicU64,
 }
 
-/// It holds the calls that it was told.
+/// It holds the calls that it was made to hold.
 #[derive(Drop)]
 pub(crate) struct Ordered<'a, R: Clock> {
     rt: &'a R,
@@ -59,12 +59,12 @@ impl<'a, R: Clock> Ordered<'a, R> {
         })
     }
 
-    /// Whether a call waited in vain.
+    /// Returns whether a call waited in vain.
     fn is_late(&self) -> bool {
         self.late.load(Ordering::SeqCst) > 0
     }
 
-    /// How often it was called before and after the calls of a job.
+    /// Returns how often it was called before and after the calls of a job.
     fn calls_of(&self, job: u32) -> (u64, u64) {
         match self.calls.get(job as usize) {
             Some(calls) => (
@@ -120,7 +120,7 @@ impl<'a, R: Clock> Pacer for Ordered<'a, R> {
     }
 }
 
-/// How many entries of a history are a job's.
+/// Returns how many entries of a history are a job's.
 fn entries_of(record: &RunRecord, job: u32) -> u64 {
     let mut count = 0u64;
     for entry in record.as_slice() {
@@ -131,8 +131,8 @@ fn entries_of(record: &RunRecord, job: u32) -> u64 {
     count
 }
 
-/// Whether a history is told whose jobs the pacer held: it was called before and after each call,
-/// and nobody waited in vain.
+/// Returns whether the outcome has a history whose jobs the pacer held: it was called before and
+/// after each call, and nobody waited in vain.
 fn were_held<R: Clock>(pacer: &Ordered<'_, R>, outcome: &Outcome, jobs: u32) -> bool {
     let record = match outcome {
         Outcome::Ok(record) => record,
@@ -148,8 +148,8 @@ fn were_held<R: Clock>(pacer: &Ordered<'_, R>, outcome: &Outcome, jobs: u32) -> 
     !pacer.is_late()
 }
 
-/// What the program answers to words and an input with its jobs' calls held so, where its sink
-/// never fails, and the sink. Fails where a job was not held at each of its calls.
+/// Returns the outcome of the program for words and an input with its jobs' calls held so, and the
+/// sink, which never fails. Fails if a job was not held at each of its calls.
 pub(crate) fn run_ordered<R: Threads + Wait + Clock + Sync>(
     rt: &R,
     alloc: Global,
@@ -167,7 +167,7 @@ pub(crate) fn run_ordered<R: Threads + Wait + Clock + Sync>(
     Ok(answer)
 }
 
-/// The program is run with its calls held so, and writes this.
+/// Runs the program with its calls held so, and fails unless it writes this.
 pub(crate) fn expect_ordered<R: Threads + Wait + Clock + Sync>(
     rt: &R,
     alloc: Global,
@@ -181,7 +181,7 @@ pub(crate) fn expect_ordered<R: Threads + Wait + Clock + Sync>(
     expect_left(&outcome, sink.bytes(), good(want))
 }
 
-/// The second call of each of so many jobs waits for the first call of each.
+/// Makes the second call of each of this many jobs wait for the first call of each.
 pub(crate) fn second_calls(alloc: Global, jobs: u32) -> Result<Vec<Hold>, Fail> {
     let mut holds = Vec::new(alloc);
     for job in 0..jobs {

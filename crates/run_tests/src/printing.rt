@@ -1,4 +1,4 @@
-//! The line printer at the terminals of a deck, and what of it stands behind the report.
+//! The line printer at the terminals of a deck, and what of it comes after the report.
 
 use crate::calls::{FIRST_SUM, Good, SUM_REPORT, expect_all};
 use crate::pacing::{Hold, expect_ordered};
@@ -11,7 +11,7 @@ use std::time::Clock;
 
 const NO_PRINTER: &str = "?Device not available\nReady\n";
 
-/// The report of the first sum, the text of its history, and no listing.
+/// The report of the first sum, the text of its history, and no print job.
 const SUM_WITH_ALL: &[u8] =
     b"TERMINAL T1 60\nHELLO 100,5;DEMO\r\nReady\r\nPRINT 2%+3%\r\n 5 \r\nReady\r\nBYE\r\nBye\r\n\n\
 HISTORY 2\n0 LOGIN 100,5 44454d4f = DONE\n0 LOGOUT = DONE\nPRINTED 0\n";
@@ -32,14 +32,14 @@ fn no_listing_is_told_behind_the_history(rt: HostRuntime) -> Result<(), Fail> {
     expect_all(&rt, rt.alloc(), &WITHOUT_LISTINGS)
 }
 
-/// Terminals, the calls of which some are held, and what is written behind their report.
+/// Terminals, the calls of which some are held, and what is written after their report.
 struct Printing {
     system: System<'static>,
     holds: &'static [Hold],
     printed: &'static [u8],
 }
 
-/// The deck is run with its calls held so, and this is written.
+/// Runs the deck with its calls held so, and fails unless this is written.
 fn expect_printing<R: Threads + Wait + Clock + Sync>(
     rt: &R,
     alloc: Global,
@@ -95,7 +95,7 @@ const FIRST_QUEUES: &[Row<'static>] = &[LOGIN, ("QUE ONE", READY)];
 
 const SECOND_QUEUES_TWICE: &[Row<'static>] = &[LOGIN, ("QUE TWO", NO_PRINTER), ("QUE TWO", READY)];
 
-/// The second asks for the printer while the first prints, and once more behind it.
+/// The second asks for the printer while the first prints, and once more after it.
 static IN_TURN: Printing = Printing {
     system: (TWO_FILES, &[FIRST_QUEUES, SECOND_QUEUES_TWICE]),
     holds: &[

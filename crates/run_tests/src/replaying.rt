@@ -1,4 +1,4 @@
-//! The replay: a deck with a history behind it, checked once more.
+//! The replay: a deck with a history after it, checked once more.
 
 use crate::calls::*;
 use crate::runs::TWO;
@@ -8,10 +8,10 @@ use std::test::Fail;
 use std::thread::Threads;
 use terminal_runner::IdlePacer;
 
-/// The text behind a deck, and what is told of it.
+/// The text after a deck, and the line that is reported of it.
 type Disputed = (&'static str, &'static str);
 
-/// These pieces, one behind another.
+/// Returns these pieces, one after another.
 fn joined(alloc: Global, pieces: &[&[u8]]) -> Result<Vec<u8>, Fail> {
     let mut bytes = Vec::new(alloc);
     for piece in pieces {
@@ -20,7 +20,8 @@ fn joined(alloc: Global, pieces: &[&[u8]]) -> Result<Vec<u8>, Fail> {
     Ok(bytes)
 }
 
-/// A replay of these pieces, over ends of which the sink fails at the listed calls, leaves this.
+/// Fails unless a replay of these pieces, over ends of which the sink fails at the listed calls,
+/// leaves this.
 fn expect_replay<R: Threads + Wait + Sync>(
     rt: &R,
     alloc: Global,
@@ -32,7 +33,7 @@ fn expect_replay<R: Threads + Wait + Sync>(
     expect_between(rt, alloc, &["replay"], &input, (&[], failing_gifts), want)
 }
 
-/// A text behind a deck is told this line.
+/// Fails unless the replay of a text after a deck reports this line.
 fn expect_told<R: Threads + Wait + Sync>(
     rt: &R,
     alloc: Global,
@@ -56,17 +57,17 @@ fn expect_disputed<R: Threads + Wait + Sync>(
     Ok(())
 }
 
-/// What a run of a deck writes: its report, and the text of its history.
+/// Returns what a run of a deck writes: its report, and the text of its history.
 fn run_told<R: Threads + Wait + Sync>(rt: &R, alloc: Global, deck: &[u8]) -> Result<String, Fail> {
     let asked = ["run", "--history"];
     let (_, sink) = answered(rt, alloc, &asked, deck, &[], &[], &IdlePacer)?;
     Ok(String::from_utf8(sink.bytes().to_vec(alloc)?)?)
 }
 
-/// The word in front of the number of entries.
+/// The word before the number of entries.
 const HISTORY: &str = "HISTORY ";
 
-/// A run that was told with its history is replayed, and gives the same report.
+/// Fails unless a run that was written with its history is replayed, and gives the same report.
 fn expect_retold<R: Threads + Wait + Sync>(rt: &R, alloc: Global, deck: &[u8]) -> Result<(), Fail> {
     let told = run_told(rt, alloc, deck)?;
     match told.as_str().split_once(HISTORY) {
@@ -91,7 +92,7 @@ fn a_history_of_a_run_is_replayed(rt: HostRuntime) -> Result<(), Fail> {
     )
 }
 
-/// Texts behind the eight lines of the first deck.
+/// Texts after the eight lines of the first deck.
 static DISPUTED: [Disputed; 13] = [
     (
         "HISTORY 2\n0 LOGIN 100,5 44454d4f = FAILED 5\n0 LOGOUT = DONE\n",
@@ -151,7 +152,7 @@ fn a_disputed_history_is_told_its_line_and_cause(rt: HostRuntime) -> Result<(), 
     expect_disputed(&rt, rt.alloc(), FIRST_SUM, &DISPUTED)
 }
 
-/// Texts behind the eleven lines of a deck of two terminals: one left out of the middle and one of
+/// Texts after the eleven lines of a deck of two terminals: one left out of the middle and one of
 /// the end, a history of another deck, and two terminals that both depart.
 static DISPUTED_OF_TWO: [Disputed; 4] = [
     (
@@ -177,7 +178,7 @@ fn the_first_terminal_that_departs_is_told(rt: HostRuntime) -> Result<(), Fail> 
     expect_disputed(&rt, rt.alloc(), TWO, &DISPUTED_OF_TWO)
 }
 
-/// Inputs whose deck's part is refused.
+/// Inputs whose deck's part is rejected.
 static NO_DECKS: [Disputed; 4] = [
     ("", "deck line 1: input ends early"),
     (
@@ -239,7 +240,7 @@ const COUNTS: &[u8] = b">HELLO 100,5;DEMO\n>10 ON ERROR GOTO 100\n\
 >90 CLOSE 1% : GOTO 130\n>100 IF ERR<>19% THEN ON ERROR GOTO 0\n\
 >110 K%=0% : K%=K%+1% WHILE K%<1000%\n>120 SLEEP 1% : RESUME\n>130 END\n>RUNNH\n>BYE\n";
 
-/// The deck of a drill of two terminals.
+/// Returns the deck of a drill of two terminals.
 fn drill_of_two(alloc: Global) -> Result<Vec<u8>, Fail> {
     let front = b"RSTS-DECK 1\nDISK 8\nACCOUNT 100,5 DEMO 16384\n\
          FILE [100,5]COUNT.DAT<60> 1\nTERMINAL T1\n";
@@ -257,7 +258,8 @@ fn a_drill_of_two_terminals_is_replayed(rt: HostRuntime) -> Result<(), Fail> {
     expect_retold(&rt, rt.alloc(), &drill)
 }
 
-/// The first page that was read had zeros alone; here its first byte is 1.
+/// Fails unless a changed page is found: the first page that was read had zeros alone, and here its
+/// first byte is 1.
 fn expect_missed<R: Threads + Wait + Sync>(
     rt: &R,
     alloc: Global,

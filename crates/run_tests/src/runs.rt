@@ -73,7 +73,7 @@ fn other_words_are_told_the_usage(rt: HostRuntime) -> Result<(), Fail> {
     Ok(())
 }
 
-/// The report of the first sum, and its history behind it.
+/// The report of the first sum, and then its history.
 const SUM_HISTORY: &[u8] =
     b"TERMINAL T1 60\nHELLO 100,5;DEMO\r\nReady\r\nPRINT 2%+3%\r\n 5 \r\nReady\r\nBYE\r\nBye\r\n\n\
 HISTORY 2\n0 LOGIN 100,5 44454d4f = DONE\n0 LOGOUT = DONE\n";
@@ -230,8 +230,8 @@ fn functions_and_loops(rt: HostRuntime) -> Result<(), Fail> {
     expect_at(&rt, rt.alloc(), 1, &FUNCTIONS)
 }
 
-/// A line in which a call of FNF% stands inside 64 levels, the most that are read: 57 openings,
-/// each ended by a parenthesis, and seven parentheses.
+/// Returns a line in which a call of FNF% is inside 64 levels, the deepest nesting that is read: 57
+/// openings, each ended by a parenthesis, and seven parentheses.
 fn deepest_line(alloc: Global, opening: &str) -> Result<String, Fail> {
     let mut line = String::from_str(alloc, "80 FNF%=")?;
     for _ in 0..57 {
@@ -244,8 +244,8 @@ fn deepest_line(alloc: Global, opening: &str) -> Result<String, Fail> {
     Ok(line)
 }
 
-/// A program of these calls, each made in that line, shows this at each of two terminals, of which
-/// one at least has a thread that was made for it.
+/// Fails unless a program of these calls, each made in that line, shows this at each of two
+/// terminals, of which one at least has a thread that was made for it.
 fn expect_calls<'a, R: Threads + Wait + Sync>(
     rt: &R,
     alloc: Global,
@@ -271,7 +271,7 @@ fn expect_calls<'a, R: Threads + Wait + Sync>(
     expect_at(rt, alloc, 2, &rows)
 }
 
-/// The same where each call is made inside 64 levels that open so.
+/// Fails unless the same is shown with each call made inside 64 levels that open so.
 fn expect_deepest_run<R: Threads + Wait + Sync>(
     rt: &R,
     alloc: Global,
@@ -328,8 +328,8 @@ fn a_limit_of_five_calls(rt: HostRuntime) -> Result<(), Fail> {
     expect_call(&rt, rt.alloc(), &["run", "--history"], FIVE_CALLS, want)
 }
 
-/// Runs an input between ends in memory. What must come is no empty promise: here a deck is run,
-/// unless memory or the sink's room runs out.
+/// Runs an input between ends in memory. The clause of what must come is no empty promise: here a
+/// deck is run, unless memory or the sink's space runs out.
 fn run_between_plain_ends<R: Threads + Wait + Sync>(
     rt: &R,
     alloc: Global,

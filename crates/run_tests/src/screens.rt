@@ -1,4 +1,4 @@
-//! Decks whose terminals type lines, each of which is told with what it shows.
+//! Decks whose terminals type lines, each of which is given with what it shows.
 
 use crate::calls::{expect_call, good};
 use std::alloc::Global;
@@ -6,10 +6,10 @@ use std::sync::Wait;
 use std::test::Fail;
 use std::thread::Threads;
 
-/// A line, and what it shows, with LF where the screen has CR LF.
+/// A line, and what it shows, with LF in place of CR LF on the screen.
 pub(crate) type Row<'a> = (&'a str, &'a str);
 
-/// A deck's lines in front of its terminals, and the rows of each terminal.
+/// A deck's lines before its terminals, and the rows of each terminal.
 pub(crate) type System<'a> = (&'a str, &'a [&'a [Row<'a>]]);
 
 /// A disk of 8 blocks with one account, and nothing on it.
@@ -23,7 +23,7 @@ pub(crate) const NO_FILE: &str = "?Can't find file or account\nReady\n";
 
 pub(crate) const PROTECTED: &str = "?Protection violation\nReady\n";
 
-/// Adds a text with CR LF where it has LF.
+/// Adds a text with CR LF in place of LF.
 fn push_shown(screen: &mut Vec<u8>, text: &str) -> Result<(), Fail> {
     for byte in text.as_bytes() {
         if *byte == b'\n' {
@@ -45,7 +45,7 @@ fn push_row(deck: &mut Vec<u8>, screen: &mut Vec<u8>, row: &Row<'_>) -> Result<(
     push_shown(screen, shown)
 }
 
-/// Adds the keys of the rows to a deck, and gives the screen, to the end of the keys.
+/// Adds the keys of the rows to a deck, and returns the screen, to the end of the keys.
 fn push_keys(alloc: Global, deck: &mut Vec<u8>, rows: &[Row<'_>]) -> Result<Vec<u8>, Fail> {
     let mut screen = Vec::new(alloc);
     for row in rows {
@@ -101,7 +101,7 @@ fn push_terminals(
     Ok(())
 }
 
-/// The deck of a system, and its report. The first terminal has that number.
+/// Returns the deck of a system, and its report. The first terminal has that number.
 pub(crate) fn deck_and_report(
     alloc: Global,
     first: usize,
@@ -113,7 +113,7 @@ pub(crate) fn deck_and_report(
     Ok((deck, report))
 }
 
-/// The program writes this of a system whose first terminal has that number.
+/// Fails unless the program writes this of a system whose first terminal has that number.
 pub(crate) fn expect_system<R: Threads + Wait + Sync>(
     rt: &R,
     alloc: Global,
@@ -124,7 +124,7 @@ pub(crate) fn expect_system<R: Threads + Wait + Sync>(
     expect_call(rt, alloc, &["run"], &deck, good(&report))
 }
 
-/// The same of systems whose terminals are `T0` and so on.
+/// Fails unless it writes the same of systems whose terminals are `T0` and so on.
 pub(crate) fn expect_systems<R: Threads + Wait + Sync>(
     rt: &R,
     alloc: Global,
@@ -136,7 +136,8 @@ pub(crate) fn expect_systems<R: Threads + Wait + Sync>(
     Ok(())
 }
 
-/// The deck of so many terminals, `T1` and so on, that all type these rows, and its report.
+/// Returns the deck of this many terminals, `T1` and so on, that all type these rows, and its
+/// report.
 fn deck_and_report_of_alike(
     alloc: Global,
     count: usize,
@@ -151,7 +152,7 @@ fn deck_and_report_of_alike(
     Ok((deck, report))
 }
 
-/// The program shows this at each of so many terminals, `T1` and so on.
+/// Fails unless the program shows this at each of this many terminals, `T1` and so on.
 pub(crate) fn expect_at<R: Threads + Wait + Sync>(
     rt: &R,
     alloc: Global,

@@ -1,5 +1,5 @@
-//! Whole sessions at the terminals of a deck: what files, records, fields, arrays in files, text on
-//! channels and messages show behind a monitor.
+//! Whole sessions at the terminals of a deck: what files, records, fields, arrays in files, strings
+//! on channels and messages show over a monitor.
 
 use crate::screens::{LOGIN, NO_FILE, ONE_ACCOUNT, PROTECTED, READY, System, expect_systems};
 use std::test::Fail;
@@ -173,7 +173,7 @@ const NUMBERS_OVER_TWO_BLOCKS: System<'static> = (
     ]],
 );
 
-/// An element is a target of READ and INPUT, and stands in the midst of an argument.
+/// An element is a target of READ and INPUT, and is within an argument.
 const ELEMENTS_AS_TARGETS: System<'static> = (
     ONE_ACCOUNT,
     &[&[
@@ -202,7 +202,8 @@ const TEXT_IS_READ_BACK: System<'static> = (
     ]],
 );
 
-/// The bytes of a PRINT USING wait where the disk has no room for them, and are put once it has.
+/// The bytes of a PRINT USING wait while the disk has no space for them, and are written once it
+/// has.
 const REFUSED_PUT_OF_A_FORMAT: System<'static> = (
     "RSTS-DECK 1\nDISK 1\nACCOUNT 100,5 DEMO 100\nFILE [100,5]FULL<60> 1\n",
     &[&[
@@ -289,7 +290,7 @@ const CALLS_OF_SYS: System<'static> = (
 const MANY_CALLS: &str =
     "RSTS-DECK 1\nDISK 200\nACCOUNT 100,5 DEMO 16384\nFILE [100,5]DATA<60> 1\n";
 
-/// One holds a block until it is told that the other was refused, and the other polls for it.
+/// One holds a block until a message says that the other was refused, and the other polls for it.
 const A_HELD_BLOCK_IS_POLLED_FOR: System<'static> = (
     MANY_CALLS,
     &[
@@ -324,7 +325,7 @@ const A_HELD_BLOCK_IS_POLLED_FOR: System<'static> = (
     ],
 );
 
-/// Eight customers stand in a block; each balance is changed. It takes 250 calls, and 4 Ticks.
+/// Eight customers are in a block; each balance is changed. It takes 250 calls, and 4 Ticks.
 const A_THOUSAND_CUSTOMERS: System<'static> = (
     MANY_CALLS,
     &[&[

@@ -1,4 +1,4 @@
--- What is read is a row of the table. A chain of tests on a code is split by a lemma with a Bool
+-- What is read is an entry of the table. A chain of tests on a code is split by a lemma with a Bool
 -- for each test.
 use Rattle.std.proofs.Common.{◌≡◌, ℕ, ◌≤◌, ◌+◌, Bool, true, false, cond, eqb, List, [], ◌∷◌, ◌++◌, length, get_or, take, drop, Option, Some, None, refl, sym, ap, subst, ◌∙◌, arith}
 use Rattle.std.specs.Prelude.{◌&&◌, nat_le}

@@ -39,7 +39,7 @@ only_spaces (x ∷ xs) e =
     let rest : xs ≡ replicate (length xs) 32 = only_spaces xs (and_right (eqb x 32) (list_all is_space xs) e) in
     λ i. front i ∷ rest i
 
--- a space is no letter, so a name ends where they begin
+-- a space is no letter, so a name ends before the first space
 no_letter : (count : ℕ) → name_length (replicate count 32) ≡ 0
 no_letter zero = refl
 no_letter (suc count) = refl

@@ -1,4 +1,4 @@
--- What the table has is read: from the front, code by code.
+-- What the table has is read: from the start, code by code.
 use Rattle.std.proofs.Common.{◌≡◌, ℕ, suc, ◌≤◌, ◌+◌, ◌-◌, true, false, cond, eqb, List, [], ◌∷◌, ◌++◌, length, get_or, take, drop, Option, Some, None, refl, sym, ap, ◌∙◌, arith, eq-eqb}
 use Rattle.std.specs.Prelude.{◌&&◌, nat_le}
 use Rattle.std.proofs.lemmas.Bool.{le-leb, ne_eqb}
@@ -13,7 +13,7 @@ use Rattle.sys_calls.specs.Table.{SaysReceiver, SaysCall}
 use Rattle.sys_calls.specs.CallFronts.{receiver_in, declared_as, declare_in, sent_to, send_in, by_code, message_call_of, monitor_call_of, call_of, call_in}
 use Rattle.sys_calls.proofs.ReceiverLemmas.{then_found, receiver_found, six_bytes_long}
 
--- ---- a code at the front
+-- ---- a code at the start
 
 pub not_empty : (n : ℕ) → eqb (suc n) 0 ≡ false
 not_empty n = ne_eqb (suc n) 0 (λ e. omega arith)

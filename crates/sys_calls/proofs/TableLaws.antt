@@ -11,7 +11,7 @@ use Rattle.sys_calls.proofs.ReceiverLemmas.{some_is}
 use Rattle.sys_calls.proofs.SaidIsRead.{said_is_read}
 use Rattle.sys_calls.proofs.ReadIsSaid.{none_found, read_is_said}
 
--- reading from the front decodes by the table
+-- reading from the start decodes by the table
 pub decodes_by_reading : (text : List ℕ) (result : Result SysCall (Trouble ℕ)) → ReadsCall (call_in text) result → DecodesText text result
 decodes_by_reading text (Ok call) reads = read_is_said text call reads
 decodes_by_reading text (Err (Refused fault)) reads =

@@ -1,5 +1,5 @@
--- The table of SYS as a function: a string is read from its front. `Laws` says that it finds a call
--- exactly if the table has a row for it, so if you know the table, you need not read this file.
+-- The table of SYS as a function: a string is read from its start. `Laws` says that it finds a call
+-- exactly if the table has an entry for it, so if you know the table, you need not read this file.
 use Rattle.std.specs.Prelude.{◌≡◌, ℕ, ◌+◌, ◌==◌, ◌&&◌, nat_le, if◌then◌else◌, List, length, map, take, drop, slice_index_or, Option, Some, None, Result, Ok, Err}
 use Rattle.std.specs.Char.{to_ascii_uppercase}
 use Rattle.std.specs.List.{list_all, prefix_len}
@@ -21,7 +21,7 @@ ReadsCall found (Err NoMemory) = Unit {0}
 
 -- THE NAME OF A RECEIVER
 
--- how many capital letters and digits the text begins with
+-- how many capital letters and digits the string begins with
 abbrev pub name_length : List ℕ → ℕ
 name_length raised = prefix_len is_capital_or_digit raised
 

@@ -13,7 +13,7 @@ SaysOneCall = (text : List ℕ) (a b : SysCall) → SaysCall text a → SaysCall
 abbrev pub GivesOneText : Type 0
 GivesOneText = (reply : Reply) (a b : List ℕ) → GivesText reply a → GivesText reply b → a ≡ b
 
--- reading from the front finds a call exactly if the table has it
+-- reading from the start finds a call exactly if the table has it
 abbrev pub FindsWhatIsSaid : Type 0
 FindsWhatIsSaid =
     (text : List ℕ) (call : SysCall) → (call_in text ≡ Some call) ↔ SaysCall text call

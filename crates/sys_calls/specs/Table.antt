@@ -36,7 +36,7 @@ pub record SaysSend (text name message : List ℕ) : Type 0 where
   pub is : text ≡ 6 ∷ 22 ∷ 255 ∷ six ++ message
   pub short : length message ≤ LONGEST_MESSAGE
 
--- the rows of requests to the monitor; no string makes another request
+-- the entries of requests to the monitor; no string makes another request
 abbrev pub SaysRequest : List ℕ → Request → Type 0
 SaysRequest text (Declare name most) = SaysDeclare text name most
 SaysRequest text Remove = text ≡ 6 ∷ 22 ∷ 0 ∷ []

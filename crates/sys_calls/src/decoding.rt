@@ -21,8 +21,8 @@ use std::alloc::Global;
 /// Bytes of a receiver's name.
 const NAME_BYTES: usize = 6;
 
-/// Returns the call of the string. A string that fits no row of the table is error 18, the manual's
-/// "Illegal SYS() usage".
+/// Returns the call of the string. A string that fits no entry of the table is error 18, the
+/// manual's "Illegal SYS() usage".
 pub fn decode(alloc: Global, text: &[u8]) -> Result<SysCall, Trouble<Fault>>
     ensures says { DecodesText text.now result }
 
@@ -49,7 +49,7 @@ fn call_in(alloc: Global, text: &[u8]) -> Result<SysCall, Trouble<Fault>>
     }
 }
 
-/// Returns error 18: the string fits no row.
+/// Returns error 18: the string fits no entry.
 fn illegal() -> Result<SysCall, Trouble<Fault>>
     ensures { result ≡ Err (Refused ILLEGAL_SYS) }
 {

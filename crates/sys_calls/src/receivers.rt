@@ -39,7 +39,7 @@ fn receiver_before(raised: &[u8]) -> Option<Short>
     Short::password(&raised[..count])
 }
 
-/// Returns how many capital letters and digits the text begins with.
+/// Returns how many capital letters and digits the string begins with.
 fn capitals_and_digits_in_front(text: &[u8]) -> usize
     ensures count { result ≡ prefix_len is_capital_or_digit text.now }
     ensures within { result ≤ length text.now }

@@ -1,4 +1,5 @@
--- Seats that came back from threads and were joined, and what the run's history then has of each job.
+-- Seats that came back from threads and were joined, and what the run's history then has of each
+-- job.
 use Rattle.std.proofs.Common.{◌≡◌, ℕ, zero, suc, ◌+◌, ◌<◌, List, [], ◌∷◌, ◌++◌, length, Ok, Err, refl, sym, ap, ◌∙◌, subst, arith, append_assoc}
 use Rattle.std.specs.Prelude.{slice_get, slice_index_or, Result, Option, Some, None, IfOk, IfSome}
 use Rattle.std.proofs.lemmas.List.{length-map, map-append, append-nil}

@@ -1,4 +1,4 @@
--- What the pacer of a job is told, from its first call on.
+-- What the pacer of a job is notified of, from its first call on.
 use Rattle.std.proofs.Common.{◌≡◌, ℕ, suc, ◌+◌, ◌≤◌, List, [], ◌∷◌, ◌++◌, map, length, Result, Ok, Err, sym, ap, ◌∙◌, subst, arith, length-append}
 use Rattle.std.specs.Prelude.{IfOk, OnErr}
 use Rattle.std.proofs.Math.Logic.{∥∥₁_map}
@@ -40,7 +40,7 @@ asked_once seat seat' request (Ok reply) asked same =
 asked_once seat seat' request (Err none) asked same =
     let less : length seat'.pass.mine ≡ length seat.pass.mine = ap (λ (s : SeatValue). length s.pass.mine) same in omega arith
 
--- what is told of the port's seat is told of the seat that is handed back
+-- what is reported of the port's seat is reported of the seat that is returned
 pub told_back : {K : Type 0} (tellings : K → List Told) (seat first last back : SeatValue) (told told' : K) (calls : ℕ) → first ≡ seat → unasked last ≡ unasked first → back ≡ last → told' ≡ told
     → ∥ WasTold last.pass.job (length last.pass.mine) calls (tellings told) ∥₁ → ∥ WasTold seat.pass.job (length back.pass.mine) calls (tellings told') ∥₁
 told_back {K} tellings seat first last back told told' calls is who same kept was =

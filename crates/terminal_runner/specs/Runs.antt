@@ -9,8 +9,9 @@ use Rattle.monitor_model.specs.History.{part_of}
 use Rattle.monitor_gate.specs.OneHistory.{IsHistory}
 
 module _ {K W : Type 0} (which : K → W) (keys : K → Typing) where
-  -- A job had these pairs and left this screen and its keyboard. They are those of the events of a port: the pairs are
-  -- the events' pairs, the key lines are the first that were typed at the keyboard, and the body does these events
+  -- A job had these pairs and left this screen and its keyboard. They are those of the events of a
+  -- port: the pairs are the events' pairs, the key lines are the first that were typed at the
+  -- keyboard, and the body does these events
   pub record Did (does : List Event → List ℕ → Type 0) (keyboard left : K) (pairs : List Pair) (screen : List ℕ) : Type 0 where
     pub same : which left ≡ which keyboard
     pub events : List Event
@@ -19,7 +20,8 @@ module _ {K W : Type 0} (which : K → W) (keys : K → Typing) where
     pub done : does events screen
 
   module _ {B : Type 0} (does : B → List Event → List ℕ → Type 0) where
-    -- what the job of a number does, of each of which there is a body and a keyboard, and leaves this keyboard
+    -- what the job of a number does, of each of which there is a body and a keyboard, and leaves
+    -- this keyboard
     abbrev pub does_at : List (B × K) → List K → ℕ → List Pair → List ℕ → Type 0
     does_at jobs lefts number pairs screen =
         IfSome (slice_get jobs number) (λ job. (left : K) × (slice_get lefts number ≡ Some left) × Did (does job.0) job.1 left pairs screen)

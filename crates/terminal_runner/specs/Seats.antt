@@ -24,7 +24,7 @@ abbrev pub unasked : SeatValue → SeatValue
 unasked seat =
     seat_value seat.gate (record { opening = seat.pass.opening; job = seat.pass.job; seen = []; mine = [] })
 
--- the pass of a spare seat off which so many seats were split, and nothing else was done
+-- the pass of a spare seat from which this many seats were split off, and nothing else was done
 abbrev pub pass_at : State → ℕ → SparePass
 pass_at opening made = record { opening = opening; made = made; seen = []; ended = [] }
 
@@ -78,7 +78,8 @@ keyboards_of {K} backs = map (λ (back : Back K). back.1.0) backs
 abbrev pub screens_of : {K : Type 0} → List (Back K) → List (List ℕ)
 screens_of {K} backs = map (λ (back : Back K). back.1.1) backs
 
--- all came back, the spare seat has their passes after those that it had, and these are the keyboards and the screens
+-- all came back, the spare seat has their passes after those that it had, and these are the
+-- keyboards and the screens
 pub record Joined {K : Type 0} (answers : List (Answer K)) (old new : SpareValue) (keyboards : List K) (screens : List (List ℕ)) : Type 0 where
   pub joined : List (Back K)
   pub answers_are : answers ≡ all_back joined

@@ -1,4 +1,4 @@
-//! The events of a port. Clauses read all of them; at run time it keeps no more than the last.
+//! The events of a port. Contracts read all of them; at run time it keeps only the last.
 
 ghost use Rattle.std.specs.Prelude.{◌≡◌, [], ◌∷◌, ◌++◌};
 ghost use Rattle.monitor_calls.specs.declared.events.Event.TheVariants.{Asked, Typed};

@@ -2,10 +2,10 @@
 //!
 //! `run_jobs` makes a gate over the monitor, splits a seat off for each job, runs the jobs' bodies
 //! in threads, and joins the seats again (`runs`). A body asks and types through a port
-//! (`terminal_port`): over its job's seat (`paced_seat`), which tells a pacer of each call
-//! (`pacers`), and over a keyboard (`keyboards`). `BatchKeyboard` has all its lines before the job
-//! begins (`batch_keyboard`). Proofs read all events of a port (`event_log`), and all that a pacer
-//! was told (`tellings`). What a job does is known by its body alone.
+//! (`terminal_port`). The port has the job's seat (`paced_seat`), which notifies a pacer of each
+//! call (`pacers`), and a keyboard (`keyboards`). `BatchKeyboard` has all its lines before the job
+//! begins (`batch_keyboard`). Proofs read all events of a port (`event_log`), and all notifications
+//! of a pacer (`tellings`). What a job does is known by its body alone.
 #![tactic(auto)]
 
 mod batch_keyboard;

@@ -1,4 +1,4 @@
-//! A job's seat at a gate, beside the pacer.
+//! A job's seat at a gate, with the pacer.
 
 ghost use Rattle.std.specs.Prelude.{◌≡◌, ◌+◌, [], ◌∷◌, ◌++◌, length, IfOk, OnErr};
 ghost use Rattle.monitor_calls.specs.Pairs.{Grew};
@@ -12,16 +12,16 @@ use monitor_gate::{Gate, JobSeat};
 use std::alloc::Global;
 use std::sync::Wait;
 
-/// A job's seat at a gate, with a pacer that is told before and after each call.
+/// A job's seat at a gate, with a pacer that is notified before and after each call.
 #[derive(Drop)]
 pub(crate) struct PacedSeat<'a, R: Wait, P: Pacer> {
     rt: &'a R,
     gate: &'a Gate,
     pacer: &'a P,
     seat: JobSeat,
-    /// What the pacer was told of this seat.
+    /// The notifications of the pacer for this seat.
     told: P::Kept,
-    /// How many calls it has made; the count stays at the greatest number of 32 bits.
+    /// How many calls it has made; the count stays at the largest number of 32 bits.
     calls: u32,
     ghost own: { seat.gate ≡ gate.now.gate },
     ghost paced: { ∥ WasTold seat.pass.job (length seat.pass.mine) calls (P.tellings told) ∥₁ },
@@ -45,7 +45,7 @@ impl<'a, R: Wait, P: Pacer> PacedSeat<'a, R, P> {
         }
     }
 
-    /// Returns the seat at the gate, and what the pacer was told of it.
+    /// Returns the seat at the gate, and the notifications of the pacer for it.
     pub(crate) fn into_parts(self) -> (JobSeat, P::Kept)
         ensures seat { result.0 ≡ self.entry.seat }
         ensures told { result.1 ≡ self.entry.told }

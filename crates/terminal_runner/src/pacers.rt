@@ -1,4 +1,4 @@
-//! Pacers, which are told of each call of a job, so that tests can put calls in an order.
+//! Pacers, which are notified of each call of a job, so that tests can put calls in an order.
 
 ghost use Rattle.std.specs.Prelude.{◌≡◌, List, [], ◌∷◌, ◌++◌};
 ghost use Rattle.terminal_runner.specs.Told.{Told};
@@ -6,23 +6,23 @@ ghost use Rattle.terminal_runner.specs.Told.{Told};
 use crate::tellings::{Telling, Tellings};
 use monitor_gate::JobSeat;
 
-/// It is told of the calls of jobs. It tells nothing and changes nothing.
+/// An observer of the calls of jobs. It returns nothing and changes nothing.
 pub trait Pacer {
     /// What it keeps of one seat. No one else can add to it.
     type Kept: Drop + Send;
 
-    /// All that it was told of that seat, in order, each with the seat as it was then.
+    /// All its notifications for that seat, in order, each with the seat as it was then.
     ghost tellings: { Self.Kept → List Told };
 
-    /// For a seat of which it was told nothing.
+    /// Returns what it keeps for a seat of which it was not notified.
     fn seat(&self) -> Self::Kept
         ensures { tellings result ≡ [] };
 
-    /// The seat's job is about to make its call of that number, from 1.
+    /// Notifies it that the seat's job is about to make its call of that number, from 1.
     fn before(&self, kept: &mut Self::Kept, seat: &JobSeat, call: u32)
         ensures { tellings kept.new ≡ tellings kept.old ++ (Telling.Before call, seat.now) ∷ [] };
 
-    /// The seat's job has made its call of that number.
+    /// Notifies it that the seat's job has made its call of that number.
     fn after(&self, kept: &mut Self::Kept, seat: &JobSeat, call: u32)
         ensures { tellings kept.new ≡ tellings kept.old ++ (Telling.After call, seat.now) ∷ [] };
 }

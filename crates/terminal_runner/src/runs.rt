@@ -23,8 +23,8 @@ use std::sync::Wait;
 use std::thread;
 use std::thread::Threads;
 
-/// What a run leaves: of each job, in order, what its terminal was given and its keyboard; the
-/// monitor's calls; and the monitor as it is after them.
+/// What a run leaves: the screen and the keyboard of each job, in order; the monitor's calls; and
+/// the monitor as it is after them.
 #[derive(Drop)]
 pub struct RunEnd<K> {
     pub screens: Vec<Screen2>,
@@ -33,11 +33,11 @@ pub struct RunEnd<K> {
     pub monitor: Monitor,
 }
 
-/// What a job leaves: its seat, its keyboard, and what its terminal was given.
+/// What a job leaves: its seat, its keyboard, and its screen.
 type Left<K> = (JobSeat, (K, Screen2));
 
-/// Runs each job of the monitor in a thread of its own, to its end. Of each it is given the body
-/// and the keyboard. A job whose thread can't be started runs in the caller's.
+/// Runs each job of the monitor in a thread of its own, to its end. It takes the body and the
+/// keyboard of each. A job whose thread can't be started runs in the caller's.
 pub fn run_jobs<
     R: Threads + Wait + Sync,
     B: JobBody + Send + Drop,
@@ -70,7 +70,7 @@ pub fn run_jobs<
     })
 }
 
-/// Returns the jobs, each beside its seat at a new gate.
+/// Returns the jobs, each with its seat at a new gate.
 fn split_all<J: Drop>(
     alloc: Global,
     gate: &Gate,
@@ -92,7 +92,7 @@ fn split_all<J: Drop>(
     Ok(seated)
 }
 
-/// Runs a job to its end. Also returns what its pacer was told.
+/// Runs a job to its end. It also returns the notifications of its pacer.
 fn run_paced<R: Wait, B: JobBody, K: Keyboard + Drop, P: Pacer>(
     rt: &R,
     alloc: Global,

@@ -1,4 +1,4 @@
-//! What a pacer was told. Clauses read all of it; at run time it keeps no more than the last.
+//! The notifications of a pacer. Contracts read all of them; at run time it keeps only the last.
 
 ghost use Rattle.std.specs.Prelude.{◌≡◌, [], ◌∷◌, ◌++◌};
 
@@ -6,7 +6,7 @@ use monitor_gate::JobSeat;
 use std::marker::Model;
 use std::snapshot::Snapshot;
 
-/// What a pacer is told of a job's call of that number, from 1.
+/// A notification of a job's call of that number, from 1.
 #[derive(Clone, Copy)]
 pub enum Telling {
     /// The job is about to make it.
@@ -15,11 +15,10 @@ pub enum Telling {
     After { call: u32 },
 }
 
-/// What was told before, the last, and the seat as it was then.
+/// The earlier notifications, the last, and the seat as it was then.
 type Last = (Snapshot<Tellings>, Telling, Snapshot<JobSeat>);
 
-/// All that a pacer was told of one seat, in order, each with the seat as it was then. It takes no
-/// memory.
+/// All notifications for one seat, in order, each with the seat as it was then. It takes no memory.
 #[cycle(tellings)]
 #[derive(Drop)]
 pub struct Tellings {
@@ -47,14 +46,14 @@ impl Model for Tellings {
 }
 
 impl Tellings {
-    /// Nothing was told.
+    /// Returns no notifications.
     pub fn new() -> Tellings
         ensures { result ≡ [] }
     {
         Tellings { last: None }
     }
 
-    /// This is told of the seat, behind the others.
+    /// Adds this notification for the seat, after the others.
     pub fn push(&mut self, telling: Telling, seat: &JobSeat)
         ensures { self.new ≡ self.old ++ (telling, seat.now) ∷ [] }
     {

@@ -73,6 +73,6 @@ impl<S: Seat, K: Keyboard> Port for TerminalPort<S, K> {
         Ok(key)
     }
 
-    // Whoever reads a screen reads it at the end of the run.
+    // A screen is only read at the end of the run.
     fn show(&mut self, _screen: &[u8]) {}
 }

@@ -1,4 +1,4 @@
--- What a text tells of a deck: a run, or one dispute.
+-- The result of a text for a deck: a run, or one dispute.
 use Rattle.std.proofs.Common.{◌≡◌, ℕ, zero, suc, ◌+◌, ◌<◌, List, [], ◌∷◌, ◌++◌, length, Some, refl, sym, ap, subst, ◌∙◌, arith}
 use Rattle.std.specs.Prelude.{slice_get}
 use Rattle.std.proofs.lemmas.Option.{slice_get_within}
@@ -55,7 +55,7 @@ one_reply m history p q w v =
 
 -- WRONG REQUESTS
 
--- a terminal that talks otherwise is not before one that does
+-- a terminal whose session differs is not before one that has this session
 job_later : (deck : Deck) (history : List Entry) (p q : ℕ) (w : WrongRequest deck history p) (v : WrongRequest deck history q) → w.job < v.job → ⊥
 job_later deck history p q w v less =
     let talked = v.earlier w.job w.terminal less w.is_terminal in
@@ -70,7 +70,7 @@ one_request deck history p q w v =
     let place : w.place ≡ v.place = one_otherwise (all_typed v.terminal.keys) (part_of v.job history) w.place v.place otherwise v.otherwise in
     w.entry_is ∙ (λ i. entry_position (job i) (place i) history) ∙ sym v.entry_is
 
--- in a run all terminals have talked
+-- in a run all terminals have their sessions
 run_or_request : (deck : Deck) (history : List Entry) (screens : List (List ℕ)) (p : ℕ) → IsRun deck history screens → WrongRequest deck history p → ⊥
 run_or_request deck history screens p run w =
     let within = slice_get_within deck.terminals w.job w.terminal w.is_terminal in
@@ -125,6 +125,6 @@ module _ (deck : Deck) (text : List ℕ) (first : ℕ) where
       let same : a.history ≡ history = history_is_one text a.history history a.tells told.tells in
       run_or_request deck history told.screens a.entry told.run (subst (λ (h : List Entry). WrongRequest deck h a.entry) same a.is_so)
 
-  -- a text that tells a run is not disputed
+  -- a text of a run is not disputed
   pub never_disputed : (history : List Entry) (output : List ℕ) (fault : HistoryFault) → Retells history output deck text → Disputes fault deck text first → ⊥
   never_disputed history output fault told a = never_for history output fault.cause fault.line told a

@@ -1,4 +1,4 @@
--- The lines of bytes that stand one behind the other, and where an input is cut.
+-- The lines of consecutive bytes, and the place at which an input is cut.
 use Rattle.std.proofs.Common.{◌≡◌, ℕ, suc, ◌+◌, ◌<◌, ◌≤◌, ◌-◌, Bool, true, false, cond, eqb, ltb, List, [], ◌∷◌, ◌++◌, length, take, Option, Some, None, inl, inr, ⊎_elim, refl, sym, ap, subst, ◌∙◌, append_assoc, arith}
 use Rattle.std.specs.Prelude.{◌⊎◌, not, codes}
 use Rattle.std.specs.List.{onto_first, position_or_len, before_first}
@@ -12,7 +12,7 @@ use Rattle.deck_model.specs.Lines.{parts_of, lines_in, last_in, whole_lines, cut
 use Rattle.deck_model.proofs.LineLaws.{line_found, line_missed}
 use Rattle.time_sharing.specs.Inputs.{HaveNoEnd, StopAtEnd, IsAll, Divided}
 
--- LINES BEHIND LINES
+-- LINES AFTER LINES
 
 abbrev is_lf : ℕ → Bool
 is_lf b = eqb b 10
@@ -60,7 +60,7 @@ lines_joined (x ∷ x' ∷ x'' ∷ xs) ys some some' whole =
     let rest = lines_joined (x' ∷ x'' ∷ xs) ys (omega arith) some' whole in
     (ap (λ (lines : List (List ℕ)). strip_carriage_return x ∷ lines) rest.0, rest.1)
 
--- whole lines, and what stands behind them
+-- whole lines, and what comes after them
 pub lines_append : (a b : List ℕ) → cut_line a ≡ [] → (whole_lines (a ++ b) ≡ whole_lines a ++ whole_lines b) × (cut_line (a ++ b) ≡ cut_line b)
 unfolding whole_lines cut_line
 lines_append a b whole =
@@ -116,9 +116,9 @@ first_is_one (line ∷ before) after [] after' p q e =
     absurd (p.0 first)
 first_is_one (line ∷ before) after (line' ∷ before') after' p q e = first_is_one before after before' after' p.1 q.1 (cc)
 
--- WHERE AN INPUT IS CUT
+-- THE PLACE AT WHICH AN INPUT IS CUT
 
--- a front of whole lines, and the next line behind it
+-- a prefix of whole lines, and the next line after it
 module _ (input front rest line behind : List ℕ) (input_is : input ≡ front ++ rest) (whole : cut_line front ≡ []) (next : cut 10 rest ≡ Some (line, behind)) where
   pub front_more : input ≡ (front ++ (line ++ 10 ∷ [])) ++ behind
   front_more =
@@ -147,7 +147,7 @@ module _ (input front rest line behind : List ℕ) (input_is : input ≡ front +
       let count : length input - length behind ≡ length (front ++ (line ++ 10 ∷ [])) = omega arith in
       (λ i. take (count i) (front_more i)) ∙ take_at (front ++ (line ++ 10 ∷ [])) behind (length (front ++ (line ++ 10 ∷ []))) refl
 
-  -- it is cut behind that line, where it is the first END
+  -- it is cut after that line, if it is the first END
   pub divided_there : HaveNoEnd (whole_lines front) → strip_carriage_return line ≡ codes "END" → Divided input (take (length input - length behind) input) behind
   divided_there none is = subst (λ (part : List ℕ). Divided input part behind) (sym part_is) (record {
     input_is = front_more;
@@ -157,7 +157,7 @@ module _ (input front rest line behind : List ℕ) (input_is : input ≡ front +
   pub lines_there : length (whole_lines (take (length input - length behind) input)) ≡ length (whole_lines front) + 1
   lines_there = ap (λ (part : List ℕ). length (whole_lines part)) part_is ∙ count_more
 
--- a front of whole lines, and no whole line behind it
+-- a prefix of whole lines, and no whole line after it
 module _ (input front rest : List ℕ) (input_is : input ≡ front ++ rest) (whole : cut_line front ≡ []) (none_left : cut 10 rest ≡ None) where
   pub lines_nowhere : whole_lines input ≡ whole_lines front
   lines_nowhere = ap whole_lines input_is ∙ (lines_append front rest whole).0 ∙ ap (λ (lines : List (List ℕ)). whole_lines front ++ lines) (line_missed rest none_left).0 ∙ append-nil (whole_lines front)
@@ -167,7 +167,7 @@ module _ (input front rest : List ℕ) (input_is : input ≡ front ++ rest) (who
 
 -- ONE CUT
 
--- of two fronts of bytes one begins the other
+-- of two prefixes of bytes one begins the other
 fronts : (a b c d : List ℕ) → a ++ b ≡ c ++ d → length a ≤ length c → (u : List ℕ) × (c ≡ a ++ u)
 fronts [] b c d e less = (c, refl)
 fronts (x ∷ a) b [] d e less = absurd (omega (arith, less))
@@ -176,7 +176,7 @@ fronts (x ∷ a) b (y ∷ c) d e less =
     let rest = fronts a b c d (cc) (omega (arith, less)) in
     (rest.0, λ i. sym same i ∷ rest.1 i)
 
--- whole lines of which the last is the first END, and more of them with END behind
+-- whole lines of which the last is the first END, and more of them with END after
 one_front : (a u : List ℕ) → StopAtEnd a → StopAtEnd (a ++ u) → u ≡ []
 one_front a u p q =
     let lines = lines_append a u p.all_whole in
@@ -198,7 +198,7 @@ one_stop a b c d e p q =
     ordered m n true e = let l = ltb-true m n e in inl (omega arith)
     ordered m n false e = inr (ltb-false m n e)
 
--- bytes in which no line is END have no front whose last line it is
+-- bytes in which no line is END have no prefix whose last line is END
 no_stop : (a b c d : List ℕ) → a ++ b ≡ c ++ d → StopAtEnd a → IsAll c d → ⊥
 no_stop a b c d e p all =
     let whole : c ≡ a ++ b = sym (e ∙ ap (λ (t : List ℕ). c ++ t) all.1 ∙ append-nil c) in

@@ -1,4 +1,4 @@
--- Small inputs and disputes, worked by computing.
+-- Small inputs and disputes, computed.
 use Rattle.std.proofs.Common.{◌≡◌, [], ◌∷◌, codes, inl, inr, refl}
 use Rattle.monitor_calls.specs.declared.calls.Request.TheVariants.{Logout, Tick}
 use Rattle.deck_model.specs.Lines.{whole_lines, cut_line}

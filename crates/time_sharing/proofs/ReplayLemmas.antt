@@ -1,4 +1,4 @@
--- What an input tells, and what a replay of it answers.
+-- What an input says, and the result of its replay.
 use Rattle.std.proofs.Common.{◌≡◌, ℕ, List, inl, refl, sym, ap, subst, ◌∙◌, arith}
 use Rattle.monitor_calls.specs.declared.calls.Entry.{Entry}
 use Rattle.deck_model.specs.Deck.{Deck}
@@ -31,7 +31,7 @@ same_deck bytes deck other s t = let e = sym (spelled_told bytes deck s) ∙ spe
     deck_is : (d d' : Deck) → Yields d ≡ Yields d' → d ≡ d'
     deck_is d d' e = cc
 
--- of two facts behind the deck of one input both are of the same deck and text
+-- two facts about what follows the deck of one input are about the same deck and text
 module _ (P Q : Deck → List ℕ → ℕ → Type 0) (input : List ℕ) (a : BehindDeck P input) (b : BehindDeck Q input) where
   parts : (a.part ≡ b.part) × (a.text ≡ b.text)
   parts = one_division input a.part a.text b.part b.text a.divided b.divided
@@ -64,16 +64,16 @@ run_or_dispute input history output fault a b =
 one_dispute_told : (input : List ℕ) (fault other : HistoryFault) → TellsDispute fault input → TellsDispute other input → fault ≡ other
 one_dispute_told input fault other a b = one_dispute a.deck a.text (line_behind a.part) fault other a.is_so (other_so (Disputes fault) (Disputes other) input a b)
 
--- WHAT IS ANSWERED
+-- THE RESULT
 
--- what an input had, and what it tells
+-- what an input had, and what it says
 told_so : (IsSo : List ℕ → Type 0) (read : List ℕ) (old new : SourceState) → IsInput REPLAY_LIMIT read old new → ToldInput IsSo old new → IsSo read
 told_so IsSo read old new input told = subst IsSo (read_is read told.read old.left new.left input.all told.told.told) told.is_so
 
 not_over : (limit : ℕ) (read : List ℕ) (old new : SourceState) → IsInput limit read old new → IsOverLimit limit old new → ⊥
 not_over limit read old new input over = omega (arith, input.count, input.most, over)
 
--- where the input was read to its end
+-- if the input was read to its end
 module _ (read : List ℕ) (before after : Ends) (input : IsInput REPLAY_LIMIT read before.source after.source) where
   pub replayed_answers : (history : List Entry) (output : List ℕ) → TellsRun history output read → Written output before.sink after.sink → Replays before after (outcome.Replayed history)
   replayed_answers history output run written = record {

@@ -103,7 +103,7 @@ module _ (deck : Deck) (jobs : List Job) (opening : monitor.State) (number made 
         entry_is = wrong.position_is;
       }
 
-  -- what is answered of entries, in the words of the deck
+  -- the result for entries, in the words of the deck
   pub retold : (history : List Entry) (screens : List (List ℕ)) → IsReplay does opening history made screens → IsRetold (deck_of deck) history screens
   retold history screens replayed = record {
     legal = subst (λ (m : monitor.State). Legal m history) state replayed.legal;
@@ -123,7 +123,7 @@ pub disputes_by : (deck : model.Deck) (text : List ℕ) (first : ℕ) (history :
 disputes_by deck text first history (dispute.Reply entry) tells wrong = record { history = history; tells = tells; entry = entry; is_so = wrong; line_is = refl }
 disputes_by deck text first history (dispute.Meaning job place entry) tells wrong = record { history = history; tells = tells; entry = entry; is_so = wrong; line_is = refl }
 
--- the run that a text tells, by that which its entries tell
+-- the run of a text, by that of its entries
 pub retells_by : (deck : model.Deck) (text : List ℕ) (history : List Entry) (screens : List (List ℕ)) (output : List ℕ) → TellsHistory text history → IsRetold deck history screens → output ≡ report (names_in deck) screens → Retells history output deck text
 retells_by deck text history screens output tells told reported = record {
   tells = tells;

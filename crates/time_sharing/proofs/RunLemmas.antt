@@ -1,4 +1,4 @@
--- What each job of a run did is the talk of the terminal at its place.
+-- What each job of a run did is the session of the terminal at its place.
 use Rattle.std.proofs.Common.{◌≡◌, ℕ, suc, zero, ◌+◌, List, [], ◌∷◌, length, map, Some, Ok, Err, refl, sym, ap, subst, ◌∙◌, add-zero, arith}
 use Rattle.std.specs.Prelude.{slice_get, Option, None, Result, true, IfOk, IfSome}
 use Rattle.std.proofs.lemmas.List.{length-map, length-replicate}
@@ -46,7 +46,7 @@ Job = TerminalSession × BatchKeyboard
 abbrev pub job_does : Job → List Pair → List ℕ → Type 0
 job_does job pairs screen = leaves lines_of taken_of session_does job pairs screen
 
--- what a session did is the talk of the key lines that its keyboard had
+-- what a session did is that of the key lines that its keyboard had
 session_talk : (job : Job) (lines : List (List ℕ)) (pairs : List Pair) (screen : List ℕ) → job_lines job ≡ lines → job_does job pairs screen → Talks (all_typed lines) pairs screen
 unfolding Talks
 session_talk job lines pairs screen are did =
@@ -55,7 +55,7 @@ session_talk job lines pairs screen are did =
     let typed = all_fed left.taken left.all.value.items lines left.left.items left.over done.events left.left_are left.over_is (ap (λ v. v.items) done.same ∙ are) done.typed in
     subst (λ (made : List Pair). IsTalk (all_typed lines) (replies made) (requests made) screen) done.pairs_are (done.done (all_typed lines) typed)
 
--- what the session at a place did is the talk of the terminal's keys
+-- what the session at a place did is that of the terminal's keys
 talk_at : (jobs : List Job) (terminals : List Terminal) (j : ℕ) (terminal : model.Terminal) (part : List Pair) (screen : List ℕ) → map job_lines jobs ≡ map typed_keys terminals → slice_get (map terminal_of terminals) j ≡ Some terminal → each_does job_does jobs j part screen
     → Talks (all_typed terminal.keys) part screen
 talk_at jobs [] j terminal part screen are at did = absurd (cc)
@@ -89,9 +89,9 @@ pub as_many : (terminals : List Terminal) → length (map terminal_of terminals)
 as_many [] = refl
 as_many (terminal ∷ terminals) = ap suc (as_many terminals)
 
--- each terminal of the deck has talked
+-- each terminal of the deck has its session
 module _ (deck : Deck) (jobs : List Job) (are : map job_lines jobs ≡ map typed_keys deck.terminals.items) where
-  -- what the job of a terminal did is its talk
+  -- what the job of a terminal did is its session
   pub did_talk : (j : ℕ) (terminal : model.Terminal) (part : List Pair) (screen : List ℕ) → slice_get (map terminal_of deck.terminals.items) j ≡ Some terminal → each_does job_does jobs j part screen → Talks (all_typed terminal.keys) part screen
   did_talk j terminal part screen at did = talk_at jobs deck.terminals.items j terminal part screen are at did
 

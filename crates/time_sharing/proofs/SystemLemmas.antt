@@ -30,14 +30,15 @@ use Rattle.time_sharing.specs.SourceEnds.{outcome_of, WhyStopped, MustStop, Must
 use Rattle.time_sharing.specs.Replays.{Replays}
 use Rattle.rsts_io.specs.Whole.{AreAll, IsOverLimit, BrokeOff}
 
--- what a source tells that it has left is what was read of it to its end
+-- what a source reports to be left is what was read of it to its end
 pub read_is : (bytes read : List ℕ) (left left' : Option (List ℕ)) → AreAll bytes left left' → left ≡ Some read → read ≡ bytes
 read_is bytes read None left' all told = absurd (cc)
 read_is bytes read (Some left) left' all told =
     let same : left ≡ read = (cc) in
     sym same ∙ all.0
 
--- bytes that spell a deck are not refused, and bytes that are refused are for one cause at one line
+-- bytes that spell a deck are not rejected, and bytes that are rejected are for one cause at one
+-- line
 pub never_both : (bytes : List ℕ) (deck : model.Deck) (fault : DeckFault) → Spelled bytes deck → Refused bytes fault.line fault.cause → ⊥
 never_both bytes deck fault s r = not_both deck fault.line fault.cause (sym (spelled_told bytes deck s) ∙ refused_told bytes fault.line fault.cause r)
   where
@@ -82,7 +83,7 @@ not_ok why ok =
 outcome_is : (a b : Stopped) → no_deck a ≡ no_deck b → outcome_of a ≡ outcome_of b
 outcome_is a b e = ap outcome_of (same_cause a b e)
 
--- where no deck was found that is what the program tells, and nothing else
+-- if no deck was found, the program reports that, and nothing else
 pub stopped_answers : (IsOutput : model.Deck → List ℕ → Type 0) (Succeeds : Outcome → Type 0) (why : Stopped) (before after : Ends) → WhyStopped why before.source after.source → NothingGiven before after → MustStop (Err why) before.source after.source
     → MustFind (Err why) before.source after.source → MustRefuse (Err why) before.source after.source → Answers IsOutput Succeeds before after (outcome_of why)
 unfolding no_deck
@@ -100,14 +101,14 @@ stopped_answers IsOutput Succeeds why before after cause given stop find refuse 
   completes = λ fair. ⊎_elim (λ ok. absurd (not_ok why ok)) (λ e. inr (outcome_is why stopped.NoMemory e)) (find fair.source);
 }
 
--- where no deck was found nothing was run, nothing was checked, and there was no drill
+-- if no deck was found, nothing was run, nothing was checked, and there was no drill
 pub stopped_neither : (why : Stopped) (P : List Entry → Type 0) (Q : Type 0) (D : DrillEnd → Type 0) → IfRan (outcome_of why) P × OnChecked (outcome_of why) Q × IfDrilled (outcome_of why) D
 stopped_neither stopped.ReadFault P Q D = (tt, tt, tt)
 stopped_neither stopped.TooLong P Q D = (tt, tt, tt)
 stopped_neither (stopped.Deck fault) P Q D = (tt, tt, tt)
 stopped_neither stopped.NoMemory P Q D = (tt, tt, tt)
 
--- where a deck was found, and all was written of it
+-- if a deck was found, and all was written of it
 module _ (deck : Deck) (before after : Ends) (stop : MustStop (Ok deck) before.source after.source) (refuse : MustRefuse (Ok deck) before.source after.source) where
   not_too_long : IsOverLimit INPUT_LIMIT before.source after.source → ⊥
   unfolding some_deck no_deck
@@ -163,7 +164,7 @@ module _ (deck : Deck) (before after : Ends) (stop : MustStop (Ok deck) before.s
     completes = λ fair. absurd (fair.sink broke.fault);
   }
 
--- where memory ran out before anything was done
+-- if memory ran out before anything was done
 wanted_answers : (IsOutput : model.Deck → List ℕ → Type 0) (Succeeds : Outcome → Type 0) (e : Ends) → Answers IsOutput Succeeds e e outcome.NoMemory
 wanted_answers IsOutput Succeeds e = record {
   not_usage = tt;

@@ -1,4 +1,4 @@
--- What the talk of a terminal asks for, given the replies of a part that is not its own.
+-- What the session of a terminal asks for, given the replies of a part that is not its own.
 use Rattle.std.proofs.Common.{◌≡◌, ℕ, zero, suc, ◌<◌, ◌≤◌, Bool, true, false, ltb, List, [], ◌∷◌, ◌++◌, length, take, drop, Some, refl, sym, ap, subst, ◌∙◌, arith}
 use Rattle.std.specs.Prelude.{slice_get}
 use Rattle.std.proofs.lemmas.Bool.{ltb-true, ltb-false}
@@ -34,7 +34,7 @@ module _ {A : Type 0} where
   alike_before zero (suc q) (x ∷ xs) (y ∷ ys) less same = let first : x ≡ y = cc in ap (λ (a : A). Some a) first
   alike_before (suc p) (suc q) (x ∷ xs) (y ∷ ys) less same = alike_before p q xs ys (omega (arith, less)) cc
 
--- WHERE TWO LISTS OF REQUESTS PART
+-- THE PLACE AT WHICH TWO LISTS OF REQUESTS PART
 
 part_later : (asked told : List Request) (p q : ℕ) → DifferAt p asked told → DifferAt q asked told → p < q → ⊥
 part_later asked told p q at later less = at.differ (alike_before p q asked told less later.alike)
@@ -51,8 +51,8 @@ same_unless p q not_less not_more = go (ltb p q) (ltb q p) refl refl
 one_place : (asked told : List Request) (p q : ℕ) → DifferAt p asked told → DifferAt q asked told → p ≡ q
 one_place asked told p q at other = same_unless p q (part_later asked told p q at other) (part_later asked told q p other at)
 
--- ONE REQUEST FURTHER
--- Given replies, two lists of them that begin by these ask for the same once more.
+-- ONE REQUEST FURTHER. Given replies, two lists of them that begin with these ask for the same once
+-- more.
 
 abbrev Agree : ℕ → List Request → List Request → Type 0
 Agree place whole other = (take place whole ≡ take place other) × (slice_get whole place ≡ slice_get other place)
@@ -89,7 +89,7 @@ talks_agree judge lines given more other =
 cut_replies : (place : ℕ) (pairs : List Pair) → replies pairs ≡ replies (take place pairs) ++ replies (drop place pairs)
 cut_replies place pairs = ap replies (sym (take-append-drop place pairs)) ∙ map-append (λ (pair : Pair). pair.1) (take place pairs) (drop place pairs)
 
--- what the talk asks for where the body departs from a part
+-- what the session asks for if the body departs from a part
 departs_at : (judge : Judge) (lines : List (List ℕ)) (pairs part : List Pair) (screen : List ℕ) (place : ℕ) → talk judge (all_typed lines) (replies pairs) ≡ (requests pairs, Finished screen) → take place pairs ≡ take place part → place ≤ length pairs
     → (slice_get (requests pairs) place ≡ slice_get (requests part) place → ⊥) → DifferAt place (talk judge (all_typed lines) (replies part)).0 (requests part)
 departs_at judge lines pairs part screen place is common within differs =
@@ -114,7 +114,7 @@ unfolding Talks
 departs_talk lines pairs part screen place is common within differs =
     (is.0, λ judge by. departs_at judge lines pairs part screen place (is.1 judge by) common within differs)
 
--- who talked so does not talk otherwise
+-- a terminal that had this session had no other
 pub not_otherwise : (keys : Typing) (pairs : List Pair) (screen : List ℕ) (place : ℕ) → Talks keys pairs screen → TalksOtherwise keys pairs place → ⊥
 unfolding Talks
 not_otherwise keys pairs screen place is other =

@@ -1,4 +1,4 @@
--- Where the text behind a deck first fails to tell a run of it.
+-- The line at which the text after a deck first fails to be the history of a run of it.
 use Rattle.std.specs.Prelude.{◌≡◌, ℕ, ◌+◌, ◌<◌, List, take, slice_get, Some}
 use Rattle.monitor_calls.specs.declared.calls.Entry.{Entry}
 use Rattle.monitor_calls.specs.declared.calls.Request.{Request}
@@ -16,7 +16,7 @@ use Rattle.time_sharing.specs.Runs.{opening_of, HasTalked}
 
 -- THE FORM
 
--- it is the text of no history, and the line is the first that none can have there
+-- it is the text of no history, and the line is the first that no history can have there
 pub record WrongForm (text : List ℕ) (first line : ℕ) : Type 0 where
   pub good : ℕ
   pub wrong : WrongAt text good
@@ -34,20 +34,20 @@ pub record AtEntry (IsSo : List Entry → ℕ → Type 0) (text : List ℕ) (fir
 
 -- THE MEANING
 
--- the lists have the same requests up to this place, and there others, or one of them none
+-- the lists have the same requests up to this place, and there they differ, or one of them has none
 pub record DifferAt (place : ℕ) (asked told : List Request) : Type 0 where
   pub alike : take place asked ≡ take place told
   pub differ : slice_get asked place ≡ slice_get told place → ⊥
 
--- the talk of these keys, given the replies of the pairs, makes their requests up to this place, and
--- another one there, or none where they go on, or one where they have ended
+-- The session of these keys, given the replies of the pairs, makes their requests up to this place.
+-- There it makes another one, or none although they go on, or one although they have ended
 abbrev pub TalksOtherwise : Typing → List Pair → ℕ → Type 0
 TalksOtherwise keys pairs place =
     ByGrammar (λ judge. DifferAt place (talk judge keys (replies pairs)).0 (requests pairs))
 
--- All replies are the monitor's, all terminals before this one have talked so, and its talk makes
--- other requests than its part of the history. The entry is the first of them in the history, or the
--- place behind the last where there is none.
+-- All replies are the monitor's, and all terminals before this one had their sessions. Its session
+-- makes other requests than its part of the history. The entry is the first of them in the history,
+-- or the place after the last if there is none.
 pub record WrongRequest (deck : Deck) (history : List Entry) (entry : ℕ) : Type 0 where
   pub legal : Legal (opening_of deck) history
   pub job : ℕ
@@ -60,13 +60,13 @@ pub record WrongRequest (deck : Deck) (history : List Entry) (entry : ℕ) : Typ
   pub entry_is : entry ≡ entry_position job place history
 
 -- BY THE CAUSE: the form; the first entry whose job is no terminal, or whose reply is not the
--- monitor's; the first entry that asks for what the talk of its terminal does not ask
+-- monitor's; the first entry that asks for what the session of its terminal does not ask
 
 abbrev pub DisputesFor : HistoryCause → Deck → List ℕ → ℕ → ℕ → Type 0
 DisputesFor cause.Form deck text first line = WrongForm text first line
 DisputesFor cause.Reply deck text first line = AtEntry (WrongReply (opening_of deck)) text first line
 DisputesFor cause.Meaning deck text first line = AtEntry (WrongRequest deck) text first line
 
--- the text, whose first line has this number, tells no run of the deck
+-- the text, whose first line has this number, is the history of no run of the deck
 abbrev pub Disputes : HistoryFault → Deck → List ℕ → ℕ → Type 0
 Disputes fault deck text first = DisputesFor fault.cause deck text first fault.line

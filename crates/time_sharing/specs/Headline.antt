@@ -1,5 +1,6 @@
--- What the program does. Whoever trusts this file, and the definitions that it names, knows it.
--- `Does`, at the end, is the one clause of the program's call; what stands before it are its words.
+-- What the program does. If you trust this file, and the definitions that it names, you know it.
+-- `Does`, at the end, is the one clause of the program's call. The definitions before it are its
+-- words.
 use Rattle.std.specs.Prelude.{◌≡◌, ℕ, Bool, if◌then◌else◌, List, [], ◌++◌, length, ◌⊎◌}
 use Rattle.monitor_calls.specs.declared.calls.Entry.{Entry}
 use Rattle.deck_model.specs.Deck.{Deck}
@@ -30,8 +31,8 @@ use Rattle.time_sharing.specs.TwoEnds.{Ends, NothingGiven, SourceFailed, InputTo
 abbrev pub where_wanted : Bool → List ℕ → List ℕ
 where_wanted wanted text = if wanted then text else []
 
--- what is written of a run: its report; behind it the text of its history, and behind these what the
--- printer printed, each where it is wanted
+-- what is written of a run: its report, then the text of its history, and then what the printer
+-- printed, the last two only if asked for
 abbrev pub written_of : Wanted → Deck → List Entry → List (List ℕ) → List ℕ
 written_of wanted deck history screens =
     report (names_in deck) screens ++ where_wanted wanted.history (history_text history)
@@ -79,7 +80,7 @@ pub record Checked (before after : Ends) : Type 0 where
 
 -- THE CAUSES OF EVERY OTHER ANSWER
 
--- the input was read whole, and is refused at this line for this cause
+-- the input was read whole, and is rejected at this line for this cause
 pub record FoundNone (fault : DeckFault) (old new : SourceState) : Type 0 where
   pub read : List ℕ
   pub input : IsInput INPUT_LIMIT read old new
@@ -120,7 +121,7 @@ abbrev pub Completes : (Outcome → Type 0) → Ends → Ends → Outcome → Ty
 Completes Succeeds before after result =
     IsFair before after → Succeeds result ⊎ (result ≡ outcome.NoMemory)
 
--- unless memory runs out, an input that is refused is told its line and its cause
+-- unless memory runs out, an input that is rejected gets its line and its cause reported
 abbrev pub Refuses : Ends → Ends → Outcome → Type 0
 Refuses before after result =
     (fault : DeckFault) → SpellsNone fault before.source after.source
@@ -160,7 +161,7 @@ pub record DrillBroke (jobs : ℕ) (before after : SinkState) : Type 0 where
 abbrev pub HasDrilled : Outcome → Type 0
 HasDrilled result = (drill : DrillEnd) × (result ≡ outcome.Drilled drill)
 
--- what a drill answers, and what it does to the sink
+-- the result of a drill, and what it does to the sink
 pub record DrillEnds (jobs : ℕ) (before after : SinkState) (result : Outcome) : Type 0 where
   pub drilled : IfDrilled result (Drilled jobs before after)
   pub not_ran : IfRan result (λ history. ⊥)
@@ -209,13 +210,13 @@ pub record Drills (jobs : ℕ) (before after : Ends) (result : Outcome) : Type 0
   pub source : after.source ≡ before.source
   pub answers : DrillEnds jobs before.sink after.sink result
 
--- unless memory runs out, the usage is told; nothing was read and nothing was written
+-- unless memory runs out, the usage is the result; nothing was read and nothing was written
 pub record TellsUsage (before after : Ends) (result : Outcome) : Type 0 where
   pub usage : (result ≡ outcome.Usage) ⊎ (result ≡ outcome.NoMemory)
   pub untouched : after ≡ before
 
--- as the words ask, a deck is run, and what is wanted of it is written, or it is checked, or a drill
--- is run, or a run is checked again, or the usage is told
+-- As the words ask: a deck is run, and what they ask for is written, or it is checked, or a drill
+-- is run. Or a run is checked again, or the usage is the result
 abbrev pub Does : Asked → Ends → Ends → Outcome → Type 0
 Does (Run wanted) before after result = Runs wanted before after result
 Does Check before after result = Checks before after result

@@ -1,4 +1,4 @@
--- What reading and replaying an input comes to. Nobody has to believe this file.
+-- The result of reading and replaying an input. You need not trust this file.
 use Rattle.std.specs.Prelude.{◌≡◌, ℕ, ◌+◌, List, Result, Ok, Err}
 use Rattle.std.specs.Global.{Vec}
 use Rattle.basic_values.specs.declared.failures.Trouble.{Trouble}
@@ -30,14 +30,14 @@ abbrev pub IsDisputed : Deck → List Entry → Dispute → Type 0
 IsDisputed deck history (dispute.Reply entry) = WrongReply (opening_of deck) history entry
 IsDisputed deck history (dispute.Meaning job place entry) = WrongRequest deck history entry
 
--- what a replay of entries answers, with the deck's terminals
+-- the result of a replay of entries, with the deck's terminals
 abbrev pub RetoldBy : Deck → List Entry → Result (Vec Terminal × Vec (List ℕ)) (Trouble Dispute) → Type 0
 RetoldBy deck history (Ok told) =
     (names_of told.0.items ≡ names_in deck) × IsRetold deck history told.1.items
 RetoldBy deck history (Err (trouble.Refused why)) = IsDisputed deck history why
 RetoldBy deck history (Err trouble.NoMemory) = Unit {0}
 
--- the fault of a dispute, where the text's first line has this number
+-- the fault of a dispute, if the text's first line has this number
 abbrev pub entry_of : Dispute → ℕ
 entry_of (dispute.Reply entry) = entry
 entry_of (dispute.Meaning job place entry) = entry
@@ -47,7 +47,7 @@ fault_of first (dispute.Reply entry) = record { line = first + 1 + entry; cause 
 fault_of first (dispute.Meaning job place entry) =
     record { line = first + 1 + entry; cause = cause.Meaning }
 
--- what a replay of a text answers
+-- the result of a replay of a text
 abbrev pub RetellsBy : Deck → List ℕ → ℕ → Result (List Entry × Vec ℕ) (Trouble HistoryFault) → Type 0
 RetellsBy deck text first (Ok run) = Retells run.0 run.1.items deck text
 RetellsBy deck text first (Err (trouble.Refused why)) = Disputes why deck text first
@@ -61,7 +61,7 @@ abbrev pub TellsFault : InputFault → List ℕ → Type 0
 TellsFault (fault.Deck why) input = TellsNoDeck why input
 TellsFault (fault.History why) input = TellsDispute why input
 
--- what a replay of an input answers
+-- the result of a replay of an input
 abbrev pub ToldBy : List ℕ → Result (List Entry × Vec ℕ) (Trouble InputFault) → Type 0
 ToldBy input (Ok run) = TellsRun run.0 run.1.items input
 ToldBy input (Err (trouble.Refused why)) = TellsFault why input

@@ -34,7 +34,7 @@ abbrev pub IfDeck : Outcome → (DeckFault → Type 0) → Type 0
 IfDeck (outcome.Deck fault) P = P fault
 IfDeck _ P = Unit {0}
 
--- where a history is disputed, and why
+-- if a history is disputed, and why
 abbrev pub IfHistory : Outcome → (HistoryFault → Type 0) → Type 0
 IfHistory (outcome.History fault) P = P fault
 IfHistory _ P = Unit {0}

@@ -1,5 +1,5 @@
--- What a replay does: a deck and a history are checked once more, on one thread.
--- `Replays`, at the end, is what the program's call says of it; what stands before it are its words.
+-- What a replay does: a deck and a history are checked once more, on one thread. `Replays`, at the
+-- end, is what the program's call says of it. The definitions before it are its words.
 use Rattle.std.specs.Prelude.{◌≡◌, ◌⊎◌, ℕ, List}
 use Rattle.monitor_calls.specs.declared.calls.Entry.{Entry}
 use Rattle.deck_model.specs.Deck.{Deck}
@@ -20,7 +20,7 @@ use Rattle.time_sharing.specs.Runs.{IsRun, names_in}
 use Rattle.rsts_io.specs.Whole.{IsInput, Written, BrokeOff}
 use Rattle.time_sharing.specs.TwoEnds.{Ends, NothingGiven, SourceFailed, InputTooLong, WantedMemory, IsTold, EndsTooLong}
 
--- WHAT AN INPUT TELLS
+-- WHAT AN INPUT SAYS
 
 -- the text is that of the history of a run of the deck, whose report is this
 pub record Retells (history : List Entry) (output : List ℕ) (deck : Deck) (text : List ℕ) : Type 0 where
@@ -29,7 +29,7 @@ pub record Retells (history : List Entry) (output : List ℕ) (deck : Deck) (tex
   pub run : IsRun deck history screens
   pub reported : output ≡ report (names_in deck) screens
 
--- the deck's part of the input spells a deck, and this is so of the deck, of the text behind it and
+-- the deck's part of the input spells a deck, and this is so of the deck, of the text after it and
 -- of the number of the text's first line
 pub record BehindDeck (IsSo : Deck → List ℕ → ℕ → Type 0) (input : List ℕ) : Type 0 where
   pub part : List ℕ
@@ -47,14 +47,14 @@ TellsRun history output input = BehindDeck (λ deck text first. Retells history 
 abbrev pub TellsDispute : HistoryFault → List ℕ → Type 0
 TellsDispute fault input = BehindDeck (Disputes fault) input
 
--- the deck's part spells none, and is refused at this line for this cause
+-- the deck's part spells none, and is rejected at this line for this cause
 pub record TellsNoDeck (fault : DeckFault) (input : List ℕ) : Type 0 where
   pub part : List ℕ
   pub text : List ℕ
   pub divided : Divided input part text
   pub refused : refusals.Refused part fault.line fault.cause
 
--- WHAT A REPLAY ANSWERS
+-- THE RESULT OF A REPLAY
 
 -- the input was read whole, and this is so of it
 pub record FoundInput (IsSo : List ℕ → Type 0) (old new : SourceState) : Type 0 where
@@ -62,7 +62,7 @@ pub record FoundInput (IsSo : List ℕ → Type 0) (old new : SourceState) : Typ
   pub input : IsInput REPLAY_LIMIT read old new
   pub is_so : IsSo read
 
--- the input tells a run with this history, and what was written is its report
+-- the input has a run with this history, and what was written is its report
 pub record Replayed (before after : Ends) (history : List Entry) : Type 0 where
   pub output : List ℕ
   pub found : FoundInput (TellsRun history output) before.source after.source
@@ -73,7 +73,7 @@ pub record FoundAlone (IsSo : List ℕ → Type 0) (before after : Ends) : Type 
   pub found : FoundInput IsSo before.source after.source
   pub given : NothingGiven before after
 
--- the input tells a run, and the sink failed once, before it had all of the report
+-- the input has a run, and the sink failed once, before it had all of the report
 pub record ReportBroke (before after : Ends) : Type 0 where
   pub history : List Entry
   pub output : List ℕ
@@ -82,13 +82,13 @@ pub record ReportBroke (before after : Ends) : Type 0 where
 
 -- WHAT MUST COME
 
--- the source tells an input, and this is so of it
+-- the source reports an input, and this is so of it
 pub record ToldInput (IsSo : List ℕ → Type 0) (old new : SourceState) : Type 0 where
   pub read : List ℕ
   pub told : IsTold REPLAY_LIMIT read old new
   pub is_so : IsSo read
 
--- a run, told between ends that do not fail
+-- a run, in an input that the source reports, between ends that do not fail
 pub record IsFairReplay (before after : Ends) : Type 0 where
   pub history : List Entry
   pub output : List ℕ
@@ -98,7 +98,7 @@ pub record IsFairReplay (before after : Ends) : Type 0 where
 abbrev pub HasReplayed : Outcome → Type 0
 HasReplayed result = (history : List Entry) × (result ≡ outcome.Replayed history)
 
--- unless memory runs out, an input of which this is so is answered so
+-- unless memory runs out, an input of which this is so has this result
 abbrev pub MustBe : (List ℕ → Type 0) → Outcome → Ends → Ends → Outcome → Type 0
 MustBe IsSo answer before after result =
     ToldInput IsSo before.source after.source → (result ≡ answer) ⊎ (result ≡ outcome.NoMemory)

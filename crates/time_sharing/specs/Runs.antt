@@ -1,4 +1,4 @@
--- A run of a deck: what its monitor answered, and what its terminals talked.
+-- A run of a deck: what its monitor answered, and the sessions of its terminals.
 use Rattle.std.specs.Prelude.{◌≡◌, ℕ, List, length, map, slice_get, Some}
 use Rattle.monitor_calls.specs.declared.calls.Entry.{Entry}
 use Rattle.monitor_calls.specs.Pairs.{Pair, requests, replies}
@@ -9,17 +9,17 @@ use Rattle.monitor_model.specs.History.{Legal, part_of}
 use Rattle.session_model.specs.Talk.{IsTalk}
 use Rattle.deck_model.specs.Deck.{Deck, Terminal}
 
--- the talk of these keys, given the replies of the pairs, makes their requests and ends with the
+-- the session of these keys, given the replies of the pairs, makes their requests and ends with the
 -- screen
 unfoldable pub Talks : Typing → List Pair → List ℕ → Type 0
 Talks keys pairs screen = IsTalk keys (replies pairs) (requests pairs) screen
 
--- a job's part of the history is what the terminal's talk makes, and the screen is what it shows
+-- a job's part of the history is what the terminal's session makes, and the screen is what it shows
 abbrev pub HasTalked : List Entry → ℕ → Terminal → List ℕ → Type 0
 HasTalked history job terminal screen =
     Talks (all_typed terminal.keys) (part_of job history) screen
 
--- there are as many screens as terminals, and at each place the terminal has talked so, as the job
+-- there are as many screens as terminals, and the terminal at each place had its session as the job
 -- of that number
 pub record AllTalk (history : List Entry) (terminals : List Terminal) (screens : List (List ℕ))
     : Type 0 where
@@ -32,8 +32,8 @@ abbrev pub opening_of : Deck → monitor.State
 opening_of deck =
     monitor.opening deck.accounts deck.blocks deck.files (length deck.terminals)
 
--- the monitor answered one call at a time, from the deck's opening state, and each job asked what
--- its terminal's keys make given the replies
+-- the monitor answered one call at a time, from the deck's opening state, and each job made the
+-- requests that its terminal's keys make given the replies
 pub record IsRun (deck : Deck) (history : List Entry) (screens : List (List ℕ)) : Type 0 where
   pub legal : Legal (opening_of deck) history
   pub proper : Proper history

@@ -1,4 +1,5 @@
--- The jobs of a run: sessions, and keyboards with the key lines of their terminals. Nobody has to believe this file.
+-- The jobs of a run: sessions, and keyboards with the key lines of their terminals. You need not
+-- trust this file.
 use Rattle.std.specs.Prelude.{ℕ, List}
 use Rattle.monitor_calls.specs.declared.events.Event.{Event}
 use Rattle.terminal_runner.specs.Keyboards.{lines_of}

@@ -1,4 +1,4 @@
--- What reading a deck from a source answers.
+-- The result of reading a deck from a source.
 use Rattle.std.specs.Prelude.{◌≡◌, Result, Ok, Err, IsOk, ◌⊎◌}
 use Rattle.rsts_io.specs.Ends.{SourceState, Rose}
 use Rattle.deck_reader.specs.declared.decks.Deck.{Deck}
@@ -29,8 +29,8 @@ abbrev pub FoundInSource : Result Deck Stopped → SourceState → SourceState �
 FoundInSource (Ok deck) old new = FoundDeck (deck_of deck) old new
 FoundInSource (Err why) old new = WhyStopped why old new
 
--- unless memory runs out: too much stops the reading, a deck is found, and where there is none that
--- is told
+-- unless memory runs out: too much stops the reading, a deck is found, and if there is none that is
+-- the result
 abbrev pub MustStop : Result Deck Stopped → SourceState → SourceState → Type 0
 MustStop result old new = IsOverLimit INPUT_LIMIT old new → result ≡ Err stopped.TooLong
 

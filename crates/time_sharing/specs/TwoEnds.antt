@@ -1,12 +1,12 @@
--- The two ends of the program, and what is left of them where it does not come to its output.
+-- The two ends of the program, and what is left of them if it does not reach its output.
 use Rattle.std.specs.Prelude.{◌≡◌, ℕ, ◌≤◌, List, length, Some}
 use Rattle.rsts_io.specs.Ends.{SourceState, SinkState, Rose}
 use Rattle.time_sharing.specs.declared.outcomes.Outcome.{Outcome}
 use Rattle.time_sharing.specs.declared.outcomes.Outcome.TheVariants as outcome
 use Rattle.rsts_io.specs.Whole.{IsOverLimit, IsTooMuch}
 
--- The program reads a source and writes to a sink. What they were before a call and what they are
--- after it is all that is said of them.
+-- The program reads a source and writes to a sink. All that is said of them is what they were
+-- before a call and what they are after it.
 
 pub record Ends : Type 0 where
   pub source : SourceState
@@ -35,7 +35,7 @@ pub record WantedMemory (before after : Ends) : Type 0 where
 
 -- WHAT MUST COME
 
--- the source tells its bytes, they are no more than an input may have, and it does not fail
+-- the source reports its bytes, they are no more than an input may have, and it does not fail
 pub record IsTold (limit : ℕ) (read : List ℕ) (old new : SourceState) : Type 0 where
   pub told : old.left ≡ Some read
   pub most : length read ≤ limit

@@ -1,4 +1,4 @@
--- What is written of a run, by the names of its terminals. Nobody has to believe this file.
+-- What is written of a run, by the names of its terminals. You need not trust this file.
 use Rattle.std.specs.Prelude.{ℕ, List, ◌++◌}
 use Rattle.monitor_calls.specs.declared.calls.Entry.{Entry}
 use Rattle.deck_model.specs.Report.{report}

@@ -1,4 +1,4 @@
-//! The drill: a run of a deck that nobody reads.
+//! The drill: a run of a deck that is not read.
 
 ghost use Rattle.std.specs.Prelude.{◌≡◌, ◌≤◌, IfOk};
 ghost use Rattle.program_words.specs.declared.words.TheConstants.{MOST_DRILL_JOBS};
@@ -14,7 +14,7 @@ use std::sync::Wait;
 use std::thread::Threads;
 use terminal_runner::Pacer;
 
-/// Runs the drill with so many terminals and writes what it came to, as the word `drill` asks.
+/// Runs the drill with this many terminals and writes its line, as the word `drill` asks.
 pub(crate) fn run_drill<R: Threads + Wait + Sync, K: Sink, P: Pacer + Sync>(
     rt: &R,
     alloc: Global,
@@ -35,7 +35,7 @@ pub(crate) fn run_drill<R: Threads + Wait + Sync, K: Sink, P: Pacer + Sync>(
     }
 }
 
-/// What the drill came to, and what is written of it.
+/// Runs the drill, and returns its tally and the line that is written of it.
 fn drilled<R: Threads + Wait + Sync, P: Pacer + Sync>(
     rt: &R,
     alloc: Global,

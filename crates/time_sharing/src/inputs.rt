@@ -1,4 +1,4 @@
-//! The input of a replay, cut behind its deck.
+//! The input of a replay, cut after its deck.
 
 ghost use Rattle.std.specs.Prelude.{◌≡◌, ◌≤◌, length, bytes_eq, codes};
 ghost use Rattle.std.specs.Str.Lines.{strip_carriage_return};
@@ -7,7 +7,7 @@ ghost use Rattle.time_sharing.specs.Inputs.{Divided};
 
 use basic_values::cut;
 
-/// The deck's part of an input, how many whole lines it has, and what stands behind it.
+/// The deck's part of an input, how many whole lines it has, and what comes after it.
 #[derive(Clone, Copy)]
 pub(crate) struct Cut<'a> {
     pub(crate) part: &'a [u8],
@@ -15,7 +15,7 @@ pub(crate) struct Cut<'a> {
     pub(crate) text: &'a [u8],
 }
 
-/// An input, cut behind its first whole line that is `END`, or at its end where no line is.
+/// Cuts an input after its first whole line that is `END`, or at its end if no line is.
 pub(crate) fn divided(input: &[u8]) -> Cut<'_>
     requires { length input.now ≤ 268435456 }
     ensures divided { Divided input.now result.part.now result.text.now }
@@ -43,14 +43,14 @@ pub(crate) fn divided(input: &[u8]) -> Cut<'_>
     }
 }
 
-/// Whether a line is `END`.
+/// Returns whether a line is `END`.
 fn is_end(line: &[u8]) -> bool
     ensures { result ≡ bytes_eq (strip_carriage_return line.now) (codes "END") }
 {
     without_return(line) == b"END".as_slice()
 }
 
-/// A line without one CR at its end.
+/// Returns a line without one CR at its end.
 fn without_return(line: &[u8]) -> &[u8]
     ensures { result.now ≡ strip_carriage_return line.now }
 {

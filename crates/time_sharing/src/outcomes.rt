@@ -19,19 +19,19 @@ pub struct Drill {
     pub sum: u32,
 }
 
-/// Why the text behind a deck tells no run of it.
+/// Why the text after a deck is the history of no run of it.
 #[derive(Clone, Copy, Debug, PartialEq, Eq)]
 pub enum HistoryCause {
     /// It is the text of no history.
     Form,
     /// The job of an entry is no terminal, or its reply is not the monitor's.
     Reply,
-    /// A terminal asks otherwise than its entries say.
+    /// A terminal asks for something else than its entries say.
     Meaning,
 }
 
-/// Where the text behind a deck first fails to tell a run of it, by the line of the whole input,
-/// from 1, and why.
+/// The line at which the text after a deck first fails to be the history of a run of it, counted
+/// over the whole input from 1, and why.
 #[derive(Clone, Copy, Debug, PartialEq, Eq)]
 pub struct HistoryFault {
     pub line: u32,
@@ -45,9 +45,9 @@ pub enum Outcome {
     Ok(RunRecord),
     /// The deck is good, and a line that says so was written.
     Checked,
-    /// The drill was run, and a line that says what it came to was written.
+    /// The drill was run, and its line was written.
     Drilled(Drill),
-    /// The run that the input tells was checked again, and its report was written.
+    /// The run in the input was checked again, and its report was written.
     Replayed(RunRecord),
     /// The words ask for nothing that the program does.
     Usage,
@@ -57,15 +57,15 @@ pub enum Outcome {
     ReadFault,
     /// The input has more than 8,388,608 bytes; of a replay, more than 268,435,456.
     TooLong,
-    /// The sink failed, behind a proper front of the output.
+    /// The sink failed, after a proper prefix of the output.
     WriteFault,
     NoMemory,
-    /// The text behind the deck tells no run of it.
+    /// The text after the deck is the history of no run of the deck.
     History(HistoryFault),
 }
 
 impl Outcome {
-    /// The status with which the program ends.
+    /// Returns the status with which the program ends.
     pub fn status(&self) -> u8
         ensures { result ≡ status_of self.now }
     {
@@ -81,7 +81,8 @@ impl Outcome {
         }
     }
 
-    /// What the program says on standard error, without its LF: nothing where the status is 0.
+    /// Returns what the program says on standard error, without its LF. It is empty if the status
+    /// is 0.
     pub fn line(&self) -> ArrayVec<u8, 80>
         ensures { result.items ≡ line_of self.now }
     {
@@ -111,7 +112,7 @@ fn words(text: &[u8]) -> ArrayVec<u8, 80>
     line
 }
 
-/// `deck line`, the line's number, and the cause.
+/// Returns `deck line`, the line's number, and the cause.
 fn fault_line(fault: DeckFault) -> ArrayVec<u8, 80>
     ensures { result.items ≡ fault_line fault }
 {
@@ -124,7 +125,7 @@ fn fault_line(fault: DeckFault) -> ArrayVec<u8, 80>
     line
 }
 
-/// The words of a cause.
+/// Returns the words of a cause.
 fn cause_text(cause: DeckCause) -> &'static [u8]
     ensures text { result.now ≡ cause_text cause }
     ensures short { length result.now ≤ 28 }
@@ -140,7 +141,7 @@ fn cause_text(cause: DeckCause) -> &'static [u8]
     }
 }
 
-/// `history line`, the line's number, and the cause.
+/// Returns `history line`, the line's number, and the cause.
 fn dispute_line(fault: HistoryFault) -> ArrayVec<u8, 80>
     ensures { result.items ≡ dispute_line fault }
 {
@@ -154,7 +155,7 @@ fn dispute_line(fault: HistoryFault) -> ArrayVec<u8, 80>
     line
 }
 
-/// The words of a cause of a history.
+/// Returns the words of a cause of a history.
 fn dispute_text(cause: HistoryCause) -> &'static [u8]
     ensures text { result.now ≡ dispute_text cause }
     ensures short { length result.now ≤ 15 }

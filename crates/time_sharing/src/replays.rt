@@ -1,4 +1,4 @@
-//! What a replay does: a deck is read, and the history behind it is checked again on one thread.
+//! What a replay does: a deck is read, and the history after it is checked again on one thread.
 
 ghost use Rattle.std.specs.Prelude.{◌≡◌, ◌+◌, ◌<◌, ◌≤◌, ◌^◌, length};
 ghost use Rattle.deck_model.specs.Deck.{IsDeck};
@@ -21,7 +21,7 @@ use report_texts::report;
 use rsts_io::{REPLAY_LIMIT, ReadEnd, Sink, SinkFault, Source, give_all, read_all};
 use std::alloc::Global;
 
-/// Why an input tells no run: its deck, or the history behind it.
+/// Why an input has no run: the fault of its deck, or of the history after it.
 #[derive(Clone, Copy, PartialEq, Eq)]
 pub(crate) enum InputFault {
     Deck(DeckFault),
@@ -39,7 +39,7 @@ impl InputFault {
     }
 }
 
-/// Reads a deck and a history behind it, checks that a run of the deck has that history, and writes
+/// Reads a deck and a history after it, checks that a run of the deck has that history, and writes
 /// its report, as the word `replay` asks.
 pub fn replay_system<S: Source, K: Sink>(alloc: Global, source: &mut S, sink: &mut K) -> Outcome
     ensures { Replays (ends (S.state source.old) (K.state sink.old))
@@ -62,7 +62,7 @@ pub fn replay_system<S: Source, K: Sink>(alloc: Global, source: &mut S, sink: &m
     }
 }
 
-/// The run that an input tells, and its report; or why it tells none.
+/// Returns the run in an input, and its report, or why there is none.
 fn run_told(alloc: Global, input: &[u8]) -> Result<(RunRecord, Vec<u8>), Trouble<InputFault>>
     requires { length input.now ≤ 268435456 }
     ensures { ToldBy input.now result }
@@ -80,8 +80,8 @@ fn run_told(alloc: Global, input: &[u8]) -> Result<(RunRecord, Vec<u8>), Trouble
     }
 }
 
-/// The run of a deck that a text tells, and its report; or where it fails to, if the text's first
-/// line has this number.
+/// Returns the run of a deck in a text, and its report, or the line at which the text fails. The
+/// text's first line has this number.
 fn run_behind(
     alloc: Global,
     deck: Deck,
@@ -112,7 +112,7 @@ fn run_behind(
     Ok((Series::from_vec(history), output))
 }
 
-/// The fault of a dispute over a history, if its text's first line has this number.
+/// Returns the fault of a dispute over a history, if its text's first line has this number.
 fn fault_of(first: u32, why: Dispute) -> HistoryFault
     requires { first + 1 + entry_of why < 2 ^ 32 }
     ensures { result ≡ fault_of first why }

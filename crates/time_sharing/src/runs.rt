@@ -78,8 +78,8 @@ fn part(
     Ok(())
 }
 
-/// Runs the terminals of a deck, each until its session has ended, and hands them back without
-/// their keys.
+/// Runs the terminals of a deck, each until its session has ended, and returns them without their
+/// keys.
 pub(crate) fn run_deck<R: Threads + Wait + Sync, P: Pacer + Sync>(
     rt: &R,
     alloc: Global,
@@ -98,8 +98,9 @@ pub(crate) fn run_deck<R: Threads + Wait + Sync, P: Pacer + Sync>(
     Ok((named, end))
 }
 
-/// Replays entries over the terminals of a deck: the screens, where a run of the deck has these
-/// entries; else where they first fail to be that. It hands the terminals back without their keys.
+/// Replays entries over the terminals of a deck. It returns the screens if a run of the deck has
+/// these entries, or else where they first fail to be that. It returns the terminals without their
+/// keys.
 pub(crate) fn replay_deck(
     alloc: Global,
     deck: Deck,

@@ -1,4 +1,4 @@
-//! What a run and a check do: a deck is read, and what there is to say of it is written.
+//! What a run and a check do: they read a deck, and write what they have to say of it.
 
 ghost use Rattle.std.specs.Prelude.{◌≡◌, IfOk};
 ghost use Rattle.deck_model.specs.Deck.{IsDeck};
@@ -45,7 +45,7 @@ impl Stopped {
     }
 }
 
-/// Runs the terminals of the deck that the source spells and writes what is wanted of the run, as
+/// Runs the terminals of the deck that the source spells and writes what is asked of the run, as
 /// the word `run` asks.
 pub(crate) fn run_system<R: Threads + Wait + Sync, S: Source, K: Sink, P: Pacer + Sync>(
     rt: &R,
@@ -94,7 +94,7 @@ pub fn check_system<S: Source, K: Sink>(alloc: Global, source: &mut S, sink: &mu
     }
 }
 
-/// The deck that the source spells, read to its end.
+/// Reads the deck that the source spells, to its end.
 fn read_system<S: Source>(alloc: Global, source: &mut S) -> Result<Deck, Stopped>
     ensures found { FoundInSource result (S.state source.old) (S.state source.new) }
     ensures must_stop { MustStop result (S.state source.old) (S.state source.new) }
@@ -114,7 +114,7 @@ fn read_system<S: Source>(alloc: Global, source: &mut S) -> Result<Deck, Stopped
     }
 }
 
-/// A run of the deck, and what is written of it.
+/// Runs the deck, and returns what is written of the run.
 fn run_and_report<R: Threads + Wait + Sync, P: Pacer + Sync>(
     rt: &R,
     alloc: Global,

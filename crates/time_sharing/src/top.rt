@@ -24,9 +24,9 @@ use terminal_runner::Pacer;
 /// What is left to do once the words are parsed and nothing was read yet: it may wait.
 #[derive(Clone, Copy, Debug, PartialEq, Eq)]
 pub enum Rest {
-    /// A deck is to be run, and this written of it.
+    /// A deck is to be run, and its report written with what else is asked for.
     Run(Wanted),
-    /// A drill is to be run, with so many terminals.
+    /// A drill is to be run, with this many terminals.
     Drill(u32),
 }
 
@@ -39,7 +39,7 @@ pub enum Step {
     Waits(Rest),
 }
 
-/// Does what the words ask if that waits for nobody, as a check, a replay and the usage do. Parses
+/// Does what the words ask if that needs no waiting, as a check, a replay and the usage do. Parses
 /// the words, and says what is left to do.
 #[tactic(auto, using(crate::proofs::SystemLemmas::wanted))]
 pub fn begin<S: Source, K: Sink>(
@@ -62,8 +62,9 @@ pub fn begin<S: Source, K: Sink>(
     }
 }
 
-/// Does the rest: reads a deck from the source, runs its terminals, each in a thread of its own,
-/// and writes what is wanted of the run; or runs the drill's deck and writes what it came to.
+/// Does the rest. For a run, it reads a deck from the source, runs its terminals, each in a thread
+/// of its own, and writes what is asked of the run. For a drill, it runs the drill's deck and
+/// writes its line.
 pub fn finish<R: Threads + Wait + Sync, S: Source, K: Sink, P: Pacer + Sync>(
     rt: &R,
     alloc: Global,
@@ -83,10 +84,11 @@ pub fn finish<R: Threads + Wait + Sync, S: Source, K: Sink, P: Pacer + Sync>(
     }
 }
 
-/// Reads a deck from the source, runs its terminals, each in a thread of its own, and writes the
-/// report to the sink, behind it the text of the history and what the printer printed; or reads a
-/// deck and writes whether it is good; or runs the drill's deck and writes what it came to; or
-/// reads a deck and a history and checks that run again; as the words ask.
+/// Does what the words ask. For a run, it reads a deck from the source, runs its terminals, each in
+/// a thread of its own, and writes the report to the sink. After it come the text of the history
+/// and what the printer printed, if asked for. For a check, it reads a deck and writes whether it
+/// is good. For a drill, it runs the drill's deck and writes its line. For a replay, it reads a
+/// deck and a history and checks that run again.
 pub fn rsts_main<R: Threads + Wait + Sync, S: Source, K: Sink, P: Pacer + Sync>(
     rt: &R,
     alloc: Global,

@@ -16,7 +16,7 @@ use report_texts::{push_history, report};
 use std::alloc::Global;
 use terminal_runner::{BatchKeyboard, RunEnd};
 
-/// What is written of a run of these terminals.
+/// Returns what is written of a run of these terminals.
 pub(crate) fn written(
     alloc: Global,
     wanted: Wanted,
@@ -35,7 +35,7 @@ pub(crate) fn written(
     Ok(output)
 }
 
-/// Writes the text of a history, where it is wanted.
+/// Writes the text of a history, if it is asked for.
 fn push_wanted_history(
     output: &mut Vec<u8>,
     wanted: bool,
@@ -50,7 +50,7 @@ fn push_wanted_history(
     push_history(output, history)
 }
 
-/// Writes what the printer printed in a history, where it is wanted. Each job is that of the
+/// Writes what the printer printed in a history, if it is asked for. Each job is that of the
 /// terminal at its place.
 fn push_wanted_listings(
     alloc: Global,
@@ -71,7 +71,7 @@ fn push_wanted_listings(
     Ok(output.extend_from_slice(text.as_slice())?)
 }
 
-/// The names of terminals.
+/// Returns the names of terminals.
 fn names_of(alloc: Global, terminals: &[Terminal]) -> Result<Vec<TerminalName>, NoMemory>
     ensures { IfOk result (λ names. names.items ≡ names_of terminals.now) }
 {
@@ -82,7 +82,7 @@ fn names_of(alloc: Global, terminals: &[Terminal]) -> Result<Vec<TerminalName>, 
     Ok(names)
 }
 
-/// The same name once more.
+/// Returns a copy of a name.
 fn copy_of(name: &TerminalName) -> TerminalName
     ensures { result ≡ name.now }
 {

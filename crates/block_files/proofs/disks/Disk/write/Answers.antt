@@ -8,7 +8,7 @@ use Rattle.block_files.specs.Owners.{AreCounted, count_at, with_count}
 use Rattle.block_files.proofs.OwnerLemmas.{when_ok, there_if_made, owned_at_most, owned_put, counted_put}
 use Rattle.block_files.proofs.disks.Disk.write.Goals as goal
 
--- the tests behind that of the file
+-- the tests after that of the file
 abbrev further : Disk → FileName → ℕ → List (Bool × ℕ)
 further d name block = (block == 0, ILLEGAL_BYTE_COUNT) ∷ (nat_lt (d.blocks - blocks_of d.files) (block - size_at d.files name), NO_ROOM) ∷ []
 
