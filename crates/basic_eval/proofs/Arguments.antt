@@ -1,4 +1,4 @@
--- A function takes three arguments at the most.
+-- A function takes at most three arguments.
 use Rattle.std.proofs.Common.{◌≡◌, ℕ, zero, suc, List, [], ◌∷◌, refl}
 use Rattle.basic_tree.specs.declared.expressions.Function.{Function}
 use Rattle.basic_tree.specs.declared.expressions.Function.TheVariants as function
@@ -8,7 +8,7 @@ use Rattle.program_model.specs.Job.{Job, text}
 use Rattle.polish_code.specs.Walk.{Spot}
 use Rattle.basic_eval.specs.Lending.{value_at, first_three}
 
--- a missing text is empty, as a missing number is
+-- a missing string is empty, like a missing number's bytes
 missing : (place : ℕ) (vs : List Value) → text (value_at place vs) ≡ text_at place vs
 missing zero [] = refl
 missing zero (v ∷ vs) = refl

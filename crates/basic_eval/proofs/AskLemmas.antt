@@ -1,4 +1,4 @@
--- What is asked for what a job keeps is asked by the job, and a key line is typed for it.
+-- Requests for the variables and files are requests of the job; and how a job takes a key line.
 use Rattle.std.proofs.Common.{◌≡◌, ℕ, List, [], ◌∷◌, ◌++◌, drop, Option, Some, None, Result, Ok, Err, refl, sym, ap}
 use Rattle.std.specs.Option.{option_map}
 use Rattle.std.specs.Prelude.{codes}
@@ -32,7 +32,7 @@ follows_acts (Ok value) k is = follows_is is
 follows_acts (Err (trouble.Refused why)) k is = follows_is is
 follows_acts (Err trouble.NoMemory) k is = follows_nothing
 
--- a stop goes past what would go on
+-- a stop skips what would come next
 stopped : {A B : Type 0} (next : A → Job Spot → Walked B) (e : Stop) (k : Job Spot) → option_map (λ t. t then next) (answered_by (Err e) k) ≡ left_by (Err (exit_at e)) k
 stopped next (stop.Fault n) k = refl
 stopped next (stop.Halt h) k = refl
@@ -43,7 +43,7 @@ pub past : {A B : Type 0} (next : A → Job Spot → Walked B) (e : Trouble Exit
 past next (trouble.Refused why) k = refl
 past next trouble.NoMemory k = refl
 
--- what is done on what a job keeps, and what goes on with it
+-- an interaction tree of the variables and files, and what comes after it
 module _ {P W A B : Type 0} {who : P → W} {log : P → List Event} {p q : P} {c d : Clock} (act : StorageAct A) (j : Job Spot) (next : A → Job Spot → Walked B) (t : Storage) where
   pub act_gives : {r : P} {e : Clock} {left : Option (Walked B)} (value : A) → Follows who log p q c d (act (in_storage.part j)) (Some (Gives value t)) → Follows who log q r d e (next value (in_storage.with_part j t)) left
       → Follows who log p r c e (stores_by act j then next) left

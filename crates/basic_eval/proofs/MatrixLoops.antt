@@ -1,4 +1,4 @@
--- What is done one after another in a loop, and rows that are written so.
+-- Loops that do one thing after another, and rows that are written in such a loop.
 use Rattle.std.proofs.Common.{◌≡◌, ℕ, ◌+◌, ◌<◌, ◌≤◌, List, [], ◌∷◌, length, get_or, drop, refl, sym, ap, ◌∙◌, arith}
 use Rattle.std.specs.Prelude.{Option, Some, None, ℤ, Err}
 use Rattle.std.specs.List.{range_with_len}
@@ -75,6 +75,6 @@ rows_further s x n before j next whole h wrote left =
     ∙ sym (ap (λ (rows : List ℕ). rows_written s x rows j) (drop_more (range_with_len 1 n) before 0 (within n before h)))
     ∙ left
 
--- what gives the same is the same
+-- two answers for the same tree are the same
 pub given_alike : (j k : Job Spot) → ◌≡◌ {A = Walked (Unit {0})} (Gives (tt {0}) j) (Gives (tt {0}) k) → k ≡ j
 given_alike j k e = cc

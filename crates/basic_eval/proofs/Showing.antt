@@ -1,4 +1,4 @@
--- What a port is shown is no event of it.
+-- Showing bytes to a port adds no event to its log.
 use Rattle.std.proofs.Common.{◌≡◌, List, [], ◌++◌, Result, Ok, Err, ap, ◌∙◌, append-nil}
 use Rattle.std.specs.Prelude.{IfOk, OnErr}
 use Rattle.monitor_calls.specs.declared.events.Event.{Event}

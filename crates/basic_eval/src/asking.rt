@@ -1,4 +1,4 @@
-//! Items that ask the monitor or wait for a key line.
+//! Instructions that ask the monitor or wait for a key line.
 
 ghost use Rattle.std.specs.Prelude.{◌≡◌, ℕ, [], true, drop};
 ghost use Rattle.basic_tree.specs.declared.expressions.Function.TheVariants.{Sys};
@@ -20,8 +20,8 @@ use polish_code::Item;
 use program_model::{FileAct, Value};
 
 impl Running {
-    /// Does what an item does that may ask the monitor or take a key line. What it leads to is
-    /// given as by `step`. Such an item does not look at what stands around it.
+    /// Executes an instruction that may ask the monitor or take a key line. The result is as that
+    /// of `step`. Such an instruction does not depend on its setting.
     pub fn ask_item<P: Port>(&mut self, item: &Item, stack: &mut Stack<Value>, port: &mut P) -> Move
         requires { is_ask item.now ≡ true }
         ensures { (behind : ℕ) (clock : play.Clock)
@@ -54,7 +54,7 @@ impl Running {
         }
     }
 
-    /// SYS of the first of the last so many values.
+    /// Applies SYS to the first of the last `count` values.
     #[inline(never)]
     fn apply_sys<P: Port>(&mut self, count: usize, stack: &mut Stack<Value>, port: &mut P) -> Move
         ensures { (clock : play.Clock) → Follows P.who P.log port.old port.new clock clock
@@ -97,7 +97,7 @@ impl Running {
     }
 }
 
-/// How many operands a statement on files has.
+/// Returns how many operands a statement on files has.
 fn operand_count(act: &FileAct) -> usize
     ensures { result ≡ operand_count act.now }
 {

@@ -16,7 +16,8 @@ use program_model::{Destination, Value};
 use std::alloc::Global;
 
 impl Running {
-    /// CHAIN: the program is left for the one whose name lies below the number of a line.
+    /// Leaves the program for the one whose name is below the number of a line on the stack. The
+    /// manual's CHAIN.
     #[inline(never)]
     pub(crate) fn chain(&mut self, stack: &mut Stack<Value>) -> Move
         ensures { (left : List Value) → Acts
@@ -30,7 +31,7 @@ impl Running {
     }
 }
 
-/// The text of a value, which is empty where that is a number.
+/// Returns the string of a value, which is empty for a number.
 fn text_of(alloc: Global, value: Value) -> Text
     ensures { result ≡ text value }
 {
@@ -40,7 +41,7 @@ fn text_of(alloc: Global, value: Value) -> Text
     }
 }
 
-/// The line that a number wants, where it is above 0.
+/// Returns the line that a number means, if it is above 0.
 fn line_wanted(number: Int) -> Option<u16>
     ensures { result ≡ line_wanted number }
 {

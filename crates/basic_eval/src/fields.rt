@@ -24,7 +24,7 @@ use program_model::Value;
 use record_fields::Side;
 
 impl Running {
-    /// LSET or RSET by the last value.
+    /// Does LSET or RSET by the last value.
     #[inline(never)]
     pub(crate) fn justify(&mut self, side: Side, name: &Name, stack: &mut Stack<Value>) -> Move
         ensures { Acts
@@ -38,7 +38,7 @@ impl Running {
         }
     }
 
-    /// LSET or RSET by what another variable holds. Of a number that is no byte.
+    /// Does LSET or RSET by the content of another variable. A number has no bytes.
     #[inline(never)]
     pub(crate) fn justify_by(&mut self, side: Side, name: &Name, by: &Name) -> Move
         ensures { (stack : List Value) → Acts

@@ -20,7 +20,7 @@ use program_model::Value;
 use virtual_arrays::VirtualShape;
 
 impl Running {
-    /// The element of an array in a file, by the last so many values.
+    /// Loads an element of an array in a file, by the last `count` values.
     #[inline(never)]
     pub(crate) fn load_file_element<P: Port>(
         &mut self,
@@ -46,7 +46,7 @@ impl Running {
         }
     }
 
-    /// Stores the value below the last so many, which are the subscripts. It stays.
+    /// Stores the value below the last `count`, which are the subscripts. It stays.
     #[inline(never)]
     pub(crate) fn store_file_element<P: Port>(
         &mut self,
@@ -88,7 +88,7 @@ impl Running {
     }
 }
 
-/// The value below the last so many, or another where there is none, which is to be 0.
+/// Returns the value below the last `count`, or `zero` if there is none.
 fn value_below<'a>(count: usize, stack: &'a Stack<Value>, zero: &'a Value) -> &'a Value
     requires { zero.now ≡ value.Number (pos 0) }
     ensures { result.now ≡ top (drop count stack.entry.now) }

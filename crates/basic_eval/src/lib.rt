@@ -1,19 +1,20 @@
-//! The items of a program's code that call no function of it: each runs on the state of a job and
-//! leaves what its act leaves. So do the beginning and the end of a call.
-//! Those that ask the monitor or take a key line go along the path of their act, over any port:
-//! `Running::ask_item`.
+//! The execution of bytecode instructions that call no function of the program, and the beginning
+//! and the end of a call. Each one runs on the state of a job and does what its interaction tree
+//! says. `Running::ask_item` does the instructions that ask the monitor or take a key line, over
+//! any port: it executes their tree.
 //!
-//! `state::Running` is the state, seen as the job of the definitions, and `stack::Stack` the values
-//! that items leave for later ones. `Running::step` carries the promise: the new stack and the new
-//! state are those that the item's act gives, or breaks with; where memory runs out nothing is told
-//! of them. Where a program goes no further the state has the reason, so that what an item leads to
-//! is given back without memory. `Running::run_from_number` does items that begin with a number, or
-//! with a text of which a function gives one, as long as each takes the last number and leaves
-//! another, which never goes over the stack.
-//! `Running::act_jointly` does items that stand behind one another as one act, and reads texts
-//! where they
-//! stand; `Running::run_in_place` changes a text where it stands. The crate is over `polish_code`,
-//! which has the items and their acts, and over `input_items` for what INPUT and READ take.
+//! `state::Running` is the state; its model is the job of the definitions. `stack::Stack` has the
+//! values that instructions leave for later ones. `Running::step` promises that the new stack and
+//! the new state are those of the instruction's tree, at its value or at its break. If memory runs
+//! out, it promises nothing about them. If a program stops, the state has the reason, so that the
+//! result of an instruction needs no memory.
+//!
+//! `Running::run_from_number` executes instructions that begin with a number, or with a string of
+//! which a function gives a number. It continues as long as each one takes the last number and
+//! leaves another, which never goes over the stack. `Running::act_jointly` executes
+//! superinstructions, and reads strings in place. `Running::run_in_place` changes a string in
+//! place. The crate uses `polish_code`, which has the instructions and their trees, and
+//! `input_items` for what INPUT and READ take.
 #![tactic(auto)]
 
 mod asking;

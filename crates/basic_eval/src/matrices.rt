@@ -37,8 +37,7 @@ use polish_code::{MatrixAct, MatrixForm};
 use program_model::Value;
 
 impl Running {
-    /// Does what a statement of MAT does. The number that an array is multiplied with it takes off
-    /// the stack.
+    /// Does a statement of MAT. The number that an array is multiplied with is taken off the stack.
     #[inline(never)]
     pub(crate) fn matrix(
         &mut self,
@@ -60,7 +59,7 @@ impl Running {
         }
     }
 
-    /// Makes the arrays that are not there, and then reads, writes or stores.
+    /// Makes the arrays that do not exist, and then reads, writes or stores.
     fn act_on_matrices(&mut self, words: &[Text], act: &MatrixAct, factor: Int) -> Option<()>
         ensures { Acts
             (touch_all (matrices_of act.now) (seen self.old)
@@ -149,7 +148,7 @@ impl Running {
         Some(())
     }
 
-    /// The elements of a row, of which an array of one subscript has one.
+    /// Reads the elements of a row. An array of one subscript has one element in a row.
     fn read_row(&mut self, words: &[Text], name: Name, last: Option<u16>, row: u16) -> Option<()>
         ensures { Acts
             (read_row words.now name last row (seen self.old))
@@ -180,7 +179,7 @@ impl Running {
         self.read_element(words, name, wrapped(row), Some(wrapped(column)))
     }
 
-    /// An element takes the next item of DATA.
+    /// Stores the next item of DATA to an element.
     fn read_element(
         &mut self,
         words: &[Text],
@@ -260,7 +259,7 @@ impl Running {
         Ok(())
     }
 
-    /// What stands behind a number that others of its row follow.
+    /// Writes what comes after a number that others of its row follow.
     fn write_behind(&mut self, separator: Option<Separator>, others: &[Int]) -> Result<(), NoMemory>
         ensures { OnOk result (seen self.new ≡ behind_number separator others.now (seen self.old)) }
     {
@@ -285,7 +284,7 @@ impl Running {
     }
 }
 
-/// What MAT stores, where an array is multiplied with this number.
+/// Returns what MAT stores, if an array is multiplied with this number.
 fn value_by(factor: Int, form: MatrixForm) -> MatValue
     ensures { result ≡ value_by factor form }
 {
@@ -302,7 +301,7 @@ fn value_by(factor: Int, form: MatrixForm) -> MatValue
     }
 }
 
-/// How many operands a statement of MAT has.
+/// Returns how many operands a statement of MAT has.
 fn matrix_count(act: &MatrixAct) -> usize
     ensures { result ≡ matrix_count act.now }
 {

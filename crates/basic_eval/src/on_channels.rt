@@ -1,5 +1,5 @@
-//! PRINT # and PRINT USING, INPUT # and INPUT LINE #: channels as programs know them, where 0 is
-//! the terminal.
+//! PRINT # and PRINT USING, INPUT # and INPUT LINE #: channels by the numbers of programs; 0 is the
+//! terminal.
 
 ghost use Rattle.std.specs.Prelude.{◌≡◌, List, drop, replicate, IfOk};
 ghost use Rattle.basic_values.specs.Texts.{space};
@@ -34,7 +34,7 @@ use std::alloc::Global;
 use terminal_line::{LAST_ZONE, MOST_COLUMN, ZONE_WIDTH};
 
 impl Running {
-    /// Whether the channel of the last value, which stays, can be written.
+    /// Tests whether the channel of the last value, which stays, can be written.
     #[inline(never)]
     pub(crate) fn test_output(&mut self, stack: &Stack<Value>) -> Move
         ensures { Acts
@@ -47,7 +47,8 @@ impl Running {
         }
     }
 
-    /// What moves to the column of the last value, on the channel below it, which stays.
+    /// Puts on the stack the bytes that move to the column of the last value, on the channel below
+    /// it, which stays.
     #[inline(never)]
     pub(crate) fn tab_text(&mut self, stack: &mut Stack<Value>) -> Move
         ensures { Acts
@@ -65,7 +66,8 @@ impl Running {
         }
     }
 
-    /// What moves to the next zone, on the channel of the last value, which stays.
+    /// Puts on the stack the bytes that move to the next zone, on the channel of the last value,
+    /// which stays.
     #[inline(never)]
     pub(crate) fn zone_text(&mut self, stack: &mut Stack<Value>) -> Move
         ensures { Acts
@@ -82,8 +84,8 @@ impl Running {
         }
     }
 
-    /// The column in which the next byte will stand on a channel, from 0 on. Error 46 outside 0 to
-    /// 12, and 9 where it is not open.
+    /// Returns the column of the next byte on a channel, from 0 on. Error 46 outside 0 to 12, and 9
+    /// if it is not open.
     pub(crate) fn column_on(&self, channel: Int) -> Result<Int, Fault>
         ensures { result ≡ column_on channel (seen self.now) }
     {
@@ -126,8 +128,8 @@ impl Running {
         }
     }
 
-    /// PRINT USING: writes the last so many values, by the format below them, on the channel below
-    /// that.
+    /// Writes the last `count` values for PRINT USING, by the format below them, on the channel
+    /// below that.
     #[inline(never)]
     pub(crate) fn write_using<P: Port>(
         &mut self,
@@ -155,7 +157,7 @@ impl Running {
         }
     }
 
-    /// The next line of the channel of the last value comes in its place.
+    /// Replaces the last value, a channel, by the channel's next line.
     #[inline(never)]
     pub(crate) fn line_on<P: Port>(&mut self, stack: &mut Stack<Value>, port: &mut P) -> Move
         ensures { (clock : play.Clock) → Follows P.who P.log port.old port.new clock clock
@@ -174,28 +176,28 @@ impl Running {
     }
 }
 
-/// Whether the number of a channel is the terminal's.
+/// Returns whether the number of a channel is the terminal's.
 fn is_terminal(channel: Int) -> bool
     ensures { result ≡ is_terminal channel }
 {
     channel.value() == 0
 }
 
-/// A column as a program sees it.
+/// Returns a column as a program sees it.
 fn shown_count(column: u32) -> Int
     ensures { result ≡ shown_count column }
 {
     Int::new(column.min(MOST_COLUMN) as i16)
 }
 
-/// A column as a count of bytes.
+/// Returns a column as a count of bytes.
 fn column_count(column: Int) -> u16
     ensures { result ≡ column_count column }
 {
     natural(column).unwrap_or(0)
 }
 
-/// Spaces up to a column, where this one is less.
+/// Returns spaces up to a column, if this one is less.
 fn tab_text(alloc: Global, wanted: Int, column: u16) -> Result<Text, NoMemory>
     ensures { IfOk result (λ text. text ≡ tab_text wanted column) }
 {
@@ -205,7 +207,7 @@ fn tab_text(alloc: Global, wanted: Int, column: u16) -> Result<Text, NoMemory>
     }
 }
 
-/// Spaces up to the next zone, or CR and LF in the last one.
+/// Returns spaces up to the next zone, or CR and LF in the last one.
 fn zone_text(alloc: Global, column: u16) -> Result<Text, NoMemory>
     ensures { IfOk result (λ text. text ≡ zone_text column) }
 {
@@ -217,7 +219,7 @@ fn zone_text(alloc: Global, column: u16) -> Result<Text, NoMemory>
     }
 }
 
-/// So many spaces. Only memory may run out.
+/// Returns this many spaces. Only memory may run out.
 fn spaces(alloc: Global, count: u16) -> Result<Text, NoMemory>
     ensures { IfOk result (λ text. text ≡ replicate count space) }
 {

@@ -1,4 +1,4 @@
-//! The act of an item.
+//! The execution of one instruction.
 
 ghost use Rattle.std.specs.Prelude.{◌≡◌, ◌-◌, false};
 ghost use Rattle.polish_code.specs.Walk.{item_act};
@@ -15,11 +15,10 @@ use polish_code::Item;
 use program_model::Value;
 
 impl Running {
-    /// Does what an item does that calls no function of the program and asks nothing: `behind`
-    /// items stand up to it and with it. What it leads to is given; where that is no further the
-    /// state has the reason,
-    /// and where memory runs out nothing more is told of it. Each act stays out of line, so that
-    /// this has no frame of its own.
+    /// Executes an instruction that calls no function of the program and asks nothing. `behind` is
+    /// the number of instructions up to and including it. Returns the move that it leads to. If
+    /// that is out, the state has the reason; if memory ran out, nothing more is claimed. The work
+    /// of each instruction stays out of line, so that this call has no frame of its own.
     #[inline(always)]
     pub fn step(
         &mut self,
@@ -153,7 +152,7 @@ impl Running {
     }
 }
 
-/// The place so many items back.
+/// Returns the place `count` instructions back.
 #[inline(always)]
 pub(crate) fn back(behind: usize, count: u32) -> usize
     ensures { result ≡ behind - 1 - count }
@@ -161,7 +160,7 @@ pub(crate) fn back(behind: usize, count: u32) -> usize
     behind.saturating_sub(1).saturating_sub(count as usize)
 }
 
-/// Whether an item calls a function of the program.
+/// Returns whether an instruction calls a function of the program.
 #[inline(always)]
 pub fn is_call(item: &Item) -> bool
     ensures { result ≡ is_call item.now }
@@ -172,7 +171,7 @@ pub fn is_call(item: &Item) -> bool
     }
 }
 
-/// Whether an item may ask the monitor or take a key line.
+/// Returns whether an instruction may ask the monitor or take a key line.
 #[inline(always)]
 pub fn is_ask(item: &Item) -> bool
     ensures { result ≡ is_ask item.now }
@@ -191,7 +190,7 @@ pub fn is_ask(item: &Item) -> bool
     }
 }
 
-/// Whether a function asks the monitor.
+/// Returns whether a function asks the monitor.
 #[inline(always)]
 pub fn is_sys(function: Function) -> bool
     ensures { result ≡ is_sys function }

@@ -11,8 +11,8 @@ use print_using::{Using, format_line, format_values};
 use program_model::Value;
 use std::alloc::Global;
 
-/// What a format writes of values, and the end of the line behind it where that is wanted. Error 50
-/// where no field takes a value.
+/// Returns what a format writes of values, and the end of the line if that is requested. Error 50
+/// if no field takes a value.
 pub(crate) fn used_bytes(
     alloc: Global,
     ends_line: bool,
@@ -27,7 +27,7 @@ pub(crate) fn used_bytes(
     }
 }
 
-/// The same, of lent values.
+/// Does the same for lent values.
 fn formatted(
     alloc: Global,
     ends_line: bool,
@@ -44,7 +44,7 @@ fn formatted(
     }
 }
 
-/// The values, lent.
+/// Returns the values, lent.
 fn used_values<'a>(alloc: Global, values: &'a [Value]) -> Result<Vec<Using<'a>>, NoMemory>
     ensures { IfOk result (λ used. map printed_value used.items ≡ map used_value values.now) }
 {
@@ -65,7 +65,7 @@ fn use_all<'a>(used: &mut Vec<Using<'a>>, values: &'a [Value]) -> Result<(), NoM
     Ok(())
 }
 
-/// A value, lent.
+/// Returns a value, lent.
 fn used_value(value: &Value) -> Using<'_>
     ensures { printed_value result ≡ used_value value.entry.now }
 {

@@ -53,7 +53,7 @@ pub through : (n : ℕ) (ws : List Word) (ss : List Symbol) (v : Values) (from :
 through n ws ss v from ss' v' from' (Ok f) comes h = λ k vs. comes k vs ∙ h k vs
 through n ws ss v from ss' v' from' (Err e) comes h = inside n ws ss v from n ss' v' from' e (λ k vs. (k, vs, comes k vs)) h
 
--- ---- levels
+-- ---- nesting levels
 
 pub closed : (n : ℕ) (ts : List Word) (k : List Symbol) (vs : Values) → 0 < n → run (n - 1) ts (Close ∷ k) vs ≡ run n ts k vs
 closed n ts k vs h = let e : suc (n - 1) ≡ n = omega arith in run_close (n - 1) ts k vs ∙ ap (λ m. run m ts k vs) e
@@ -251,7 +251,7 @@ sign_refused n ws ss v from m s from' (failure.Wrong place) comes h =
     (h.0, λ k vs. let there = comes k vs in there.2 ∙ ap (λ i. run m (drop i ws) (Expect s ∷ there.0) there.1) (sym h.1) ∙ not_expected m (drop place ws) s there.0 there.1 h.2)
 sign_refused n ws ss v from m s from' (failure.TooDeep place) comes h = absurd h
 
--- ---- if no level is left
+-- ---- if no nesting level is left
 
 pub deep : (n : ℕ) (ws : List Word) (s : Symbol) (from : ℕ) → n ≡ 0 → from < length ws → ((k : List Symbol) (vs : Values) → run 0 (drop from ws) (s ∷ k) vs ≡ Err (TooDeep (drop from ws))) → RefusesAll n ws (s ∷ []) [] from (failure.TooDeep from)
 deep n ws s from e within h = (within, λ k vs. subst (λ m. run m (drop from ws) (s ∷ k) vs ≡ Err (TooDeep (drop from ws))) (sym e) (h k vs))
@@ -290,7 +290,7 @@ first_subscript n ws from end name a pos at first k vs =
     ∙ first (Do Collect ∷ SecondSubscript ∷ Expect sign.Closing ∷ Close ∷ Do (MakeElement name) ∷ k) (Several NoTrees ∷ vs)
     ∙ run_do (n - 1) Collect (drop end ws) (SecondSubscript ∷ Expect sign.Closing ∷ Close ∷ Do (MakeElement name) ∷ k) (Term a ∷ Several NoTrees ∷ vs)
 
--- a closing parenthesis, the end of the level, and the action that makes the tree
+-- a closing parenthesis, the end of the nesting level, and the action that makes the tree
 pub ended : (n : ℕ) (ts rest : List Word) (a : Action) (k : List Symbol) (vs : Values) → 0 < n → ts ≡ Punctuation sign.Closing ∷ rest → run (n - 1) ts (Expect sign.Closing ∷ Close ∷ Do a ∷ k) vs ≡ run n rest k (made a vs ∷ others a vs)
 ended n ts rest a k vs pos at =
     sign_taken (n - 1) ts rest sign.Closing (Close ∷ Do a ∷ k) vs at
@@ -369,7 +369,7 @@ pub all_empty : (xs ys : List Want) → xs ≡ ys → true ≡ (length xs == 0) 
 all_empty [] ys e h = sym e
 all_empty (x ∷ xs) ys e h = let z : length (x ∷ xs) ≡ 0 = eqb-true (length (x ∷ xs)) 0 (sym h) in absurd (omega arith)
 
--- the first argument is wanted
+-- the first argument is expected
 pub opens_function : (n : ℕ) (ws : List Word) (from : ℕ) (f : Function) (wants : List Want) (k : List Symbol) (vs : Values) → 0 < n → 0 < length (arguments_of f) → wants ≡ arguments_of f → drop from ws ≡ Punctuation sign.Opening ∷ drop (from + 1) ws → run n (drop from ws) (function_expected f ++ k) vs ≡ run (n - 1) (drop (from + 1) ws) (Level loosest (wanted wants 0) ∷ Do Collect ∷ (left_of f 1 ++ k)) vs
 opens_function n ws from f wants k vs pos some same at =
     function_opens n (drop from ws) (drop (from + 1) ws) f k vs pos some at
@@ -382,7 +382,7 @@ first_of_function n ws from end f wants e items pos some same at first is k vs =
     ∙ collected (n - 1) (drop end ws) (left_of f 1 ++ k) [] items e vs is
     ∙ ap (λ i. run (n - 1) (drop end ws) (left_of f i ++ k) (Several (trees_in items) ∷ vs)) (sym (ap length is))
 
--- one more argument is wanted, after a comma
+-- one more argument is expected, after a comma
 pub comma_wanted : (m : ℕ) (ws : List Word) (place behind i : ℕ) (f : Function) (wants : List Want) (es : List Expr) (k : List Symbol) (vs : Values) → wants ≡ arguments_of f → i ≡ length es → length es < length (arguments_of f) → drop place ws ≡ Punctuation sign.Comma ∷ drop behind ws → run m (drop place ws) (left_of f (length es) ++ k) vs ≡ run m (drop behind ws) (Level loosest (wanted wants i) ∷ Do Collect ∷ (left_of f (suc (length es)) ++ k)) vs
 comma_wanted m ws place behind i f wants es k vs same count more at =
     ap (λ ss. run m (drop place ws) ss vs) (left_comma f (length es) k more)

@@ -83,7 +83,7 @@ abbrev pub is_key : Keyword → Word → Bool
 is_key k (Key j) = is_same_keyword k j
 is_key k other = false
 
--- one sign, with any levels left
+-- one sign, with any nesting levels left
 abbrev pub RefusesSign : List Word → Sign → ℕ → Failure → Type 0
 RefusesSign ws s from failure.NoMemory = ⊥
 RefusesSign ws s from (failure.Wrong place) = (place ≤ length ws) × (place ≡ from) × First (is_sign s) (drop place ws)
@@ -95,23 +95,23 @@ ReadsSign ws s from (Err e) = RefusesSign ws s from e
 
 -- ---- operators
 
--- whether an operator continues a level after a string, or else after a number
+-- whether an operator continues a precedence level after a string, or else after a number
 abbrev pub goes_on : Operator → ℕ → Bool → Bool
 goes_on o level text = operator_level o == level && (not text || joins_texts o)
 
--- at a place, after an operand of this kind, the operator continues the level
+-- at a place, after an operand of this kind, the operator continues the precedence level
 abbrev pub TakesOperator : List Word → ℕ → ℕ → Bool → Operator → Type 0
 TakesOperator ws place level text o =
     (n : ℕ) (k : List Symbol) (a : Tree) (vs : Values) → is_text a ≡ text
     → run n (drop place ws) (More level ∷ k) (Term a ∷ vs) ≡ run n (drop (place + 1) ws) (right_of o text ∷ Do (MakeOperation o) ∷ More level ∷ k) (Term a ∷ vs)
 
--- at a place, after an operand of this kind, the level ends
+-- at a place, after an operand of this kind, the precedence level ends
 abbrev pub EndsLevel : List Word → ℕ → ℕ → Bool → Type 0
 EndsLevel ws place level text =
     (n : ℕ) (k : List Symbol) (a : Tree) (vs : Values) → is_text a ≡ text
     → run n (drop place ws) (More level ∷ k) (Term a ∷ vs) ≡ run n (drop place ws) k (Term a ∷ vs)
 
--- the operator at a place that continues a level, or none
+-- the operator at a place that continues a precedence level, or none
 abbrev pub OperatorAt : List Word → ℕ → ℕ → Bool → Option Operator → Type 0
 OperatorAt ws place level text (Some o) = (place < length ws) × TakesOperator ws place level text o
 OperatorAt ws place level text None = EndsLevel ws place level text
@@ -140,7 +140,7 @@ abbrev pub RelationAt : List Word → ℕ → Option Relation → Type 0
 RelationAt ws place (Some r) = (place < length ws) × TakesRelation ws place r
 RelationAt ws place None = EndsRelations ws place × RefusesText ws place
 
--- whether relations are allowed where this kind is wanted: a relation gives a number
+-- whether relations are allowed if this kind is expected: a relation gives a number
 abbrev pub takes_relations : Want → Bool
 takes_relations want.Number = true
 takes_relations want.Text = false
@@ -158,13 +158,13 @@ prefixed prefix.Minus a = Negative a
 prefixed prefix.Plus a = Positive a
 prefixed prefix.Not a = Not a
 
--- at a place, if a number is allowed, a prefix opens a level for the operand
+-- at a place, if a number is allowed, a prefix opens a nesting level for the operand
 abbrev pub OpensPrefixed : (Want → Bool) → (Want → Symbol) → Symbol → List Word → ℕ → Prefix → Type 0
 OpensPrefixed fits s operand ws place p =
     (n : ℕ) (w : Want) (k : List Symbol) (vs : Values) → fits w ≡ true
     → run (suc n) (drop place ws) (s w ∷ k) vs ≡ run n (drop (place + 1) ws) (operand ∷ Close ∷ Do (action_of p) ∷ k) vs
 
--- with no level left it is too deep there
+-- with no nesting level left it is too deep there
 abbrev pub DeepPrefixed : (Want → Bool) → (Want → Symbol) → List Word → ℕ → Type 0
 DeepPrefixed fits s ws place =
     (w : Want) (k : List Symbol) (vs : Values) → fits w ≡ true → run 0 (drop place ws) (s w ∷ k) vs ≡ Err (TooDeep (drop place ws))
@@ -185,7 +185,7 @@ PrefixAt fits s operand tighter ws place (Some p) =
     (place < length ws) × OpensPrefixed fits s operand ws place p × DeepPrefixed fits s ws place × RefusesPrefixed fits s ws place
 PrefixAt fits s operand tighter ws place None = GoesTighter s tighter ws place
 
--- a number is allowed where this kind is wanted
+-- a number is allowed if this kind is expected
 abbrev pub takes_number : Want → Bool
 takes_number w = takes w false
 
@@ -207,7 +207,7 @@ abbrev pub fits_function : Want → Option Function → Bool
 fits_function w None = false
 fits_function w (Some f) = takes w (gives_text f)
 
--- whether an atom of the wanted kind begins with a word
+-- whether an atom of the expected kind begins with a word
 abbrev pub begins_atom : Want → Word → Bool
 begins_atom w (Key k) = fits_function w (function_of k)
 begins_atom w (Punctuation s) = is_same_sign sign.Opening s
@@ -252,7 +252,7 @@ pub record Continues (n : ℕ) (ws : List Word) (s : Symbol) (from : ℕ) (more 
   pub within : f.end ≤ length ws
   pub kind : f.text ≡ is_text (tree_of f.tree)
 
--- so far these arguments were read after an opened level, and more may be expected
+-- so far these arguments were read after an opened nesting level, and more may be expected
 pub record Gathers (n m : ℕ) (ws : List Word) (ss : List Symbol) (v : Values) (from : ℕ) (more : List Symbol) (items : List Expr) (place : ℕ) : Type 0 where
   pub runs : (k : List Symbol) (vs : Values) → run n (drop from ws) (ss ++ k) (v ++ vs) ≡ run m (drop place ws) (more ++ k) (Several (trees_in items) ∷ vs)
   pub after : from < place

@@ -1,4 +1,4 @@
--- The precedences of the parser, as the numbered levels of the grammar.
+-- The precedences of the parser, as the numbered precedence levels of the grammar.
 use denote.Enum.Declared.{tag_of}
 use Rattle.std.specs.Prelude.{◌≡◌, ◌≤◌, ℕ, Bool, true, false, Option, Some, None}
 use Rattle.basic_tree.specs.declared.expressions.Operator.{Operator}

@@ -275,7 +275,7 @@ fn parse_relations(
 
 // Atoms
 
-/// Returns whether an atom of the wanted kind begins with this word.
+/// Returns whether an atom of the expected kind begins with this word.
 fn begins_atom(want: Want, word: Word<'_>) -> bool
     ensures { result ≡ begins_atom want (as_word word.entry) }
 {
@@ -499,7 +499,7 @@ fn parse_function(
     })
 }
 
-/// Parses the longest expression of the wanted kind from a place on, with this many levels of
+/// Parses the longest expression of the expected kind from a place on, with this many levels of
 /// nesting left.
 pub fn expression_at(
     alloc: Global,

@@ -3,7 +3,7 @@
 //! `parse_expr` promises, in terms of the grammar of `basic_tree`, the longest expression that the
 //! tokens spell, or the token that is rejected. `expression_at` and `subscripts_at` promise the
 //! same in terms of the grammar's stack machine, for the crates above. `Words` are the tokens as
-//! the grammar sees them, and `MOST_LEVELS` is the greatest nesting depth.
+//! the grammar sees them, and `MOST_LEVELS` is the largest nesting depth.
 #![tactic(auto)]
 
 mod expressions;

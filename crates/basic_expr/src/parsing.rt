@@ -11,17 +11,17 @@ use basic_tree::{Expr, Refusal, Want};
 use basic_values::{NoMemory, Trouble};
 use std::alloc::Global;
 
-/// The greatest nesting depth in a line. Parentheses of every kind, signs and NOT each open a
-/// level.
+/// The largest nesting depth in a line. Parentheses of every kind, signs and NOT each open a
+/// nesting level.
 pub const MOST_LEVELS: usize = 64;
 
-/// Parses the longest expression of the wanted kind from a place of the tokens on, and returns it
+/// Parses the longest expression of the expected kind from a place of the tokens on, and returns it
 /// with the place after it.
 ///
-/// Let k be the greatest place such that the tokens up to k begin some expression of that kind. If
-/// they are an expression, and none of them opens a level too many, it is returned. If not, the
-/// first rejected token is: with `Syntax` at k, or with `TooDeep` at the token that opens level 65.
-/// Places are numbers of tokens, from 0; the end is the number of tokens.
+/// Let k be the largest place such that the tokens up to k begin some expression of that kind. If
+/// they are an expression, and none of them opens a nesting level too many, it is returned. If not,
+/// the first rejected token is: with `Syntax` at k, or with `TooDeep` at the token that opens
+/// nesting level 65. Places are numbers of tokens, from 0; the end is the number of tokens.
 pub fn parse_expr(
     alloc: Global,
     tokens: &Tokens<'_>,

@@ -8,12 +8,13 @@ use basic_tree::Operator;
 
 /// How tightly the operands of an expression bind, from the most tightly on.
 ///
-/// The order is that of the grammar's levels: an atom is level 0, a whole expression level 11.
+/// The order is that of the grammar's precedence levels: an atom is precedence level 0, a whole
+/// expression precedence level 11.
 #[derive(Clone, Copy, PartialEq, Eq)]
 pub enum Precedence {
     Atom,
     Power,
-    /// Signs in front of an operand.
+    /// Signs before an operand.
     Sign,
     Product,
     Sum,

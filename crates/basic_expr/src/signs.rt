@@ -147,7 +147,7 @@ pub(crate) fn next_relation(words: &Words<'_>, place: usize) -> Option<Relation>
     }
 }
 
-/// Returns the sign in front of a number at a place, if there is one.
+/// Returns the sign before a number at a place, if there is one.
 pub(crate) fn next_sign(words: &Words<'_>, place: usize) -> Option<Prefix>
     requires { place ≤ length words.now }
     ensures signed { PrefixAt takes_number (signed_level 2) (Level 2 Number) (signed_level 1)

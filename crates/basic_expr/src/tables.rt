@@ -10,7 +10,7 @@ ghost use Rattle.basic_tree.specs.SpellingExpressions.{want_of};
 
 use basic_tree::{Function, Keyword, Operator, Relation, Sign, Want};
 
-/// Returns whether a string, or else a number, is allowed where this kind is wanted.
+/// Returns whether a string, or else a number, is allowed if this kind is expected.
 pub fn takes(want: Want, text: bool) -> bool
     ensures { result ≡ takes want text }
 {
@@ -28,7 +28,7 @@ pub(crate) fn want_of(text: bool) -> Want
     if text { Want::Text } else { Want::Number }
 }
 
-/// Returns the kind that is wanted of a relation's left side.
+/// Returns the kind that a relation's left side must have.
 pub(crate) fn side(want: Want) -> Want
     ensures { result ≡ side want }
 {
@@ -38,7 +38,7 @@ pub(crate) fn side(want: Want) -> Want
     }
 }
 
-/// Returns whether relations are allowed where this kind is wanted: a relation gives a number.
+/// Returns whether relations are allowed if this kind is expected: a relation gives a number.
 pub(crate) fn takes_relations(want: Want) -> bool
     ensures { result ≡ takes_relations want }
 {

@@ -1,4 +1,4 @@
--- Where a program, or a line, begins in its code, and what it finds there.
+-- The place in the code at which a program, or a line, begins, and the state there.
 use Rattle.std.proofs.Common.{◌≡◌, ℕ, List, [], ◌∷◌, refl, ap, ◌∙◌, arith}
 use Rattle.std.specs.Prelude.{Option, Some, None}
 use Rattle.basic_tree.specs.Trees.{StatementTree}
@@ -25,7 +25,7 @@ offset_whole : (s : Option StatementTree) → offset_in s [] ≡ 0
 offset_whole None = refl
 offset_whole (Some s) = refl
 
--- a statement of a line stands where it begins
+-- a statement of a line is at the place where it begins
 pub place_whole : (program : Program) (m : ℕ) → place_of program (whole m) ≡ statement_place program m
 place_whole program m = omega (arith, offset_whole (statement_at program m))
 
@@ -40,13 +40,13 @@ onward_first program = ap Some (place_whole program 0 ∙ first_place program)
 home_first : (program : Program) → low_home program no_home ≡ no_home
 home_first program = ap (λ (n : ℕ). record { start = n; behind = n; line = 0 }) (first_place program)
 
--- what a line finds that begins, whatever program was there before
+-- the state in which a line begins, whatever program was there before
 pub begins_apart : (line program : Program) (j : Job Position) → lowered line (apart line j) ≡ set_apart (loops_of line) (lowered program j)
 begins_apart line program j =
     ap (λ (n : ℕ). record (set_apart (loops_of line) (lowered program j)) { trap = record (set_apart (loops_of line) (lowered program j)).trap { place = n }; home = low_home line no_home }) (first_place line)
     ∙ ap (λ (h : Home). record (set_apart (loops_of line) (lowered program j)) { home = h }) (home_first line)
 
--- what runs at main level
+-- what runs at top level
 low_after : (program : Program) (frames : List Frame) (new old : Home) → low_home program (home_after frames new old) ≡ home_after frames (low_home program new) (low_home program old)
 low_after program [] new old = refl
 low_after program (f ∷ fs) new old = refl

@@ -1,4 +1,4 @@
--- What a run that ends in a chain has taken.
+-- The units that a run takes if it ends in a chain.
 use Rattle.std.proofs.Common.{◌≡◌, ℕ, ◌≤◌, List, [], ◌∷◌, Some, Result, Ok, Err, sym, subst, arith}
 use Rattle.basic_values.specs.declared.failures.Stop.{Stop}
 use Rattle.basic_values.specs.declared.failures.Stop.TheVariants as stop
@@ -57,7 +57,7 @@ error_spends fault j k c d why is = reason_spends ℕ c d why k (subst SpendsFir
     by_frames [] = let p = raised fault j.line j.home.start j.trap in by_handler p.0 p.1
     by_frames (frame ∷ frames) = tt
 
--- a closing that broke
+-- closing channels that broke
 pub stop_spends : (c d : Clock) (e : Stop) → SpendsAtChain c d (Err (exit_at e))
 stop_spends c d (stop.Fault fault) = tt
 stop_spends c d (stop.Halt halt) = tt
@@ -65,7 +65,7 @@ stop_spends c d stop.Expired = tt
 stop_spends c d stop.NoMemory = tt
 
 module _ {P W : Type 0} {who : P → W} {log : P → List Event} {old new : P} {c d : Clock} where
-  -- a run from where a statement starts
+  -- a run from the start of a statement
   pub run_spends : (code : walk.Code) (place : ℕ) (before after : Job Spot) (result : Result (Unit {0}) (Trouble Exit)) (program : Program) (m : ℕ) → code ≡ coded program → place ≡ statement_place program m → RunsCode who log old new c d code place before after result → SpendsAtChain c d result
   run_spends code place before after (Ok done) program m stands starts f = tt
   run_spends code place before after (Err trouble.NoMemory) program m stands starts f = tt

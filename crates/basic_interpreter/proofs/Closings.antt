@@ -1,4 +1,4 @@
--- What came to its end leaves no channel open.
+-- A program that reaches its end leaves no channel open.
 use Rattle.std.proofs.Common.{◌≡◌, ℕ, ◌≤◌, true, false, List, ◌++◌, refl, sym, ap, subst, ◌∙◌, append_assoc}
 use Rattle.std.specs.Prelude.{Option, Some, None, Result, Ok, Err}
 use Rattle.std.specs.Option.{option_map}
@@ -27,7 +27,7 @@ use Rattle.basic_eval.specs.Keeping.{exit_at}
 use Rattle.basic_interpreter.specs.Meaning.{Came, went, left_a_body, no_memory, Means}
 use Rattle.basic_interpreter.specs.Stopping.{is_ended}
 
--- PATHS
+-- EXECUTIONS
 
 module _ {R A : Type 0} where
   path_closed : (c d : Clock) (m m' : Deed R A) (ps : List Event) → Path c m ps d m' → Path c (ends_closed m) ps d (ends_closed m')
@@ -48,11 +48,11 @@ module _ {R A : Type 0} where
 
 -- ENDS
 
--- what is done at an end: all channels are closed, and then it is the end
+-- what is done at an end: all channels are closed, and then the program ends
 abbrev closing : Unit {0} → Job Position → Doing Coming
 closing done j = Breaks (Left Ended) j
 
--- the answer behind it
+-- the answer after it
 abbrev pub closed_as : Result (Unit {0}) Stop → Result (Unit {0}) (Trouble Exit)
 closed_as (Ok done) = Err (trouble.Refused exit.Ended)
 closed_as (Err e) = Err (exit_at e)
@@ -86,7 +86,7 @@ ended_so (Err (trouble.Refused (exit.StoppedInside home))) e = cc
 ended_so (Err (trouble.Refused exit.Chained)) e = cc
 
 module _ (program : Program) where
-  -- the meaning has come to its end where the code has
+  -- if the code reached its end, so did the program
   ended_by : (why : Break (Leaving Position)) → breaks_ended (break_over (low_leaving program) why) → why ≡ Left Ended
   ended_by (Faulted fault) h = absurd h
   ended_by (Halted halt) h = absurd h

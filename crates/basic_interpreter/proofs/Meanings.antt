@@ -1,4 +1,4 @@
--- What a run means, in front of which something was done, or behind which something is put back.
+-- The semantics of a run, if something was done before it, or if something is put back after it.
 use Rattle.std.proofs.Common.{◌≡◌, ℕ, List, [], refl, sym, ap, subst, ◌∙◌, append-nil}
 use Rattle.std.specs.Prelude.{Option, Some, None, Result, Err}
 use Rattle.std.specs.Option.{option_map}
@@ -23,7 +23,7 @@ use Rattle.basic_eval.specs.Acting.{break_of}
 use Rattle.basic_interpreter.specs.Meaning.{Came, went, left_a_body, no_memory, Means}
 use Rattle.basic_interpreter.specs.Setting.{kept_of, with_kept}
 
--- a line's end is as the program's with what is put back
+-- a line's end, as an end of the program with what is put back
 same_break : {L : Type 0} (why : Break L) → break_over (λ way. way) why ≡ why
 same_break (Faulted fault) = refl
 same_break (Halted halt) = refl
@@ -58,7 +58,7 @@ module _ {P W : Type 0} {who : P → W} {log : P → List Event} {old new : P} {
     reaches = λ most enough. reaches_together j c d (meaning most) m.events m.left (m.reaches most enough);
   }
 
-  -- what was done in front asked nothing
+  -- what was done before it asked nothing
   pub means_behind : {A : Type 0} (low_way : Leaving Position → Leaving Spot) (low : Job Position → Job Spot) (front : Doing A) (next : ℕ → A → Job Position → Doing Coming) (value : A) (j : Job Position) (after : Job Spot) (result : Result (Unit {0}) (Trouble Exit))
       → front ≡ Gives value j
       → Means who log old new c d low_way low (λ most. next most value j) after result
@@ -91,10 +91,10 @@ module _ {P W : Type 0} {who : P → W} {log : P → List Event} {old new : P} {
   goes_on_inside program j home after result (Stopped q) is run = absurd (cc)
   goes_on_inside program j home after result (StoppedInside h) is run = run h (cc)
 
--- WHERE NOTHING RAN
+-- IF NOTHING RAN
 
 module _ {P W : Type 0} {who : P → W} {log : P → List Event} {p : P} {c : Clock} where
-  -- what was done in front broke
+  -- what was done before it broke
   pub means_broken : {A : Type 0} (low_way : Leaving Position → Leaving Spot) (low : Job Position → Job Spot) (front : Doing A) (next : ℕ → A → Job Position → Doing Coming) (why : Break (Leaving Position)) (j : Job Position) (exit : Exit) (after : Job Spot)
       → front ≡ Breaks why j → break_over low_way why ≡ break_of exit → low j ≡ after
       → Means who log p p c c low_way low (λ most. front then next most) after (Err (trouble.Refused exit))

@@ -1,4 +1,4 @@
--- An error of the statement that ran last: where the code leads it, and where the meaning does.
+-- An error of the statement that ran last: the code and the program lead it to the same place.
 use Rattle.std.proofs.Common.{◌≡◌, ℕ, List, [], ◌∷◌, Option, Some, None, Result, Ok, Err, refl, sym, ap, ◌∙◌}
 use Rattle.basic_values.specs.declared.failures.Trouble.{Trouble}
 use Rattle.basic_values.specs.declared.failures.Trouble.TheVariants as trouble
@@ -23,7 +23,7 @@ use Rattle.basic_interpreter.proofs.Dims.{low_end, gave, broke}
 use Rattle.basic_interpreter.proofs.Meanings.{means_behind, means_broken}
 
 module _ (program : Program) (fault : ℕ) (j : Job Position) (before : Job Spot) (same : lowered program j ≡ before) where
-  -- to which line it leads
+  -- the line that it leads to
   abbrev error : Doing ℕ
   error = trapped (λ line. line) (Breaks (Faulted fault) j)
 

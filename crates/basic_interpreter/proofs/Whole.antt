@@ -1,4 +1,4 @@
--- RUN: what becomes of it behind its DIMs.
+-- RUN: what it leads to after its DIMs.
 use Rattle.std.proofs.Common.{◌≡◌, sym, ◌∙◌}
 use Rattle.std.specs.Prelude.{ℕ, Option, Result, Err}
 use Rattle.basic_values.specs.declared.failures.Trouble.{Trouble}

@@ -1,4 +1,5 @@
--- What is set where a line of immediate mode begins, and what is put aside and back. Of this no promise speaks.
+-- What is set at the beginning of a line of immediate mode, and what is put aside and back. No
+-- contract of a public call mentions it.
 use Rattle.std.specs.Prelude.{ℕ, List, [], replicate, None, pos, ℤ}
 use Rattle.error_trap.specs.declared.trap.Trap.{Trap}
 use Rattle.program_model.specs.declared.homes.Home.{Home}
@@ -7,11 +8,11 @@ use Rattle.program_model.specs.Job.{Job}
 use Rattle.program_model.specs.Running.{no_home}
 use Rattle.polish_code.specs.Walk.{Spot}
 
--- limit 0 and step 1 for each of so many FORs
+-- limit 0 and step 1 for each of this many FORs
 abbrev pub fresh_limits : ℕ → List (ℤ × ℤ)
 fresh_limits loops = replicate loops (pos 0, pos 1)
 
--- a line of so many FORs begins
+-- a line with this many FORs begins
 abbrev pub set_apart : ℕ → Job Spot → Job Spot
 set_apart loops j = record j {
   limits = fresh_limits loops;

@@ -1,4 +1,4 @@
--- That a run which ends in a chain has taken a unit, whatever the state is in which it began.
+-- A run that ends in a chain has taken a unit, whatever the state in which it began.
 use Rattle.std.specs.Prelude.{ℕ, suc, ◌+◌, ◌-◌, ◌*◌, ◌<◌, Result, Err}
 use Rattle.basic_values.specs.declared.failures.Trouble.{Trouble}
 use Rattle.basic_values.specs.declared.failures.Trouble.TheVariants as trouble
@@ -10,7 +10,7 @@ use Rattle.basic_eval.specs.declared.exits.Exit.TheVariants as exit
 abbrev pub units_left : Clock → ℕ
 units_left c = suc asking_unit * (last_tick - c.ticks) + (asking_unit - c.units)
 
--- where a program was left for another, fewer are left than before
+-- if a program was left for another, fewer are left than before
 abbrev pub SpendsAtChain : Clock → Clock → Result (Unit {0}) (Trouble Exit) → Type 0
 SpendsAtChain c d (Err (trouble.Refused exit.Chained)) = units_left d < units_left c
 SpendsAtChain c d other = Unit {0}

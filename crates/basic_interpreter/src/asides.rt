@@ -1,4 +1,4 @@
-//! What of a job is put aside while a line of immediate mode runs.
+//! The part of a job that is put aside while a line of immediate mode runs.
 
 ghost use Rattle.std.specs.Prelude.{◌≡◌, IfOk, OnOk};
 ghost use Rattle.basic_eval.specs.Acting.{seen};
@@ -37,7 +37,7 @@ impl Model for Aside {
 }
 
 impl Aside {
-    /// A line of so many FORs begins: what it does not share with the program is put aside.
+    /// Begins a line with this many FORs: puts aside what it does not share with the program.
     pub(crate) fn set_apart(state: &mut Running, loops: usize) -> Result<Aside, NoMemory>
         ensures kept { IfOk result (λ aside. aside ≡ kept_of (seen state.old)) }
         ensures state { OnOk result (seen state.new ≡ set_apart loops (seen state.old)) }
@@ -57,7 +57,7 @@ impl Aside {
         Ok(aside)
     }
 
-    /// The line has ended: what was put aside is as it was.
+    /// Ends the line: puts back what was put aside.
     pub(crate) fn put_back(self, state: &mut Running)
         ensures { seen state.new ≡ with_kept self (seen state.old) }
     {

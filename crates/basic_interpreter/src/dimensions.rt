@@ -12,7 +12,7 @@ use basic_eval::{Exit, Running};
 use basic_tree::{Program, Shape, Statement};
 use basic_values::Trouble;
 
-/// Makes the arrays of all DIMs in the order of the text, each in its line.
+/// Makes the arrays of all DIMs in the order of the program, each in its line.
 pub(crate) fn dimension_program(lines: &Program, state: &mut Running) -> Result<(), Trouble<Exit>>
     ensures { Acts
         (dimension_program (program_of lines.now.lines.entries) (seen state.old))
@@ -41,7 +41,7 @@ fn dimension_line(statements: &[Statement], state: &mut Running) -> Result<(), T
     Ok(())
 }
 
-/// The arrays of a DIM; none of another statement.
+/// Returns the arrays of a DIM; none for another statement.
 fn shapes_in(statement: &Statement) -> &[Shape]
     ensures { result.now ≡ shapes_in (statement_of statement.entry.now) }
 {
@@ -62,7 +62,7 @@ fn dimension_all(shapes: &[Shape], state: &mut Running) -> Result<(), Trouble<Ex
     Ok(())
 }
 
-/// Makes an array of zeros, or of empty texts.
+/// Makes an array of zeros, or of empty strings.
 fn dimension(shape: Shape, state: &mut Running) -> Result<(), Trouble<Exit>>
     ensures { Acts (dimensioned shape (seen state.old)) (seen state.new) result }
 {

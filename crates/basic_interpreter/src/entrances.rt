@@ -1,4 +1,4 @@
-//! RUN, CHAIN, CONT and immediate mode: each call is one run of code, behind what is set for it.
+//! RUN, CHAIN, CONT and immediate mode: each call is one run of code, after what is set for it.
 
 ghost use Rattle.std.specs.Prelude.{◌≡◌, ℕ, List, OnErr, OnOk};
 ghost use Rattle.basic_eval.specs.Acting.{seen};
@@ -33,8 +33,8 @@ use error_trap::Trap;
 use monitor_calls::Port;
 use polish_code::Code;
 
-/// What a program finds that begins: no variables, no trap, no return places, no limits of its so
-/// many FORs yet, and the first DATA item. Where memory runs out the state is as it was.
+/// Sets the state in which a program begins: no variables, no trap, no return places, fresh limits
+/// for its FORs, and the first DATA item. If memory runs out, the state stays as it was.
 pub fn clear(state: &mut Running, loops: usize) -> Result<(), NoMemory>
     ensures ok { (program : model.Program) → loops ≡ loops_of program
         → OnOk result (seen state.new ≡ cleared program (seen state.old)) }
@@ -51,8 +51,8 @@ pub fn clear(state: &mut Running, loops: usize) -> Result<(), NoMemory>
     Ok(())
 }
 
-/// Makes the arrays of the program's DIMs, and runs it from the line that is wanted, or from its
-/// first statement. Behind its end no channel is open.
+/// Makes the arrays of the program's DIMs, and runs it from the given line, or from its first
+/// statement. If it reaches its end, all channels are closed.
 pub fn run_program<P: Port>(
     lines: &Program,
     code: &Code,
@@ -74,7 +74,7 @@ pub fn run_program<P: Port>(
     close_at_end(end, state, port)
 }
 
-/// The same, without what is done behind its end.
+/// Does the same without closing channels.
 fn run_open<P: Port>(
     lines: &Program,
     code: &Code,
@@ -98,7 +98,7 @@ fn run_open<P: Port>(
     }
 }
 
-/// Where a program begins in its code.
+/// Returns the place in the code at which a program begins.
 fn begin_place(code: &Code, line: Option<u16>) -> usize
     ensures { (program : model.Program) → code_kept code.now ≡ coded program
         → result ≡ statement_place program (begins_with program line) }
@@ -109,9 +109,9 @@ fn begin_place(code: &Code, line: Option<u16>) -> usize
     }
 }
 
-/// The program that ran last goes on with an error of the statement that ran last: at the line of
-/// its handler, where it has one, and else it has gone no further for it. Behind its end no channel
-/// is open.
+/// Continues the program that ran last with an error of its last statement: at the line of its
+/// handler, if it has one. If it has none, the error is why the program stopped. If it reaches its
+/// end, all channels are closed.
 pub fn raise<P: Port>(
     code: &Code,
     fault: Fault,
@@ -131,7 +131,7 @@ pub fn raise<P: Port>(
     close_at_end(end, state, port)
 }
 
-/// The same, without what is done behind its end.
+/// Does the same without closing channels.
 fn raise_open<P: Port>(
     code: &Code,
     fault: Fault,
@@ -153,7 +153,8 @@ fn raise_open<P: Port>(
     }
 }
 
-/// CONT: the program goes on where it stopped. Behind its end no channel is open.
+/// Continues the program after its STOP. The manual's CONT. If it reaches its end, all channels are
+/// closed.
 pub fn continue_program<P: Port>(
     code: &Code,
     stop: Stop,
@@ -172,7 +173,7 @@ pub fn continue_program<P: Port>(
     close_at_end(end, state, port)
 }
 
-/// The same, without what is done behind its end.
+/// Does the same without closing channels.
 fn continue_open<P: Port>(
     code: &Code,
     stop: Stop,
@@ -196,13 +197,13 @@ fn continue_open<P: Port>(
     }
 }
 
-/// What came to its end leaves no channel open; any other end stays.
+/// Closes all channels if a program reached its end; any other end stays.
 fn close_at_end<P: Port>(
     end: Result<(), Trouble<Exit>>,
     state: &mut Running,
     port: &mut P,
 ) -> Result<(), Trouble<Exit>>
-    // Whatever had this end, it is now what is closed at its end.
+    // Whatever had this end, it is now the same with closed channels at its end.
     ensures meaning { (start : P) (before behind : play.Clock) (program : model.Program)
         (meaning : ℕ → Doing Coming)
         → Means P.who P.log start port.old before behind
@@ -222,7 +223,7 @@ fn close_at_end<P: Port>(
     }
 }
 
-/// Whether a program came to its end.
+/// Returns whether a program reached its end.
 fn is_ended(end: &Result<(), Trouble<Exit>>) -> bool
     ensures { result ≡ is_ended end.now }
 {
@@ -232,7 +233,7 @@ fn is_ended(end: &Result<(), Trouble<Exit>>) -> bool
     }
 }
 
-/// Runs a line of immediate mode, which has so many FORs, beside the program that ran last.
+/// Runs a line of immediate mode, which has this many FORs, beside the program that ran last.
 pub fn run_line<P: Port>(
     code: &Code,
     loops: usize,

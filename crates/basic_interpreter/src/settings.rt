@@ -1,4 +1,4 @@
-//! What a program or a line finds that begins.
+//! The state in which a program or a line begins.
 
 ghost use Rattle.std.specs.Prelude.{◌≡◌, IfOk};
 ghost use Rattle.basic_interpreter.specs.Setting.{fresh_limits};
@@ -7,14 +7,14 @@ use basic_values::{Int, NoMemory};
 use program_model::Home;
 use std::alloc::Global;
 
-/// No statement of a line.
+/// The home before any statement of a line.
 pub(crate) const NO_HOME: Home = Home {
     start: 0,
     behind: 0,
     line: 0,
 };
 
-/// Limit 0 and step 1 for each of so many FORs.
+/// Returns limit 0 and step 1 for each of this many FORs.
 pub(crate) fn fresh_limits(alloc: Global, loops: usize) -> Result<Vec<(Int, Int)>, NoMemory>
     ensures { IfOk result (λ limits. limits.items ≡ fresh_limits loops) }
 {

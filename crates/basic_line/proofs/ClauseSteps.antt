@@ -38,7 +38,7 @@ use Rattle.basic_line.specs.declared.sentences.Class.TheVariants as class
 same_halt : {x y : Halt} → Some x ≡ Some y → x ≡ y
 same_halt e = cc
 
--- ---- keywords that open a level
+-- ---- keywords that open a nesting level
 
 too_deep : (key : Keyword) (f h : Form) (ws : List Word) (k : List Symbol) (vs : Values) → run 0 (Key key ∷ ws) (Go (IfKey true key f h) ∷ k) vs ≡ Err (TooDeep (Key key ∷ ws))
 unfolding run

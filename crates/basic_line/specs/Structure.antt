@@ -86,14 +86,14 @@ StatesSimple n ws from (Err e) = IsPlaced ws e × StopsAt n ws from OneStatement
 
 -- ---- choices
 
--- a keyword that opens a level is there
+-- a keyword that opens a nesting level is there
 abbrev pub OpensKey : List Word → ℕ → Keyword → Type 0
 OpensKey ws from key =
     (from < length ws)
     × ((n : ℕ) (f h : Form) → 0 < n → Leads n (n - 1) ws from (from + 1) (IfKey true key f h) f)
     × ((f h : Form) → Halts 0 ws from (IfKey true key f h) (failure.TooDeep from))
 
--- a line number is there; as a clause it ends the clause's level
+-- a line number is there; as a clause it ends the clause's nesting level
 abbrev pub IsLineNumber : List Word → ℕ → ℕ → Type 0
 IsLineNumber ws from line =
     (from < length ws)
@@ -108,7 +108,8 @@ abbrev pub line_in : Word → Option ℕ
 line_in (Number n) = cond (within LineNumber n) (Some n) None
 line_in other = None
 
--- the words up to the end lead from a form to a value, and out of the innermost of this many levels
+-- the words up to the end lead from a form to a value, and out of the innermost of this many
+-- nesting levels
 abbrev pub LeadsOut : ℕ → List Word → ℕ → ℕ → Form → Value → Type 0
 LeadsOut n ws from end f v = (k : List Symbol) (vs : Values) → run (n - 1) (drop from ws) (Go f ∷ k) vs ≡ run n (drop end ws) k (v ∷ vs)
 
@@ -130,7 +131,7 @@ abbrev pub StatesIf : ℕ → List Word → ℕ → Form → Result ReadStatemen
 StatesIf n ws from f (Ok x) = Behind ws from x.end × Makes n ws from x.end f (Stated (statement_of x.statement)) × (x.takes_else ≡ wants_else (statement_of x.statement))
 StatesIf n ws from f (Err e) = IsPlaced ws e × Halts n ws from f e
 
--- what follows THEN, whose level is the innermost of this many
+-- what follows THEN, whose nesting level is the innermost of this many
 abbrev pub StatesThen : ℕ → List Word → ℕ → Tree → Result ReadStatement Failure → Type 0
 StatesThen n ws from condition (Ok x) = Behind ws from x.end × LeadsOut n ws from x.end (then_form condition) (Stated (statement_of x.statement)) × (x.takes_else ≡ wants_else (statement_of x.statement))
 StatesThen n ws from condition (Err e) = IsPlaced ws e × Halts (n - 1) ws from (then_form condition) e
@@ -140,7 +141,7 @@ abbrev pub StatesElse : ℕ → List Word → ℕ → Bool → Result Otherwise 
 StatesElse n ws from taken (Ok x) = From ws from x.end × ((g : ElseTree → Form) → Leads n n ws from x.end (else_form taken g) (g (else_tree x.clause))) × (x.takes_else ≡ else_wants_else (else_tree x.clause))
 StatesElse n ws from taken (Err e) = IsPlaced ws e × ((g : ElseTree → Form) → Halts n ws from (else_form taken g) e)
 
--- a clause, with which the innermost of this many levels ends
+-- a clause, with which the innermost of this many nesting levels ends
 abbrev pub StatesClauseIn : ℕ → List Word → ℕ → Result ClauseRead Failure → Type 0
 StatesClauseIn n ws from (Ok x) = Behind ws from x.end × ((g : ClauseTree → Form) → Leads (n - 1) n ws from x.end (ClauseIn g) (g (clause_of x.clause))) × (x.takes_else ≡ clause_wants_else (clause_of x.clause))
 StatesClauseIn n ws from (Err e) = IsPlaced ws e × StopsClause (n - 1) ws from e

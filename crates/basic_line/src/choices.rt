@@ -167,7 +167,8 @@ pub(crate) fn if_at(
     }
 }
 
-/// Reads what follows THEN. The level that THEN opened counts among the `levels` that are left.
+/// Reads what follows THEN. The nesting level that THEN opened counts among the `levels` that are
+/// left.
 #[cycle(choices)]
 #[tactic(auto, using(crate::proofs::ClauseSteps::choices))]
 fn then_at(
@@ -254,8 +255,8 @@ fn else_at(
     })
 }
 
-/// Reads a clause: a line number, an IF, or a statement with its modifiers. The clause's own level
-/// ends with it, and counts among the `levels` that are left.
+/// Reads a clause: a line number, an IF, or a statement with its modifiers. The clause's own
+/// nesting level ends with it, and counts among the `levels` that are left.
 #[cycle(choices)]
 #[tactic(auto, using(crate::proofs::ClauseSteps::choices))]
 fn clause_at(

@@ -84,7 +84,7 @@ fn all_statements(alloc: Global, words: &Words<'_>) -> Result<Read<Vec<Statement
 /// separators there may be none.
 ///
 /// If the tokens spell no line, returns the leftmost of these: the first token that no line can
-/// have there, and the token that opens level 65 of nesting.
+/// have there, and the token that opens nesting level 65.
 #[tactic(auto, using(crate::proofs::ParsedLines::lines))]
 pub fn parse_line(alloc: Global, tokens: &Tokens<'_>) -> Result<Line, Trouble<Refusal>>
     ensures exact { Parses tokens.now result }

@@ -15,8 +15,8 @@ named letter = record { letter = letter; digit = None; text = false }
 abbrev table_of : ℕ → Option ℕ → List ℕ → Table
 table_of first second cells = record { first = first; second = second; cells = map (λ n. Number (pos n)) cells }
 
--- A% is 1 2 / 3 4, B% is of the same bounds, C% has two matrix_rows of three, D% two elements of one subscript, E% two rows without
--- columns, and F% two columns without rows
+-- A% is 1 2 / 3 4, and B% is of the same bounds. C% has two rows of three, and D% two elements of
+-- one subscript. E% has two rows without columns, and F% two columns without rows.
 abbrev some : Memory
 some = record {
   variables = [];

@@ -27,7 +27,7 @@ abbrev pub TouchesBy
 TouchesBy (Some shape) name old new result = (new ≡ old) × (result ≡ Ok tt)
 TouchesBy None name old new result = Changes old new (made (implied_matrix name) old) result
 
--- An array that exists stays. Any other is made, exactly if there is room.
+-- An array that exists stays. Any other is made, exactly if the total size is allowed.
 abbrev pub Touches : Name → Memory → Memory → Result Unit (Trouble Halt) → Type 0
 Touches name old new result = TouchesBy (bounds name old) name old new result
 
@@ -51,7 +51,7 @@ assigned target value m =
     then Ok (with_value target value m)
     else Err SUBSCRIPT_OUT_OF_RANGE
 
--- the result: what is wanted; or the error, or memory ran out, and nothing changed
+-- the result: the memory with the value; or the error, or memory ran out, and nothing changed
 abbrev pub StoresValue : Memory → Memory → Result Memory ℕ → Result Unit Stop → Type 0
 StoresValue old new (Err fault) result = (new ≡ old) × (result ≡ Err (stop.Fault fault))
 StoresValue old new (Ok wanted) (Ok done) = new ≡ wanted

@@ -14,8 +14,8 @@ use basic_values::errors::SUBSCRIPT_OUT_OF_RANGE;
 use basic_values::{Fault, Halt, Int, NoMemory, Stop, Trouble};
 use job_memory::{IMPLIED_BOUND, Memory};
 
-/// Makes the array, with two subscripts up to 10, if it does not exist. The only halt is that there
-/// is no room.
+/// Makes the array, with two subscripts up to 10, if it does not exist. The only halt is that the
+/// memory is full.
 pub fn touch(memory: &mut Memory, name: Name) -> Result<(), Trouble<Halt>>
     ensures { Touches name memory.old memory.new result }
 {

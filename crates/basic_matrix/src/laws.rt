@@ -2,13 +2,13 @@
 
 ghost use Rattle.basic_matrix.specs.Laws.{EntriesAreElements, AssignmentChangesTheTarget};
 
-/// The elements of a matrix are those that a program reads by their subscripts.
+/// States that the elements of a matrix are those that a program reads by their subscripts.
 pub fn entries_are_elements()
     ensures { EntriesAreElements }
 {}
 
-/// After an assignment the target has the value. Every element with a subscript 0, every other
-/// array and every variable is as before.
+/// States that after an assignment the target has the value. Every element with a subscript 0,
+/// every other array and every variable is as before.
 pub fn assignment_changes_the_target()
     ensures { AssignmentChangesTheTarget }
 {}

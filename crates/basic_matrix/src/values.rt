@@ -10,7 +10,7 @@ pub enum MatValue {
     Zero,
     /// CON: 1 everywhere.
     One,
-    /// IDN: 1 where both subscripts are equal, else 0.
+    /// IDN: 1 if both subscripts are equal, else 0.
     Identity,
     Copy(Name),
     Sum(Name, Name),

@@ -17,7 +17,7 @@ capped_step i v d ds all lt so_far digit =
     let range = digit_at ds i all lt in
     omega (arith, digits_value_more 10 ds i lt, digit_value_digit (get_or ds i 0) range, so_far, digit)
 
--- the digits that a text begins with are digits
+-- the leading digits are digits
 pub front_digits : (text : List ℕ) → AllDigits 10 (take (prefix_len is_ascii_digit text) text)
 front_digits [] = tt
 front_digits (c ∷ cs) =

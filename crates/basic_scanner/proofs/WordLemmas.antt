@@ -1,4 +1,4 @@
--- Words at the front of the rest of a line.
+-- Words that the rest of a line begins with.
 use Rattle.std.proofs.Common.{◌≡◌, ℕ, suc, ◌+◌, ◌<◌, ◌≤◌, Bool, true, false, List, [], ◌∷◌, length, drop, get_or, refl, sym, ap, ◌∙◌, arith, add-one, drop-cons, take}
 use Rattle.std.specs.Prelude.{◌==◌, ◌&&◌, max, if◌then◌else◌, find, Option, Some, None}
 use Rattle.std.specs.Option.{option_map}
@@ -38,7 +38,7 @@ longest_by {W} table rest i longest entry lt at so_far =
     ∙ ap (λ (e : W × Bor (List ℕ)). if is_at_front e.1.now rest then max (longest_length (entries (take i table)) rest) (length e.1.now) else longest_length (entries (take i table)) rest) (sym at)
     ∙ ap (λ n. if is_at_front entry.1.now rest then max n (length entry.1.now) else n) (sym so_far)
 
--- a word at the front is no longer than the rest
+-- a word that the rest begins with is no longer than the rest
 pub stands_within : (word rest : List ℕ) → is_at_front word rest ≡ true → length word ≤ length rest
 stands_within [] rest e = omega arith
 stands_within (letter ∷ word) [] e = absurd (cc)

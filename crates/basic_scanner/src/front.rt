@@ -113,7 +113,7 @@ fn is_floating(behind: &[u8]) -> bool
     next == b'.' || (next.to_ascii_uppercase() == b'E' && has_exponent(behind))
 }
 
-/// Returns the number of digits at the front.
+/// Returns the number of leading digits.
 fn digits_length(rest: &[u8]) -> usize
     ensures value { result ≡ prefix_len is_ascii_digit rest.now }
     ensures within { result ≤ length rest.now }
@@ -134,7 +134,7 @@ fn capped_value(digits: &[u8]) -> u32
     value
 }
 
-/// Returns the value of the digits at the front, or 32768 for any above 32767.
+/// Returns the value of the leading digits, or 32768 for any above 32767.
 pub fn literal_value(bytes: &[u8]) -> u16
     ensures { result ≡ value_in_front bytes.now }
 {

@@ -148,7 +148,7 @@ pub fn is_word(word: &[u8], bytes: &[u8]) -> bool
     bytes.len() == word.len() && is_at_front(word, bytes)
 }
 
-/// Returns the length so far or that of the word, whichever is greater, if the rest begins with the
+/// Returns the length so far or that of the word, whichever is larger, if the rest begins with the
 /// word.
 #[tactic(auto, using(crate::proofs::WordLemmas::stands_within))]
 fn longer(longest: usize, word: &[u8], rest: &[u8]) -> usize

@@ -68,7 +68,7 @@ ends_at : (text : List ℕ) (n : ℕ) → n ≤ length text → ((k : ℕ) → n
 ends_at text n within behind stop =
     ap (λ k. take k text) (omega (arith, suffix_len_is is_blank text n 0 within behind stop))
 
--- a text that is not empty and neither begins nor ends with a blank
+-- a string that is not empty and neither begins nor ends with a blank
 record IsPlain (text : List ℕ) : Type 0 where
   some : 0 < length text
   first : NoBlankAt text 0
@@ -80,13 +80,13 @@ without_blanks-plain text plain =
     ∙ ends_at text (length text) (omega arith) (λ k low high. absurd (omega (arith, low, high))) (λ _. plain.last)
     ∙ take_all (length text) text (omega arith)
 
--- the one byte after a text, by its place
+-- the one byte after a string, by its place
 behind_is : (text : List ℕ) (k : ℕ) → length text ≤ k → k < length (text ++ 32 ∷ []) → is_blank (get_or (text ++ 32 ∷ []) k 0) ≡ true
 behind_is text k low high =
     let there : k ≡ length text = omega (arith, low, high, length-append text (32 ∷ [])) in
     ap (λ i. is_blank (get_or (text ++ 32 ∷ []) i 0)) there ∙ ap is_blank (get_or-append_seam text 32 [] 0)
 
--- one blank after the text is dropped
+-- one blank after the string is dropped
 without_blanks-behind : (text : List ℕ) → IsPlain text → without_blanks (text ++ 32 ∷ []) ≡ text
 without_blanks-behind text plain =
     let before : (k : ℕ) → k < length text → get_or (text ++ 32 ∷ []) k 0 ≡ get_or text k 0 = λ k lt. get_or_append_left text (32 ∷ []) 0 k lt in
@@ -166,7 +166,7 @@ pub reading_gives_back : (z : ℤ) → IsInRange z → value_read (signed_decima
 reading_gives_back z within =
     read_back (signed_decimal z) z within (without_blanks-plain (signed_decimal z) (signed_plain z within))
 
--- one blank before the text is dropped
+-- one blank before the string is dropped
 without_blanks-before : (text : List ℕ) → without_blanks (32 ∷ text) ≡ without_blanks text
 without_blanks-before text =
     let more : 1 + prefix_len is_blank text ≡ suc (prefix_len is_blank text) = omega arith in

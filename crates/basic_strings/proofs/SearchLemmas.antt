@@ -9,7 +9,7 @@ use Rattle.memchr.proofs.lemmas.MatchLemmas.{OccursAt-part, OccursAt-from_part}
 use Rattle.basic_strings.specs.Places.{stands_at, place_of}
 use Rattle.basic_strings.proofs.PlaceLemmas.{NothingBefore, place_here, place_after, no_place, find-behind}
 
--- the bytes of the text at a place, from the start on
+-- the bytes of the string at a place, from the start on
 bytes_at : (text sought : List ℕ) (start before : ℕ) → take (length sought) (drop (start + before + 1 - 1) text) ≡ take (length sought) (drop before (drop start text))
 bytes_at text sought start before =
     let same : start + before + 1 - 1 ≡ start + before = omega arith in
@@ -57,7 +57,7 @@ no_place_found from text sought start within tried nowhere =
     no_place from text sought past (all_tried from text sought start within tried (length (drop start text) + 1) (omega arith) nowhere)
     (find-behind (stands_at text sought) (past + 1) text (omega (arith, within, length-drop start text)))
 
--- an empty string is found at once; any other before the text's last byte is passed
+-- an empty string is found at once; any other before the string's last byte is passed
 pub found_early : (text sought : List ℕ) (start before : ℕ) → start ≤ 32766 → length text ≤ 32767 → start ≤ length text → Nowhere (OccursAt (drop start text) sought) 0 before → OccursAt (drop start text) sought before → start + before ≤ 32766
 found_early text [] start zero small short within nowhere occurs = omega (arith, small)
 found_early text [] start (suc before) small short within nowhere occurs =

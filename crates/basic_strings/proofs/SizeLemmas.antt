@@ -14,7 +14,7 @@ use Rattle.basic_strings.specs.Readings.{judged, size_spelled, with_sign}
 numeral : IsNumeralModel (λ ds. all_ascii_digits ds ≡ true) (digits_value 10)
 numeral = numerals_by_value _ tells_all_ascii_digits
 
--- a text with a byte that is no digit spells none
+-- a string with a byte that is no digit spells none
 pub no_size : (text : List ℕ) (i : ℕ) → i < length text → (IsInRange 48 57 (get_or text i 0) → ⊥) → size_spelled text ≡ None
 no_size [] i within other = refl
 no_size (x ∷ xs) i within other =

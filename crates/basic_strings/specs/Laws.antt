@@ -25,7 +25,7 @@ abbrev pub CutsLoseNothing : Type 0
 CutsLoseNothing = (text : List ℕ) (place : ℤ) →
     left_of text place ++ right_of text (place +ℤ pos 1) ≡ text
 
--- the sought string is at this place of the text
+-- the sought string is at this place of the other
 pub record StandsAt (text sought : List ℕ) (place : ℕ) : Type 0 where
   pub front : List ℕ
   pub back : List ℕ

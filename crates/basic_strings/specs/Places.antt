@@ -3,11 +3,11 @@ use Rattle.std.specs.Prelude.{ℕ, ◌+◌, ◌-◌, Bool, List, length, take, d
 use Rattle.std.specs.List.{find, range_with_len}
 use Rattle.basic_strings.specs.Cuts.{place_given}
 
--- whether the sought string is at this place of the text
+-- whether the sought string is at this place of the other
 abbrev pub stands_at : List ℕ → List ℕ → ℕ → Bool
 stands_at text sought place = bytes_eq sought (take (length sought) (drop (place - 1) text))
 
--- the places from this one to the one after the text's last byte
+-- the places from this one to the one after the string's last byte
 abbrev pub places_from : ℕ → List ℕ → List ℕ
 places_from place text = range_with_len place (length text + 2 - place)
 

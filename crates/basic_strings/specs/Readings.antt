@@ -5,11 +5,11 @@ use Rattle.std.specs.Str.Parse.{digits_value}
 use Rattle.basic_values.specs.declared.errors.TheConstants.{DATA_FORMAT_ERROR, ILLEGAL_NUMBER, INTEGER_ERROR}
 use Rattle.basic_values.specs.Blanks.{without_front_blanks, without_end_blanks}
 
--- the text without the blanks around it
+-- the string without the blanks around it
 abbrev pub without_blanks : List ℕ → List ℕ
 without_blanks text = without_end_blanks (without_front_blanks text)
 
--- the text without one percent sign at its end
+-- the string without one percent sign at its end
 abbrev pub without_percent : List ℕ → List ℕ
 without_percent text =
     if slice_index text (length text - 1) == 37 then take (length text - 1) text else text

@@ -31,14 +31,14 @@ pub fn item_number(bytes: &[u8]) -> Result<Int, Fault>
     }
 }
 
-/// Returns the text without the blanks around it.
+/// Returns the string without the blanks around it.
 fn trimmed(bytes: &[u8]) -> &[u8]
     ensures { result.now ≡ without_blanks bytes.now }
 {
     without_end_blanks(without_front_blanks(bytes))
 }
 
-/// Returns whether the text begins with a minus, and what follows its sign.
+/// Returns whether the string begins with a minus, and what follows its sign.
 fn signed(text: &[u8]) -> (bool, &[u8])
     ensures { option_map (with_sign result.0) (size_spelled result.1.now) ≡
         number_spelled text.entry.now }
@@ -76,8 +76,8 @@ fn in_range(is_negative: bool, size: Option<u32>, no_number: Fault) -> Result<In
     }
 }
 
-/// Returns the number that one or more digits spell, if the text is such digits. One that is too
-/// large for either sign counts as the least of those.
+/// Returns the number that one or more digits spell, if the string is such digits. A number that is
+/// too large for either sign counts as 32,769, the least of those.
 fn size(text: &[u8]) -> Option<u32>
     ensures { result ≡ option_map (min 32769) (size_spelled text.now) }
 {

@@ -7,7 +7,7 @@ ghost use Rattle.basic_strings.specs.Translations.{translated};
 use basic_values::{Halt, NoMemory, Text, Trouble};
 use std::alloc::Global;
 
-/// Returns, for each byte n of `a`, byte n of `b`, counted from 0; nothing if that is missing or 0.
+/// Returns byte n of `b`, counted from 0, for each byte n of `a`; nothing if that is missing or 0.
 /// The manual's XLATE.
 pub fn xlate(alloc: Global, a: &[u8], b: &[u8]) -> Result<Text, Trouble<Halt>>
     ensures { MakesText (translated b.now a.now) result }
@@ -23,7 +23,7 @@ fn byte_behind(table: &[u8], count: u8) -> u8
     table.get(usize::from(count)).copied().unwrap_or(0)
 }
 
-/// Returns the bytes that are found for those of the text.
+/// Returns the bytes that are found for those of the string.
 fn translation(alloc: Global, text: &[u8], table: &[u8]) -> Result<Vec<u8>, NoMemory>
     ensures { IfOk result (λ bytes. bytes.items ≡ translated table.now text.now) }
 {

@@ -42,7 +42,7 @@ chosen_length : (b : Bool) (m n : ℕ) (rest : List ℕ) → (b ≡ true → Wit
 chosen_length true m n rest first second = first refl
 chosen_length false m n rest first second = second refl
 
--- a word at the front is no longer than the rest
+-- a word that the rest begins with is no longer than the rest
 pub stands_within : (word rest : List ℕ) → is_at_front word rest ≡ true → length word ≤ length rest
 stands_within [] rest e = omega arith
 stands_within (letter ∷ word) [] e = absurd (cc)
@@ -149,7 +149,7 @@ front_fits rest nonempty =
     (λ _. sign_fits rest))))) in
     here.fits
 
--- the greatest length so far does not fall
+-- the largest length so far does not fall
 pub at_least : (least : ℕ) (b : Bool) (x y : ℕ) → (b ≡ true → least ≤ x) → (b ≡ false → least ≤ y) → least ≤ (if b then x else y)
 at_least least true x y first second = first refl
 at_least least false x y first second = second refl
@@ -171,6 +171,6 @@ most_from (entry ∷ table) word rest n zero inside at e =
     omega (arith, longest_grows table rest m)
 most_from (entry ∷ table) word rest n (suc k) inside at e = most_from table word rest _ k (omega arith) at e
 
--- no word of a table at the front is longer than the longest
+-- no word of a table that the rest begins with is longer than the longest
 pub longest_is_most : {W : Type 0} (table : List (W × List ℕ)) (word rest : List ℕ) → Contains (map (λ entry. entry.1) table) word → is_at_front word rest ≡ true → length word ≤ longest_length table rest
 longest_is_most table word rest inside e = most_from table word rest 0 inside.0 inside.1 inside.2 e

@@ -34,7 +34,7 @@ pub denied : (a : Bool) → not a ≡ true → a ≡ false
 denied true e = absurd (cc)
 denied false e = refl
 
--- the byte is in no word, so whether a word is at the front is decided before the byte
+-- the byte is in no word, so whether the bytes begin with a word is decided before the byte
 stands_same : (g : ℕ) (word x y : List ℕ) → lacks g word ≡ true → (is_at_front word (x ++ y) ≡ true → length word ≤ length x) → is_at_front word (x ++ g ∷ y) ≡ is_at_front word (x ++ y)
 stands_same g [] x y free fits = refl
 stands_same g (letter ∷ word) [] y free fits =

@@ -1,4 +1,4 @@
--- The longest keyword at the front is taken.
+-- The longest keyword that the rest begins with is taken.
 use Rattle.std.proofs.Common.{◌≡◌, ℕ, zero, suc, ◌<◌, Bool, true, false, List, [], ◌∷◌, length, take, refl, sym, ap, ◌∙◌, subst, arith, ltb-true, ltb-false, lt-ltb, inl, inr}
 use Rattle.std.specs.Prelude.{Contains, slice_index_or, ◌==◌, ◌&&◌, ◌||◌, ◌⊎◌, nat_lt, max, if◌then◌else◌, cond, slice_index, fold, find, Option, Some}
 use Rattle.std.specs.Char.{is_ascii_alphabetic, to_ascii_uppercase}
@@ -22,7 +22,7 @@ and_left false b e = absurd cc
 both : (a b : Bool) → a ≡ true → b ≡ true → (a && b) ≡ true
 both a b x y = rw (x, y) refl
 
--- ---- a word of this length is at the front
+-- ---- the rest begins with a word of this length
 
 record Attained {W : Type 0} (table : List (W × List ℕ)) (rest : List ℕ) (len : ℕ) : Type 0 where
   pub place : ℕ
@@ -84,7 +84,7 @@ found : {W : Type 0} (table : List (W × List ℕ)) (bytes : List ℕ) (place : 
 found [] bytes place entry inside at h = absurd (omega arith)
 found (e ∷ table) bytes place entry inside at h = found_more e table bytes entry place inside at h (λ p i a. found table bytes p entry i a h)
 
--- a word is at the front of the rest exactly if it is at the front of the bytes that it takes
+-- the rest begins with a word exactly if the bytes that it takes do
 stands_taken : (word rest : List ℕ) → is_at_front word rest ≡ true → is_at_front word (take (length word) rest) ≡ true
 stands_taken [] rest e = refl
 stands_taken (letter ∷ word) [] e = absurd cc

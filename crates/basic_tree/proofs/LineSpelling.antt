@@ -44,7 +44,7 @@ digit_byte c low high = record {
   digit = rw (le-leb 48 c low, le-leb c 57 high) refl;
 }
 
--- all digits are counted at the front
+-- all leading digits are counted
 run_length : (ds rest : List ℕ) → AllDigits 10 ds → prefix_len is_ascii_digit (ds ++ 32 ∷ rest) ≡ length ds
 run_length [] rest h = refl
 run_length (c ∷ ds) rest h =

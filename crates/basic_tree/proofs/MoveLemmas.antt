@@ -49,7 +49,7 @@ pub front_blank : (blank : ℕ) (line : List ℕ) → is_blank blank ≡ true �
 unfolding front_of
 front_blank blank line e = rw e refl
 
--- a blank in front of a line
+-- a blank before a line
 pub blank_moves : (line : List ℕ) (blank place : ℕ) → is_blank blank ≡ true → tokens_from place 0 (blank ∷ line) ≡ moved_reading 1 (tokens_from place 0 line)
 unfolding tokens_from
 blank_moves line blank place e =

@@ -24,7 +24,7 @@ capital_alphabetic l low high = rw (le-leb 65 l low, le-leb l 90 high) refl
 digit_below : (d : ℕ) → is_ascii_digit d ≡ true → d < 65
 digit_below d e = omega (arith, leb-true d 57 (and_right (nat_le 48 d) (nat_le d 57) e))
 
--- ---- no word of a table is at the front
+-- ---- the rest begins with no word of a table
 
 -- all words of the table pass the test
 abbrev every : {W : Type 0} → (List ℕ → Bool) → List (W × List ℕ) → Bool

@@ -93,11 +93,11 @@ sixty_four_parentheses = refl
 sixty_five_parentheses : too_deep (steps_of (in_parentheses 65 (Literal 1))) ≡ Some 64
 sixty_five_parentheses = refl
 
--- the word NOT after 64 parentheses opens the level
+-- the word NOT after 64 parentheses opens the nesting level
 not_in_parentheses : too_deep (steps_of (in_parentheses 64 (Not (Literal 1)))) ≡ Some 64
 not_in_parentheses = refl
 
--- LEN is in level 64, and its parenthesis opens the next
+-- LEN is in nesting level 64, and its parenthesis opens the next
 a_function_in_parentheses : too_deep (steps_of (in_parentheses 64 (FunctionOf function.Len (AndTrees (Quoted []) NoTrees)))) ≡ Some 65
 a_function_in_parentheses = refl
 

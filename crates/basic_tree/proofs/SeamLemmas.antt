@@ -21,7 +21,7 @@ use Rattle.basic_tree.proofs.SliceLemmas.{with_ok, tokens_cut}
 use Rattle.basic_tree.proofs.GapLemmas.{Gap, blank_is_gap, byte_same, front_same, letter_stays, sign_stays}
 use Rattle.basic_tree.proofs.GapNumberLemmas.{digit_stays, quote_stays}
 
--- ---- the front stays as it is
+-- ---- what the bytes begin with stays as it is
 
 module _ (g : ℕ) (x y : List ℕ) (k : TokenKind) (len : ℕ) (gap : Gap g) (some : 0 < len) (le : len ≤ length x) where
   abbrev old : List ℕ

@@ -15,7 +15,7 @@ cut_earlier : (line : List ℕ) (early late : ℕ) (ts : List Lexeme) → early 
 cut_earlier line early late [] le cut = tt
 cut_earlier line early late (t ∷ ts) le cut = (omega (arith, cut.0), cut.1, cut.2)
 
--- bytes at the front of the rest are a slice of the line
+-- bytes that the rest begins with are a slice of the line
 front_slice : (line rest : List ℕ) (place len : ℕ) (k : TokenKind) → rest ≡ drop place line → place ≤ length line → len ≤ length rest → IsSlice line (record { kind = k; start = place; bytes = take len rest })
 front_slice line rest place len k e inside le =
     let taken : length (take len rest) ≡ len = length-take-le len rest le in
@@ -25,7 +25,7 @@ front_slice line rest place len k e inside le =
       bytes = ap (λ r. take (length (take len rest)) r) (sym e) ∙ ap (λ n. take n rest) taken;
     }
 
--- what was read of an item, followed by the rest, are the bytes that the line has there
+-- what was read of an item, and then the rest, are the bytes that the line has there
 item_slice : (line item bytes : List ℕ) (start : ℕ) → item ++ bytes ≡ drop start line → start ≤ length line → IsSlice line (record { kind = kind.DataItem; start = start; bytes = item })
 item_slice line item bytes start e inside =
     let left : length (item ++ bytes) ≡ length line - start = ap length e ∙ length-drop start line in

@@ -1,4 +1,5 @@
--- Every keyword and every sign is spelled by the bytes beside it in its table, if a blank follows them.
+-- Every keyword and every sign is spelled by the bytes beside it in its table, if a blank follows
+-- them.
 use denote.Enum.Bare.{sameb}
 use Rattle.std.proofs.Common.{◌≡◌, ℕ, ◌<◌, Bool, List, [], ◌∷◌, ◌++◌, length, if◌then◌else◌, refl, arith}
 use Rattle.basic_tree.specs.declared.tokens.Keyword.{Keyword}

@@ -2,7 +2,7 @@
 use Rattle.std.specs.Prelude.{ℕ, ◌-◌, Bool, not, ◌==◌, if◌then◌else◌, List, [], ◌∷◌, length, take, filter, slice_index}
 use Rattle.std.specs.List.{concat, slice_split}
 
--- whether a byte of the pages is one of the text: zero bytes are not
+-- whether a byte of the pages counts: zero bytes do not
 abbrev pub is_written : ℕ → Bool
 is_written byte = not (byte == 0)
 

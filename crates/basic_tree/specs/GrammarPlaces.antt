@@ -31,7 +31,7 @@ IsFlatTo place steps = All (λ level. level ≤ most_levels) (take place (levels
 abbrev pub BeginsFlat : Whole → List Word → ℕ → Type 0
 BeginsFlat whole ws k = (rest : List Word) × (steps : List LevelStep) × whole (take k ws ++ rest) steps × IsFlatTo k steps
 
--- the greatest place such that some whole begins with the words up to it
+-- the largest place such that some whole begins with the words up to it
 pub record IsLimit (whole : Whole) (ws : List Word) (k : ℕ) : Type 0 where
   pub within : k ≤ length ws
   pub begins : Begins whole (take k ws)
@@ -44,7 +44,8 @@ pub record IsWrong (whole : Whole) (ws : List Word) (k : ℕ) (all : List Word) 
   pub flat : BeginsFlat whole ws k
   pub none : (steps : List LevelStep) → whole all steps → ⊥
 
--- some whole begins with the words up to this one, which is the first that opens a level too many
+-- some whole begins with the words up to this one, which is the first that opens a nesting level
+-- too many
 pub record IsDeep (whole : Whole) (ws : List Word) (k : ℕ) : Type 0 where
   pub within : k < length ws
   pub opens : (rest : List Word) × (steps : List LevelStep) × whole (take (k + 1) ws ++ rest) steps × (too_deep steps ≡ Some k)
@@ -72,7 +73,7 @@ pub record IsRead (w : Want) (ws : List Word) (from : ℕ) (t : Tree) (k : ℕ) 
 abbrev pub RefusesExpr : Want → List Word → ℕ → ℕ → Cause → Type 0
 RefusesExpr w ws from k why = (from ≤ k) × IsRefused (ExprWhole w) (drop from ws) (k - from) (between ws from k) why
 
--- no words are two trees, whatever kinds are wanted
+-- no words are two trees, whatever kinds are expected
 abbrev pub OneTree : Type 0
 OneTree = (v w : Want) (ws : List Word) (t u : Tree) → IsExpr v ws t → IsExpr w ws u → t ≡ u
 

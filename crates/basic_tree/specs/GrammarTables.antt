@@ -15,7 +15,7 @@ use Rattle.basic_tree.specs.declared.kinds.Want.{Want}
 use Rattle.basic_tree.specs.declared.kinds.Want.TheVariants as want
 use Rattle.basic_tree.specs.SpellingWords.{Word, Key, Punctuation}
 
--- ---- precedence: a higher level binds less tightly; atoms have level 0
+-- ---- precedence: a higher precedence level binds less tightly; atoms have precedence level 0
 
 abbrev pub sign_level : ℕ
 sign_level = 2

@@ -55,13 +55,13 @@ is_text (Parenthesized a) = is_text a
 is_text (Operation a o b) = is_text a
 is_text other = false
 
--- an expression is of the wanted kind
+-- an expression is of the expected kind
 abbrev pub Fits : Want → Tree → Type 0
 Fits want.Number t = is_text t ≡ false
 Fits want.Text t = is_text t ≡ true
 Fits want.Either t = Unit {0}
 
--- what is wanted: a string or a number
+-- what is expected: a string or a number
 abbrev pub want_of : Bool → Want
 want_of true = want.Text
 want_of false = want.Number
@@ -85,14 +85,14 @@ is_exponent (Operation a o b) = false
 is_exponent (Comparison a r b) = false
 is_exponent atom = true
 
--- operators of one level group from the left: the right operand binds more tightly
+-- operators of one precedence level group from the left: the right operand binds more tightly
 abbrev pub IsRight : Operator → Tree → Type 0
 IsRight operator.Power b = is_exponent b ≡ true
 IsRight o b = level_of b < operator_level o
 
 -- ---- the trees that are expressions
 
--- there are as many arguments as wanted, each of its kind
+-- there are as many arguments as expected, each of its kind
 abbrev pub Fill : List Want → Trees → Type 0
 Fill [] NoTrees = Unit {0}
 Fill [] (AndTrees a more) = ⊥
@@ -124,7 +124,7 @@ abbrev mutual
   AreTrees NoTrees = Unit {0}
   AreTrees (AndTrees a more) = IsTree a × AreTrees more
 
--- the words are those of an expression of the wanted kind
+-- the words are those of an expression of the expected kind
 pub record IsExpr (w : Want) (spelled : List Word) (t : Tree) : Type 0 where
   pub tree : IsTree t
   pub kind : Fits w t

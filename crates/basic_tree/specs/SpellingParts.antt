@@ -1,4 +1,5 @@
--- The pieces of the parts of statements: shapes, channels, items of PRINT, modifiers, options of OPEN and others.
+-- The pieces of the parts of statements: shapes, channels, items of PRINT, modifiers, options of
+-- OPEN and others.
 use Rattle.std.specs.Prelude.{ℕ, ◌||◌, ◌&&◌, nat_lt, not, Bool, true, false, List, [], ◌∷◌, ◌++◌, Option, Some, None}
 use Rattle.std.specs.Int.{is_power_of_two}
 use Rattle.basic_tree.specs.declared.names.Name.{Name}
@@ -92,7 +93,7 @@ range v start limit step =
     NameOf want.Number v ∷ sign_piece sign.Equal ∷ number start ∷ key keyword.To ∷ number limit
     ∷ optional (λ t. key keyword.Step ∷ number t ∷ []) step
 
--- the word of a modifier opens a level of nesting, which holds its expressions
+-- the word of a modifier opens a level of nesting, which contains its expressions
 abbrev pub modifier : ModifierTree → List WordPiece
 modifier (If t) = opening keyword.If ∷ number t ∷ []
 modifier (Unless t) = opening keyword.Unless ∷ number t ∷ []
@@ -115,7 +116,7 @@ abbrev pub kind_of_first : List Tree → Bool
 kind_of_first [] = false
 kind_of_first (t ∷ ts) = is_text t
 
--- `=` and a value, a string or a number as wanted
+-- `=` and a value, a string or a number as expected
 abbrev pub value : Bool → Tree → List WordPiece
 value is_textual t = sign_piece sign.Equal ∷ Expression (want_of is_textual) t ∷ []
 
@@ -151,8 +152,9 @@ is_name (Some (Named n)) = true
 is_name (Some (FnNamed n)) = true
 is_name other = false
 
--- whether the number of CHAIN may begin with the second word, if the program's name ends in the first one.
--- A sign would continue the expression, and `(` after a name opens the name's own list: `CHAIN A$ (5)` chains to an element
+-- whether the number of CHAIN may begin with the second word, if the program's name ends in the
+-- first one. A sign would continue the expression, and `(` after a name opens the name's own list:
+-- `CHAIN A$ (5)` chains to an element
 abbrev pub may_follow : Option Word → Option Word → Bool
 may_follow last (Some (Punctuation sign.Plus)) = false
 may_follow last (Some (Punctuation sign.Minus)) = false

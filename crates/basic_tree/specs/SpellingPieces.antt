@@ -1,5 +1,5 @@
--- The pieces of a statement. A list of pieces, in the order of the text, says which words spell the
--- statement (`pieces_steps`), and when its tree is admissible (`ArePieces`).
+-- The pieces of a statement. A list of pieces, in the order of the source, says which words spell
+-- the statement (`pieces_steps`), and when its tree is admissible (`ArePieces`).
 use Rattle.std.specs.Prelude.{◌≡◌, ℕ, ◌+◌, ◌&&◌, nat_lt, if◌then◌else◌, Bool, true, false, List, [], ◌∷◌, ◌++◌, Option, Some, None}
 use Rattle.basic_values.specs.declared.limits.TheConstants.{MOST_NUMBER}
 use Rattle.basic_tree.specs.declared.names.Name.{Name}
@@ -15,13 +15,13 @@ use Rattle.basic_tree.specs.SpellingExpressions.{steps_of, Fits, IsTree}
 pub data WordPiece : Type 0 where
   -- a given word, or the end of a level of nesting
   Fixed : LevelStep → WordPiece
-  -- an expression of the wanted kind
+  -- an expression of the expected kind
   Expression : Want → Tree → WordPiece
-  -- the name of a variable or an array of the wanted kind
+  -- the name of a variable or an array of the expected kind
   NameOf : Want → Name → WordPiece
-  -- a number, written as a literal; the test must hold
+  -- a number, written as a literal; the test must be true
   LiteralOf : Bool → ℕ → WordPiece
-  -- no word at all; the test must hold
+  -- no word at all; the test must be true
   Holds : Bool → WordPiece
 
 -- the words of a piece
@@ -32,7 +32,7 @@ piece_steps (NameOf w name) = Plain (Named name) ∷ []
 piece_steps (LiteralOf holds n) = Plain (Number n) ∷ []
 piece_steps (Holds holds) = []
 
--- the piece is admissible: its expression or name has the wanted kind, its test holds
+-- the piece is admissible: its expression or name has the expected kind, its test is true
 abbrev pub IsPiece : WordPiece → Type 0
 IsPiece (Fixed step) = Unit {0}
 IsPiece (Expression w t) = IsTree t × Fits w t
@@ -50,7 +50,7 @@ ArePieces (p ∷ pieces) = IsPiece p × ArePieces pieces
 
 -- ---- tests
 
--- a line number is from 1 to the greatest number
+-- a line number is from 1 to the largest number
 abbrev pub is_line_number : ℕ → Bool
 is_line_number n = nat_lt 0 n && nat_lt n (MOST_NUMBER + 1)
 
@@ -72,7 +72,7 @@ key k = Fixed (Plain (Key k))
 abbrev pub sign_piece : Sign → WordPiece
 sign_piece s = Fixed (Plain (Punctuation s))
 
--- a word that opens a level of nesting; `closing` ends the level
+-- a word that opens a level of nesting; `closing` ends the nesting level
 abbrev pub opening : Keyword → WordPiece
 opening k = Fixed (Opens (Key k))
 
@@ -100,7 +100,7 @@ line_or_zero n = LiteralOf (is_bound n) n
 abbrev pub bound : ℕ → WordPiece
 bound n = LiteralOf (is_bound n) n
 
--- a variable or an element of an array, of the wanted kind
+-- a variable or an element of an array, of the expected kind
 abbrev pub target : Want → Tree → List WordPiece
 target w t = Holds (is_target t) ∷ Expression w t ∷ []
 

@@ -51,7 +51,7 @@ has_else (Else clause) = true
 
 -- ---- pieces
 
--- the ends of the levels that the modifiers of a statement open
+-- the ends of the nesting levels that the modifiers of a statement open
 abbrev pub closings : StatementTree → List WordPiece
 closings (Modified s m) = closing ∷ closings s
 closings other = []
@@ -65,7 +65,7 @@ items [] = Holds false ∷ []
 items (item ∷ more) = Fixed (Plain (Item item)) ∷ each (λ i. Fixed (Plain (Item i)) ∷ []) more
 
 abbrev mutual
-  -- the pieces of a statement, without the ends of the levels that its modifiers open
+  -- the pieces of a statement, without the ends of the nesting levels that its modifiers open
   pub pieces_of : StatementTree → List WordPiece
   pieces_of (IfThen condition clause otherwise) =
       key keyword.If ∷ number condition ∷ opening keyword.Then

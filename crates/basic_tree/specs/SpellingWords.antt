@@ -50,7 +50,7 @@ abbrev pub sign_or_item : List ℕ → Option Sign → Word
 sign_or_item bytes (Some sign) = Punctuation (one_sign sign)
 sign_or_item bytes None = Item bytes
 
--- a literal by its value; all above the greatest number are one word, which the scanner never makes
+-- a literal by its value; all above the largest number are one word, which the scanner never makes
 abbrev pub word_with : TokenKind → List ℕ → Word
 word_with kind.Keyword bytes = key_or_item bytes (keyword_of bytes)
 word_with kind.FnName bytes = FnNamed (name_of (drop 2 bytes))
@@ -68,7 +68,7 @@ words_of tokens = map word_of tokens
 
 -- ---- words with levels of nesting
 
--- a word; a word that opens a level of nesting and is in it; the end of a level
+-- a word; a word that opens a level of nesting and is in it; the end of a nesting level
 pub data LevelStep : Type 0 where
   Plain : Word → LevelStep
   Opens : Word → LevelStep
@@ -81,17 +81,17 @@ words (Plain w ∷ steps) = w ∷ words steps
 words (Opens w ∷ steps) = w ∷ words steps
 words (Closes ∷ steps) = words steps
 
--- the nesting depth of each word, if this many levels are open before
+-- the nesting depth of each word, if this many nesting levels are open before
 abbrev pub levels : ℕ → List LevelStep → List ℕ
 levels depth [] = []
 levels depth (Plain w ∷ steps) = depth ∷ levels depth steps
 levels depth (Opens w ∷ steps) = (depth + 1) ∷ levels (depth + 1) steps
 levels depth (Closes ∷ steps) = levels (depth - 1) steps
 
--- the greatest nesting depth of a line
+-- the largest nesting depth of a line
 abbrev pub most_levels : ℕ
 most_levels = 64
 
--- the place of the first word that opens a level too many
+-- the place of the first word that opens a nesting level too many
 abbrev pub too_deep : List LevelStep → Option ℕ
 too_deep steps = position (λ level. nat_lt most_levels level) (levels 0 steps)

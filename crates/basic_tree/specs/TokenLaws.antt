@@ -8,7 +8,8 @@ use Rattle.basic_tree.specs.Words.{keywords}
 use Rattle.basic_tree.specs.declared.tokens.Front.{Front}
 use Rattle.basic_tree.specs.declared.tokens.Front.TheVariants as front
 
--- a token has at least one byte and lies in the rest of the line, and so do the four letters of DATA
+-- a token has at least one byte and lies in the rest of the line, and so do the four letters of
+-- DATA
 abbrev pub LiesIn : Front → List ℕ → Type 0
 LiesIn (front.Token k len) rest = (0 < len) × (len ≤ length rest)
 LiesIn front.Data rest = 4 ≤ length rest
@@ -37,13 +38,13 @@ abbrev pub moved_reading : ℕ → Reading → Reading
 moved_reading by (Ok tokens) = Ok (map (moved by) tokens)
 moved_reading by (Err refusal) = Err (record { place = refusal.place + by; cause = refusal.cause })
 
--- a blank in front of what begins at a place moves its tokens, or its rejected place, and changes
--- no kind, no bytes and no cause
+-- a blank before what begins at a place moves its tokens, or its rejected place, and changes no
+-- kind, no bytes and no cause
 abbrev pub BlanksMoveTokens : Type 0
 BlanksMoveTokens = (place blank : ℕ) (rest : List ℕ) → is_blank blank ≡ true → tokens_from place 0 (blank ∷ rest) ≡ moved_reading 1 (tokens_from place 0 rest)
 
--- a longest keyword at the front is what the rest begins with: a comment for REM, items for DATA,
--- else its token
+-- if the rest begins with a longest keyword, that is what it begins with: a comment for REM, items
+-- for DATA, else its token
 pub record IsTaken (rest : List ℕ) (k : Keyword) (word : List ℕ) : Type 0 where
   pub listed : Contains keywords (k, word)
   pub there : is_at_front word rest ≡ true
@@ -51,7 +52,8 @@ pub record IsTaken (rest : List ℕ) (k : Keyword) (word : List ℕ) : Type 0 wh
   pub spelled : keyword_of (take (length word) rest) ≡ Some k
   pub front : front_of rest ≡ keyword_front (take (length word) rest)
 
--- no keyword at the front is longer than the longest; at a letter, one of that length is taken
+-- no keyword that the rest begins with is longer than the longest; at a letter, one of that length
+-- is taken
 pub record LongestIsTaken : Type 0 where
   pub none_longer : (word rest : List ℕ) → Contains (map (λ entry. entry.1) keywords) word → is_at_front word rest ≡ true → length word ≤ longest_length keywords rest
   pub taken : (rest : List ℕ) → is_ascii_alphabetic (slice_index rest 0) ≡ true → 0 < longest_length keywords rest → (k : Keyword) × (word : List ℕ) × IsTaken rest k word

@@ -73,7 +73,7 @@ keyword_front word =
 abbrev pub name_end : ℕ → List ℕ → ℕ
 name_end letter rest = if is_ascii_digit (slice_index rest (letter + 1)) then letter + 2 else letter + 1
 
--- a name that ends there must be followed at once by `%` or `$`
+-- a name that ends there needs `%` or `$` right after it
 abbrev pub name_front : TokenKind → ℕ → List ℕ → Front
 name_front k end rest = if is_type_mark (slice_index rest end) then front.Token k (end + 1) else front.Refused cause.FloatingName
 
@@ -158,7 +158,7 @@ items_from start item quote (b ∷ bytes) =
 
 -- ---- the tokens of a line
 
--- how many bytes the front takes
+-- how many bytes are taken by what the rest begins with
 abbrev pub width : Front → ℕ
 width (front.Token k len) = len
 width front.Data = 4
@@ -172,7 +172,7 @@ abbrev pub with_tokens : List Lexeme → Reading → Reading
 with_tokens tokens (Ok later) = Ok (tokens ++ later)
 with_tokens tokens (Err refusal) = Err refusal
 
--- the tokens of the rest, given its front, its place in the line, and the tokens after that front
+-- the tokens of the rest, given its place, what it begins with, and the tokens after that
 abbrev pub read_on : ℕ → List ℕ → Front → Reading → Reading
 read_on place rest front.Blank later = later
 read_on place rest front.Comment later = Ok []

@@ -1,5 +1,5 @@
 -- Trees without pointers. Each case is a production of the grammar, with its parts in the order of
--- the text.
+-- the source.
 use Rattle.std.specs.Prelude.{ℕ, Bool, List, Option}
 use Rattle.basic_tree.specs.declared.names.Name.{Name}
 use Rattle.basic_tree.specs.declared.expressions.Operator.{Operator}

@@ -1,5 +1,5 @@
 //! Expressions as trees. Each variant is a production of the grammar, with its fields in the order
-//! of the text.
+//! of the source.
 
 ghost use Rattle.std.specs.Prelude.{◌≡◌, false, MatchOption};
 ghost use Rattle.basic_tree.specs.SpellingPieces.{is_target};

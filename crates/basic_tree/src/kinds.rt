@@ -1,11 +1,11 @@
-//! Which kind of value is wanted of an expression, and which kind a function of the language gives.
+//! Which kind of value an expression must have, and which kind a function of the language gives.
 
 ghost use Rattle.std.specs.Prelude.{◌≡◌};
 ghost use Rattle.basic_tree.specs.GrammarTables.{gives_text};
 
 use crate::expressions::Function;
 
-/// Whether a number, a string or either is wanted.
+/// Whether a number, a string or either is expected.
 #[derive(Clone, Copy, PartialEq, Eq)]
 pub enum Want {
     Number,

@@ -74,7 +74,7 @@ pub enum MatrixValue {
     Zero,
     /// CON: 1 everywhere.
     One,
-    /// IDN: 1 where both subscripts are equal, else 0.
+    /// IDN: 1 if both subscripts are equal, else 0.
     Identity,
     Copy(Name),
     Sum(Name, Name),

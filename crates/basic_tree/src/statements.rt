@@ -1,5 +1,5 @@
 //! Statements as trees. Each variant is a production of the grammar, with its fields in the order
-//! of the text. A `bool` field says whether an optional word or sign was written that does not
+//! of the source. A `bool` field says whether an optional word or sign was written that does not
 //! change the meaning.
 
 use crate::expressions::Expr;

@@ -1,4 +1,4 @@
--- A split finds what was joined.
+-- A split finds what was concatenated.
 use Rattle.std.proofs.Common.{◌≡◌, ℕ, ◌^◌, ◌<◌, ◌≤◌, Bool, true, false, cond, eqb, List, [], ◌∷◌, ◌++◌, length, get_or, take, drop, Option, Some, None, refl, sym, ap, subst, ◌∙◌, arith, eq-eqb}
 use Rattle.std.specs.Prelude.{◌&&◌, nat_le, nat_lt, bytes_eq, ⊤}
 use Rattle.std.specs.List.{position_or_len, before_first, after_first, list_all}
@@ -94,7 +94,7 @@ digits_lack byte other (d ∷ ds) all =
 pub decimal_lacks : (byte n : ℕ) → (IsInRange 48 57 byte → ⊥) → n < 2 ^ 32 → Lacks byte (decimal n)
 decimal_lacks byte n other fits = digits_lack byte other (decimal n) (decimal_is_IsNumeral n (omega arith)).0.1
 
--- a text of one kind of bytes has no byte of another kind
+-- a string of one kind of bytes has no byte of another kind
 pub kind_lacks : (kind : ℕ → Bool) (byte : ℕ) → kind byte ≡ false → (text : List ℕ) → list_all kind text ≡ true → Lacks byte text
 kind_lacks kind byte other [] all = tt
 kind_lacks kind byte other (b ∷ text) all = (

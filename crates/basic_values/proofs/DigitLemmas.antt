@@ -41,7 +41,7 @@ and_right : (a b : Bool) → (a && b) ≡ true → b ≡ true
 and_right true b e = e
 and_right false b e = absurd (cc)
 
--- the text of a 32-bit number has few digits
+-- the decimal form of a 32-bit number has few digits
 pub decimal_is_short : (low high : ℕ) (text : List ℕ) → high < 2 ^ 32 → is_number_between low high text ≡ true → (length text ≤ 10) × AllDigits 10 text
 decimal_is_short low high text fits e =
     let v : ℕ = digits_value 10 text in

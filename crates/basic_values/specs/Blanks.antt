@@ -1,4 +1,4 @@
--- Blanks, and a text without the blanks at its ends.
+-- Blanks, and a string without the blanks at its ends.
 use Rattle.std.specs.Prelude.{ℕ, ◌-◌, Bool, ◌==◌, ◌||◌, List, length, take, drop}
 use Rattle.std.specs.List.{prefix_len, suffix_len}
 
@@ -6,7 +6,7 @@ use Rattle.std.specs.List.{prefix_len, suffix_len}
 abbrev pub is_blank : ℕ → Bool
 is_blank byte = byte == 32 || byte == 9
 
--- without the blanks at the front, and without those at the end
+-- without the leading blanks, and without the trailing ones
 abbrev pub without_front_blanks : List ℕ → List ℕ
 without_front_blanks text = drop (prefix_len is_blank text) text
 

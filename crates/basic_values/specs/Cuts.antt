@@ -1,4 +1,4 @@
--- How a text is split at a byte or after a prefix, and when one reader finds what another does.
+-- How a string is split at a byte or after a prefix, and when one reader finds what another does.
 use Rattle.std.specs.Prelude.{◌≡◌, ℕ, nat_lt, ◌==◌, if◌then◌else◌, List, length, take, drop, Option, Some, None, option_and_then, bytes_eq}
 use Rattle.std.specs.List.{position_or_len, before_first, after_first}
 
@@ -6,7 +6,7 @@ infixl 10 ◌>>=◌
 abbrev pub ◌>>=◌ : {A B : Type 0} → Option A → (A → Option B) → Option B
 o >>= f = option_and_then f o
 
--- what follows the prefix, if the text begins with it
+-- what follows the prefix, if the string begins with it
 abbrev pub behind : List ℕ → List ℕ → Option (List ℕ)
 behind prefix text =
     if bytes_eq (take (length prefix) text) prefix then Some (drop (length prefix) text) else None

@@ -1,9 +1,9 @@
--- The texts of the errors and halts, without the question mark that a report puts in front.
+-- The messages of the errors and halts, without the question mark of a report.
 use Rattle.std.specs.Prelude.{ℕ, ◌==◌, if◌then◌else◌, List, [], ◌∷◌, codes}
 use Rattle.basic_values.specs.declared.failures.Halt.{Halt}
 use Rattle.basic_values.specs.declared.failures.Halt.TheVariants.{NoGosub, TooDeep, RoomFull, NoError, TooLong}
 
--- the text of each error that can occur
+-- the message of each error that can occur
 abbrev pub fault_texts : List (ℕ × List ℕ)
 fault_texts =
     (2, codes "Illegal file name")
@@ -32,16 +32,16 @@ fault_texts =
     ∷ (63, codes "FIELD overflows buffer")
     ∷ []
 
--- the text listed for the number; empty if there is none
+-- the message listed for the number; empty if there is none
 abbrev pub text_beside : ℕ → List (ℕ × List ℕ) → List ℕ
 text_beside number [] = []
 text_beside number (row ∷ rows) = if number == row.0 then row.1 else text_beside number rows
 
--- the text of the error with this number
+-- the message of the error with this number
 unfoldable pub fault_text : ℕ → List ℕ
 fault_text number = text_beside number fault_texts
 
--- the text of the halt
+-- the message of the halt
 abbrev pub halt_text : Halt → List ℕ
 halt_text NoGosub = codes "RETURN without GOSUB"
 halt_text TooDeep = codes "Nested too deep"

@@ -1,10 +1,10 @@
 //! Splitting a string at a byte, or after a prefix. `specs/Cuts` defines each split, and
-//! `proofs/CutLaws` proves that what was joined is found again.
+//! `proofs/CutLaws` proves that what was concatenated is found again.
 
 ghost use Rattle.std.specs.Prelude.{◌≡◌, ◌<◌, ◌==◌, length, position, IfSome};
 ghost use Rattle.basic_values.specs.Cuts.{behind, cut, Finds};
 
-/// Returns what follows the prefix, if the text begins with it.
+/// Returns what follows the prefix, if the string begins with it.
 pub fn behind<'a>(prefix: &[u8], text: &'a [u8]) -> Option<&'a [u8]>
     ensures { Finds (λ x. x.now) result (behind prefix.now text.now) }
 {

@@ -6,11 +6,11 @@ ghost use Rattle.basic_values.specs.Decimals.{number_between};
 
 use itoa::Buffer;
 
-/// The greatest number of digits of a 32-bit number.
+/// The largest number of digits of a 32-bit number.
 const MOST_DIGITS: usize = 10;
 
-/// Returns the number that the text spells in decimal digits without a leading zero, if it is from
-/// `low` to `high`.
+/// Returns the number that the string spells in decimal digits without a leading zero, if it is
+/// from `low` to `high`.
 pub fn number_between(low: u32, high: u32, text: &[u8]) -> Option<u32>
     ensures { result ≡ number_between low high text.now }
 {

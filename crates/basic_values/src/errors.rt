@@ -1,5 +1,5 @@
-//! The numbers of the errors of the manual, named after their texts. Code and definitions use these
-//! names; `Fault::text` returns the texts.
+//! The numbers of the errors of the manual, named after their messages. Code and definitions use
+//! these names; `Fault::text` returns the messages.
 
 /// "Illegal file name".
 pub const ILLEGAL_FILE_NAME: u8 = 2;

@@ -1,4 +1,4 @@
-//! What a text begins and ends with: blanks, letters and digits.
+//! What a string begins and ends with: blanks, letters and digits.
 
 ghost use Rattle.std.specs.Prelude.{◌≡◌, ◌≤◌, length};
 ghost use Rattle.std.specs.List.{prefix_len, suffix_len};
@@ -12,7 +12,7 @@ pub fn is_blank(byte: u8) -> bool
     byte == b' ' || byte == b'\t'
 }
 
-/// Returns the number of blanks at the front of the text.
+/// Returns the number of leading blanks.
 pub fn blanks_in_front(text: &[u8]) -> usize
     ensures count { result ≡ prefix_len is_blank text.now }
     ensures within { result ≤ length text.now }
@@ -20,7 +20,7 @@ pub fn blanks_in_front(text: &[u8]) -> usize
     text.iter().take_while(|byte| is_blank(**byte)).count()
 }
 
-/// Returns the number of letters at the front of the text.
+/// Returns the number of leading letters.
 pub fn letters_in_front(text: &[u8]) -> usize
     ensures count { result ≡ prefix_len is_ascii_alphabetic text.now }
     ensures within { result ≤ length text.now }
@@ -30,7 +30,7 @@ pub fn letters_in_front(text: &[u8]) -> usize
         .count()
 }
 
-/// Returns the number of digits at the front of the text.
+/// Returns the number of leading digits.
 pub fn digits_in_front(text: &[u8]) -> usize
     ensures count { result ≡ prefix_len is_ascii_digit text.now }
     ensures within { result ≤ length text.now }
@@ -38,7 +38,7 @@ pub fn digits_in_front(text: &[u8]) -> usize
     text.iter().take_while(|byte| byte.is_ascii_digit()).count()
 }
 
-/// Returns the number of blanks at the end of the text.
+/// Returns the number of trailing blanks.
 pub fn blanks_at_end(text: &[u8]) -> usize
     ensures count { result ≡ suffix_len is_blank text.now }
     ensures within { result ≤ length text.now }
@@ -49,14 +49,14 @@ pub fn blanks_at_end(text: &[u8]) -> usize
         .count()
 }
 
-/// Returns the text without the blanks at its front.
+/// Returns the string without the leading blanks.
 pub fn without_front_blanks(text: &[u8]) -> &[u8]
     ensures { result.now ≡ without_front_blanks text.now }
 {
     &text[blanks_in_front(text)..]
 }
 
-/// Returns the text without the blanks at its end.
+/// Returns the string without the trailing blanks.
 pub fn without_end_blanks(text: &[u8]) -> &[u8]
     ensures { result.now ≡ without_end_blanks text.now }
 {

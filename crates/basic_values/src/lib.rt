@@ -1,9 +1,9 @@
 //! The values of BASIC-PLUS: 16-bit integers, byte strings, lists, and the ways in which a call
 //! fails. This is the lowest crate.
 //!
-//! `Int` has the arithmetic, `compare` the order of strings, and `fronts` what a text begins with.
-//! `errors` and `limits` have the numbers that code and definitions use by name. `Series` is a list
-//! as contracts see it. `laws` has theorems about all this.
+//! `Int` has the arithmetic, `compare` the order of strings, and `fronts` what a string begins
+//! with. `errors` and `limits` have the numbers that code and definitions use by name. `Series` is
+//! a list as contracts see it. `laws` has theorems about all this.
 #![tactic(auto)]
 
 mod arithmetic;

@@ -13,10 +13,10 @@ pub const MOST_FILES: usize = 512;
 /// The most accounts of a system.
 pub const MOST_ACCOUNTS: usize = 512;
 
-/// The greatest limit of an account, in calls since the login.
+/// The largest limit of an account, in calls since the login.
 pub const MOST_CALLS: u16 = 16384;
 
-/// The greatest quota of an account, in blocks.
+/// The largest quota of an account, in blocks.
 pub const MOST_QUOTA: u16 = 16384;
 
 /// The most terminals, and so the most jobs.
@@ -31,7 +31,7 @@ pub const JOB_CHANNELS: usize = 13;
 /// The most blocks of a record.
 pub const MOST_RECORD_BLOCKS: u8 = 3;
 
-/// The greatest protection code of a file.
+/// The largest protection code of a file.
 pub const MOST_CODE: u8 = 63;
 
 /// The protection code of a file that is made without a code.
@@ -40,7 +40,7 @@ pub const USUAL_CODE: u8 = 60;
 /// The project whose accounts have all rights.
 pub const SYSTEM_PROJECT: u8 = 1;
 
-/// The most messages that a receiver has room for.
+/// The largest number of messages that a receiver can be declared for.
 pub const MOST_LETTERS: u8 = 32;
 
 /// The most bytes of a message, and of one Print on the line printer.
@@ -49,5 +49,5 @@ pub const LONGEST_MESSAGE: usize = 512;
 /// The most lines of a program.
 pub const MOST_LINES: usize = 1000;
 
-/// The greatest literal, and the greatest line number. The least line number is 1.
+/// The largest literal, and the largest line number. The least line number is 1.
 pub const MOST_NUMBER: u16 = 32767;

@@ -1,4 +1,4 @@
-//! The texts of errors and halts, without the question mark that a report puts in front.
+//! The messages of errors and halts, without the question mark of a report.
 
 ghost use Rattle.std.specs.Prelude.{◌≡◌};
 ghost use Rattle.basic_values.specs.Messages.{fault_text, halt_text};
@@ -7,7 +7,7 @@ use crate::failures::{Fault, Halt};
 
 impl Fault {
     #[tactic(auto, unfolding(crate::specs::Messages::fault_text))]
-    /// Returns the text in the manual's table of errors; empty if the number has none.
+    /// Returns the message in the manual's table of errors; empty if the number has none.
     pub fn text(&self) -> &'static [u8]
         ensures { result.now ≡ fault_text self.now }
     {
@@ -43,7 +43,7 @@ impl Fault {
 }
 
 impl Halt {
-    /// Returns the text of the halt in the manual.
+    /// Returns the message of the halt in the manual.
     pub fn text(&self) -> &'static [u8]
         ensures { result.now ≡ halt_text self.now }
     {

@@ -81,7 +81,7 @@ impl Text {
     }
 }
 
-/// Returns the bytes of `a` followed by those of `b`: the manual's `+` on strings. More than 32,767
+/// Returns the bytes of `a` and then those of `b`: the manual's `+` on strings. More than 32,767
 /// bytes are the halt `TooLong`.
 pub fn concat(alloc: Global, a: &[u8], b: &[u8]) -> Result<Text, Trouble<Halt>>
     ensures { MakesText (a.now ++ b.now) result }
@@ -117,7 +117,7 @@ pub fn compare(a: &[u8], b: &[u8]) -> Ordering
     Ordering::Equal
 }
 
-/// Returns the byte at this place of a string that is followed by spaces.
+/// Returns the byte at this place of a string with spaces after it.
 fn byte_or_space(text: &[u8], place: usize) -> u8
     ensures { result ≡ slice_index_or text.now place space }
 {

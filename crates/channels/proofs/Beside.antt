@@ -8,7 +8,7 @@ use Rattle.channels.specs.Waiting.{stores_waiting, settles}
 abbrev pub beside : List (List ℕ) → Files → Files
 beside buffers files = record files { buffers = buffers }
 
--- an equation about channels without buffers also holds with them
+-- an equation about channels without buffers is also true with them
 pub told_beside : {a b : Files} (buffers : List (List ℕ)) → a ≡ b → beside buffers a ≡ beside buffers b
 told_beside buffers is = ap (beside buffers) is
 

@@ -1,4 +1,4 @@
--- The interaction trees of text keep the sizes of buffers.
+-- The interaction trees of text on channels keep the sizes of buffers.
 use Rattle.std.proofs.Common.{ℕ, zero, suc, ◌-◌, Bool, true, false, List, [], ◌∷◌, length, refl, sym, subst}
 use Rattle.std.specs.Prelude.{ℤ, nat_lt, if◌then◌else◌, ◌&&◌, ◌==◌}
 use Rattle.std.proofs.lemmas.List.{length-set}

@@ -18,7 +18,7 @@ pub record Files : Type 0 where
   pub recount : ℕ
   pub buffers : List (List ℕ)
 
--- ACTS
+-- INTERACTION TREES
 
 -- an interaction tree on a job's files; it leaves them in no way of its own
 abbrev pub FilesAct : Type 0 → Type 0
@@ -96,7 +96,7 @@ channel_opened number channels = where_open (channel_named number) channels
 abbrev pub channel_blocks : ℕ → List ChannelState → ℕ
 channel_blocks c channels = if is_open_at c channels then blocks_of (channel_at c channels).size else 1
 
--- as a program sees a count, which is never greater
+-- a count as a program sees it, which is at most the largest number
 abbrev pub shown_count : ℕ → ℤ
 shown_count count = pos (min count MOST_COLUMN)
 

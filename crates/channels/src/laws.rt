@@ -2,8 +2,8 @@
 
 ghost use Rattle.channels.specs.Sizes.{SizesStay};
 
-/// Wherever an interaction tree on files ends, the buffer of each channel has the size of its
-/// records.
+/// States that at each end of an interaction tree on files the buffer of each channel has the size
+/// of its records.
 pub fn sizes_stay()
     ensures { SizesStay }
 {}

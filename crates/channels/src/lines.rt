@@ -167,7 +167,7 @@ fn is_kept(byte: u8) -> bool
     byte != 0 && byte != LINE_FEED
 }
 
-/// Returns how many bytes at the front are added to the line.
+/// Returns how many leading bytes are added to the line.
 fn run_in_front(bytes: &[u8]) -> usize
     ensures count { result ≡ prefix_len is_kept bytes.now }
     ensures within { result ≤ length bytes.now }

@@ -38,7 +38,7 @@ impl Channels {
         self.gather(alloc, buffers, port, channel, bytes)
     }
 
-    /// Collects bytes, as many at a time as the buffer has room for.
+    /// Collects bytes, as many at a time as fit into the buffer.
     fn gather<P: Port>(
         &mut self,
         alloc: Global,

@@ -1,4 +1,4 @@
--- Where runs have come, and what is done behind chains.
+-- What runs have reached, and what is done after chains.
 use Rattle.std.proofs.Common.{◌≡◌, ℕ, zero, suc, ◌-◌, ◌<◌, ◌≤◌, List, [], true, false, Option, Some, None, Result, Ok, Err, refl, sym, ap, subst, ◌∙◌, arith, append-nil}
 use Rattle.std.specs.Prelude.{IfOk, OnErr}
 use Rattle.std.specs.Option.{option_map}
@@ -51,16 +51,17 @@ use Rattle.command_level.proofs.SessionLemmas.{session_on, above}
 
 -- ENDS
 
--- an end, by how the next program runs, what an error of the CHAIN leads to, and the session after every other end
+-- an end, by how the next program runs, what an error of the CHAIN leads to, and the session after
+-- every other end
 abbrev ending : (ℕ → Runner) → (ℕ → ℕ → Job Position → Step Position) → (Break (program.Leaving Position) → Job Position → talk.Session Position) → talk.Session Position → ℕ → Ending
 ending run faulted over s most = record { judge = judge_of; run = run most; most = most; faulted = faulted most; over = over; session = s }
 
--- where a job is gone, so is its session
+-- if a job is gone, so is its session
 ended_dies : (most count : ℕ) (p : Program) (s : talk.Session Position) (j : Job Position) → ends_run count (run_of most p s) Gone j ≡ Breaks Gone (with_job j s)
 ended_dies most zero p s j = refl
 ended_dies most (suc count) p s j = refl
 
--- an end that is no chain is outlived
+-- after an end that is no chain the session continues
 not_chained : (p : Program) (b : Break (program.Leaving Position)) (why : Exit) → break_over (low_leaving p) b ≡ break_of why → is_chain (reached.End why) ≡ false → b ≡ Left program.Chained → ⊥
 not_chained p b why way nay is = by_way why (ap (break_over (low_leaving p)) (sym is) ∙ way) nay
   where
@@ -128,7 +129,7 @@ told_line session why line p s b j low way =
 
 -- UNITS
 
--- what the loop has left: more than the units, as long as programs chain
+-- what the loop has left: more than the units, while programs chain
 abbrev pub turns_left : Reached → Clock → ℕ
 turns_left (reached.End exit.Chained) c = suc (units_left c)
 turns_left other c = 0
@@ -156,7 +157,7 @@ is_chained (reached.Over onward) e = absurd (cc)
 pub turns_fewer : (at on : Reached) (c d : Clock) → is_chain at ≡ true → Spent c d on → turns_left on d < turns_left at c
 turns_fewer at on c d is spent = subst (λ (at : Reached). turns_left on d < turns_left at c) (sym (is_chained at is)) (fewer_behind on c d spent)
 
--- what a run tells of units
+-- what a run says of units
 pub ran_spent : (c d : Clock) (end : Result (Unit {0}) (Trouble Exit)) (result : Result Reached NoMemory) → IfOk result (IsReached end) → SpendsAtChain c d end → IfOk result (Spent c d)
 ran_spent c d end (Err e) is spends = tt
 ran_spent c d (Ok done) (Ok at) is spends = subst (Spent c d) (sym is) tt
@@ -172,14 +173,14 @@ ran_spent c d (Err (trouble.Refused why)) (Ok at) is spends = subst (Spent c d) 
     reason (exit.StoppedInside home) spends = tt
 ran_spent c d (Err trouble.NoMemory) (Ok at) is spends = absurd is
 
--- where no program ran none was taken
+-- if no program ran, no unit was taken
 pub over_spent : (c d : Clock) (done : Result AfterLine NoMemory) (result : Result Reached NoMemory) → IsOver done result → IfOk result (Spent c d)
 over_spent c d (Ok onward) (Ok at) is = subst (Spent c d) (sym is) tt
 over_spent c d (Err e) (Err f) is = tt
 over_spent c d (Ok onward) (Err f) is = absurd is
 over_spent c d (Err e) (Ok at) is = absurd is
 
--- A run has come there behind so many chains.
+-- A run has come there after this many chains.
 pub record Comes {P W : Type 0} (who : P → W) (log : P → List Event) (old new : P) (c d : Clock) (step : ℕ → Step Position) (session : Session) (at : Reached) : Type 0 where
   pub turns : ℕ
   pub run : ServesRun who log old new c d (λ most. most - turns) step session (Ok at)
@@ -204,14 +205,14 @@ step_or t None = t
 same_step : (m t : Step Spot) → Some m ≡ Some t → m ≡ t
 same_step m t e = ap (step_or t) e
 
--- WHERE A RUN HAS COME
+-- WHAT A RUN HAS REACHED
 
 module _ {P W : Type 0} {who : P → W} {log : P → List Event} where
-  -- told in other words
+  -- the same for an equal tree
   pub run_from : {p q : P} {c d : Clock} {count : ℕ → ℕ} {step step' : ℕ → Step Position} {session : Session} {result : Result Reached NoMemory} → ((most : ℕ) → step most ≡ step' most) → ServesRun who log p q c d count step' session result → ServesRun who log p q c d count step session result
   run_from {p} {q} {c} {d} {count} {step} {step'} {session} {result} same f = subst (λ (step : ℕ → Step Position). ServesRun who log p q c d count step session result) (λ i most. sym (same most) i) f
 
-  -- nothing was asked, and nothing is told
+  -- nothing was asked, and nothing is claimed
   pub run_nothing : {p : P} {c : Clock} {count : ℕ → ℕ} {step : ℕ → Step Position} {session : Session} (e : NoMemory) → ServesRun who log p p c c count step session (Err e)
   run_nothing {p} {c} {count} {step} e = record { left = None; leaves = refl; follows = record { events = []; grew = (refl, sym (append-nil (log p))); bound = 0; reaches = λ most le. (c, step most, here) } }
 
@@ -226,7 +227,7 @@ module _ {P W : Type 0} {who : P → W} {log : P → List Event} where
   run_over count session (Ok onward) (Err g) is f = absurd is
   run_over count session (Err e) (Ok at) is f = absurd is
 
-  -- what was done in a session, and what is done where it came
+  -- what was done in a session, and what is done at the end that it reached
   in_session_follows : {p q : P} {c d : Clock} (E : ℕ → Break (program.Leaving Position) → Job Position → Step Position) (s : talk.Session Position) (meaning : ℕ → Doing Coming) (left : Option (Doing Coming)) (events : List Event) (bound : ℕ)
       → ((most : ℕ) (j : Job Position) → E most Gone j ≡ Breaks Gone (with_job j s)) → Grew who log p q events → ((most : ℕ) → bound ≤ most → Reaches c (meaning most) events d left)
       → FollowsSession who log p q c d (λ most. in_session (E most) s (meaning most)) (option_map (λ (m : Doing Coming) most. in_session (E most) s m) left)
@@ -278,7 +279,7 @@ module _ {P W : Type 0} {who : P → W} {log : P → List Event} where
 
   -- THE READING
 
-  -- what was read, or why it was not, is what a chain goes on with
+  -- what was read, or why it was not: a chain continues with that
   pub chain_follows : {p q : P} {c d : Clock} (run : ℕ → Runner) (faulted : ℕ → ℕ → Job Position → Step Position) (over : Break (program.Leaving Position) → Job Position → talk.Session Position) (s : talk.Session Position) (j : Job Position) (left : Option (Act ⊥ Unit (List ℕ × Lines)))
       → Follows who log p q c d (reads_program judge_of j.account j.destination.name) left
       → FollowsSession who log p q c d (λ most. follows_chain (ending run faulted over s most) j)
@@ -317,7 +318,7 @@ module _ {P W : Type 0} {who : P → W} {log : P → List Event} where
       none_less : (most : ℕ) → most ≡ most - 0
       none_less most = omega arith
 
-  -- behind one more
+  -- after one more
   comes_run : {p q r : P} {c d e : Clock} {step : ℕ → Step Position} (old new : Session) (at : Reached) (result : Result Reached NoMemory) → is_chain at ≡ true → (f : Comes who log p q c d step old at) → ChainServes who log q r d e old new result
       → ServesRun who log p r c e (λ most. most - suc f.turns) step new result
   comes_run {p} {q} {r} {c} {d} {e} {step} old new at result is f chain = go (subst (λ (at : Reached). ServesRun who log p q c d (λ most. most - f.turns) step old (Ok at)) (is_chained at is) f.run)
@@ -339,7 +340,7 @@ module _ {P W : Type 0} {who : P → W} {log : P → List Event} where
   pub comes_on : {p q r : P} {c d e : Clock} {step : ℕ → Step Position} (old new : Session) (at on : Reached) → is_chain at ≡ true → Comes who log p q c d step old at → ChainServes who log q r d e old new (Ok on) → Comes who log p r c e step new on
   comes_on old new at on is f chain = record { turns = suc f.turns; run = comes_run old new at (Ok on) is f chain }
 
-  -- memory ran out behind one
+  -- memory ran out after one
   pub comes_lost : {p q r : P} {c d e : Clock} {step : ℕ → Step Position} (old new session : Session) (at : Reached) (none : NoMemory) (result : Result AfterLine NoMemory) (IsIt : NoMemory → Type 0) → IsErrAnd result IsIt → is_chain at ≡ true → Comes who log p q c d step old at → ChainServes who log q r d e old new (Err none) → Serves who log p r c e step session result
   comes_lost old new session at none (Ok on) IsIt was is f chain = absurd was
   comes_lost old new session at none (Err other) IsIt was is f chain = let g = comes_run old new at (Err none) is f chain in record { left = g.left; leaves = g.leaves; follows = g.follows }
@@ -367,7 +368,7 @@ module _ {P W : Type 0} {who : P → W} {log : P → List Event} where
       go : ServesRun who log p q c d (λ most. most - f.turns) step old (Ok (reached.Over onward)) → Serves who log p q c d step old (Ok onward)
       go run = record { left = run.left; leaves = run.leaves; follows = run.follows }
 
-  -- A RUN, AND ALL CHAINS BEHIND IT
+  -- A RUN, AND ALL CHAINS AFTER IT
 
   pub run_on : {p q r : P} {c d e : Clock} {step : ℕ → Step Position} (old new : Session) (at : Reached) (result : Result AfterLine NoMemory) → ServesRun who log p q c d (λ most. most) step old (Ok at)
       → ((left : ℕ → Step Position) → LeftRun (λ most. most) old (Ok at) (Some left) → Serves who log q r d e left new result) → Serves who log p r c e step new result
@@ -416,7 +417,7 @@ module _ {P W : Type 0} {who : P → W} {log : P → List Event} where
       by_end end left (left_a_body {coming = coming} {j = j} low) is f = record { b = Left program.Ended; j = j; low = low_at j low; way = ap break_of (sym (ap (exit_in why) is)); follows = f }
       by_end end left no_memory is f = absurd is
 
-  -- an end that is no chain is told
+  -- an end that is no chain is reported
   pub line_over : {p q : P} {c d : Clock} (line prog : Program) (s : talk.Session Position) (meaning : ℕ → Doing Coming) (old new : Session) (why : Exit) (result : Result AfterLine NoMemory) → is_chain (reached.End why) ≡ false → StopFits prog s
       → IfOk result (λ on. outlived (reported (seen old)) (seen old) (break_of why) (seen old).job ≡ goes on (seen new))
       → LineAt who log p q c d line prog s meaning old why → Serves who log p q c d (λ most. in_session (line_ended judge_of most s) s (meaning most)) new result
@@ -425,7 +426,7 @@ module _ {P W : Type 0} {who : P → W} {log : P → List Event} where
       let first = subst (λ (left : Option (ℕ → Step Position)). FollowsSession who log p q c d (λ most. in_session (line_ended judge_of most s) s (meaning most)) left) (ap Some (λ i most. outlived_line most s f.b f.j alone i)) f.follows in
       serves_behind first (serves_same prog new result (outlived (reported s) s f.b f.j) (ok_map result (λ on same. told_line old why line prog s f.b f.j f.low f.way ∙ same) told) (line_fits prog s f.b f.j fits))
 
-  -- a chain goes on
+  -- a chain continues
   pub line_chains : {p q r : P} {c d e : Clock} (line prog : Program) (s : talk.Session Position) (meaning : ℕ → Doing Coming) (old new : Session) (why : Exit) (result : Result AfterLine NoMemory) → why ≡ exit.Chained
       → ((j : Job Position) → low_session prog (with_job j s) ≡ seen old → Serves who log q r d e (λ most. line_ended judge_of most s (Left program.Chained) j) new result)
       → LineAt who log p q c d line prog s meaning old why → Serves who log p r c e (λ most. in_session (line_ended judge_of most s) s (meaning most)) new result
@@ -450,7 +451,7 @@ module _ {P W : Type 0} {who : P → W} {log : P → List Event} where
           no_body h = cc
       by_end end left no_memory is f = record { left = None; leaves = refl; follows = f }
 
-  -- WHERE NO PROGRAM WAS READ
+  -- IF NO PROGRAM WAS READ
 
   -- memory ran out there
   unread_lost : {p q : P} {c : Clock} {step : ℕ → Step Position} (new : Session) (done : Result AfterLine NoMemory) → FollowsSession who log p q c c step None → IfOk done (λ on. None ≡ Some (goes on (seen new))) → Serves who log p q c c step new done
@@ -460,7 +461,7 @@ module _ {P W : Type 0} {who : P → W} {log : P → List Event} where
       no_step e = cc
   unread_lost new (Err e) f told = record { left = None; leaves = refl; follows = f }
 
-  -- a program has no error of its own there
+  -- no program has an error of its own there
   pub chain_broke : {p q : P} {c : Clock} (run : ℕ → Runner) (faulted : ℕ → ℕ → Job Position → Step Position) (old new : Session) (prog : Program) (s : talk.Session Position) (j : Job Position) (e : Stop) (done : Result AfterLine NoMemory) → RanIn old prog s j → ((fault : ℕ) → e ≡ stop.Fault fault → ⊥)
       → Follows who log p q c c (reads_program judge_of j.account j.destination.name) (answered_by (Err e) tt) → IfOk done (λ on. run_ends (exit_at e) (seen old) ≡ Some (goes on (seen new)))
       → Serves who log p q c c (λ most. follows_chain (ending run faulted (run_is_over s) s most) j) new done

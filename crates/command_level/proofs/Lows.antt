@@ -1,4 +1,5 @@
--- A session with the places of a program's code does the same, where it runs no program; and so it does at the end of one.
+-- A session with the places of a program's code does the same, if it runs no program, and at the
+-- end of one.
 use Rattle.std.proofs.Common.{◌≡◌, ℕ, List, [], ◌∷◌, ◌++◌, Option, Some, None, Result, Ok, Err, refl, sym, ap, Bool, true, false}
 use Rattle.std.specs.Prelude.{if◌then◌else◌}
 use Rattle.grammar_machine.specs.MachineJudge.{judge_of}
@@ -43,7 +44,7 @@ start_zero : (ss : List StatementTree) → start_of ss 0 ≡ 0
 start_zero [] = refl
 start_zero (s ∷ ss) = refl
 
--- what a program finds that begins has no places but the first
+-- the state in which a program begins has only the first place
 pub low_cleared : (p q r : Program) (j : Job Position) → lowered p (cleared q j) ≡ cleared q (lowered r j)
 low_cleared p q r j = ap (λ (z : ℕ). record (cleared q (lowered r j)) { trap = record untouched { place = z }; home = record { start = z; behind = z; line = 0 } }) (start_zero (statements_of p))
 
@@ -51,11 +52,11 @@ module _ (p : Program) where
   abbrev pub low : Session Position → Session Spot
   low = low_session p
 
-  -- the same act, of the session with the places of the code
+  -- the same tree, of the session with the places of the code
   abbrev pub lows : Step Position → Step Spot
   lows m = over (λ way. way) low m
 
-  -- WHERE A PROGRAM BEGINS
+  -- THE BEGINNING OF A PROGRAM
 
   abbrev new_from : List ℕ → Session Spot → Job Spot → Step Spot
   new_from name s j = answered [] (named name (with_lines [] (with_job j s)))
@@ -345,7 +346,7 @@ module _ (p : Program) where
 
 -- WHAT A RUN LEADS TO
 
--- an end that is no end of the job's calls is outlived
+-- after an end the session continues, unless the job's calls are used up
 pub outlived_by : (during : Break (program.Leaving Spot) → Job Spot → Session Spot) (s : Session Spot) (why : Exit) (j : Job Spot) → is_gone why ≡ false → talk.outlived during s (break_of why) j ≡ Gives tt (during (break_of why) j)
 outlived_by during s exit.Gone j e = absurd (cc)
 outlived_by during s (exit.Fault fault) j e = refl
@@ -370,7 +371,7 @@ pub ruleset outlived = (outlived_by, gone_by)
 pub emptied_by : (s : Session Spot) (lines : Lines) (j : Job Spot) → lines ≡ [] → j ≡ cleared [] s.job → record s { lines = lines; job = j; stop = None } ≡ emptied s
 emptied_by s lines j e f = λ i. record s { lines = e i; job = f i; stop = None }
 
--- what is written on the screen
+-- what is written to the screen
 pub said : (s : Session Spot) (text screen : List ℕ) → screen ≡ s.job.screen ++ text → says text s ≡ with_job (record s.job { screen = screen }) s
 said s text screen wrote = ap (λ (bytes : List ℕ). with_job (record s.job { screen = bytes }) s) (sym wrote)
 

@@ -1,4 +1,4 @@
--- What the calls that run programs do of the session for which the code's stands.
+-- What the calls that run programs do, in the session that the code's represents.
 use Rattle.std.proofs.Common.{◌≡◌, ℕ, List, ◌++◌, Option, Some, None, Ok, Err, Result, refl, sym, ap, subst, ◌∙◌}
 use Rattle.std.specs.Prelude.{Bool, true, false, IfOk, OnOk}
 use Rattle.std.specs.Option.{option_map, OnSome}
@@ -60,7 +60,7 @@ serves_lost (Err e) IsIt is = serves_nothing e
 
 -- RUN
 
--- behind its name
+-- after its name
 pub stands_headed : (old mid : Session) (s : talk.Session Position) (with_name : Bool) (st : Stands old s) → seen mid ≡ headed with_name (seen old) → Stands mid (headed with_name s)
 stands_headed old mid s with_name st written = record {
   program = st.program;
@@ -72,7 +72,7 @@ stands_headed old mid s with_name st written = record {
     headed_fits true = st.fits
     headed_fits false = st.fits
 
--- the state that a program finds that begins
+-- the state in which a program begins
 module _ (old : Session) (s : talk.Session Position) (st : Stands old s) where
   pub same_text : old.text ≡ s.lines
   same_text = sym (ap (λ (u : talk.Session Spot). u.lines) st.low)
@@ -83,7 +83,7 @@ module _ (old : Session) (s : talk.Session Position) (st : Stands old s) where
       ∙ ap (λ (u : talk.Session Spot). record u { job = cleared p u.job; stop = None }) st.low
       ∙ ap (λ (k : Job Spot). record (seen old) { job = k; stop = None }) (sym is)
 
--- where no STOP is kept every program fits
+-- if no STOP is kept, every program fits
 pub no_stop_fits : (p : Program) (s : talk.Session Position) → s.stop ≡ None → StopFits p s
 no_stop_fits p s none = subst (λ (o : Option (program.Leaving Position)). OnSome o ((p ≡ program_by judge_of s.lines) × (refusal_of p ≡ None))) (sym none) tt
 
@@ -91,12 +91,12 @@ no_stop_fits p s none = subst (λ (o : Option (program.Leaving Position)). OnSom
 pub program_here : (lines text : Lines) (trees : List (ℕ × Line)) → text ≡ lines → AreTrees text trees → program_of trees ≡ program_by judge_of lines
 program_here lines text trees same h = trees_program text trees h ∙ ap (program_by judge_of) same
 
--- and behind the state that a program finds
+-- and after the state in which a program begins
 pub here_behind : (mid : Session) (s : talk.Session Position) (prog : Program) (trees : List (ℕ × Line)) → low_session prog (begun prog s) ≡ seen mid → AreTrees mid.text trees → program_of trees ≡ program_by judge_of s.lines
 here_behind mid s prog trees low h = program_here s.lines mid.text trees (sym (ap (λ (u : talk.Session Spot). u.lines) low)) h
 
 module _ {P W : Type 0} {who : P → W} {log : P → List Event} where
-  -- behind the closing of all channels
+  -- after the closing of all channels
   pub run_shut : {p q r : P} {c d : Clock} (count : ℕ → ℕ) (mid behind : Session) (s : talk.Session Position) (st : Stands mid s) (t : Storage) (next : ℕ → talk.Session Position → Step Position) (new : Session) (result : Result Reached NoMemory)
       → Follows who log p q c c (shut_act (in_storage.part (seen mid).job)) (Some (Gives tt t)) → seen behind ≡ with_storage (seen mid) t
       → (Stands behind (with_storage s t) → ServesRun who log q r c d count (λ most. next most (with_storage s t)) new result)
@@ -105,7 +105,7 @@ module _ {P W : Type 0} {who : P → W} {log : P → List Event} where
       let run = g (shut_stands mid s st t behind is) in
       record { left = run.left; leaves = run.leaves; follows = tried_follows (with_storage s) (λ most _ s. next most s) tt t (shut_from mid s st f) run.follows }
 
-  -- a program that is refused
+  -- a program that is rejected
   pub serves_refused : {p : P} {c : Clock} (prog : Program) (run : ℕ → Runner) (line : Option ℕ) (s : talk.Session Position) (mid new : Session) (refusal : LowerRefusal) (result : Result AfterLine NoMemory)
       → low_session prog (begun prog s) ≡ seen mid → refusal_of prog ≡ Some refusal
       → IfOk result (λ on. reports (lowering_report refusal) (seen mid) ≡ goes on (seen new))
@@ -137,7 +137,7 @@ module _ {P W : Type 0} {who : P → W} {log : P → List Event} where
   serves_answer old new s st text result told =
       serves_same st.program new result (answered text s) (ok_map result (λ on same. ap (answered text) st.low ∙ same) told) st.fits
 
--- what is kept of a STOP: the way that it was left, of the program in memory, which is not refused
+-- what is kept of a STOP: the way in which the program in memory was left, which is not rejected
 pub record StopKept (s : talk.Session Position) (st_program : Program) (stop : Stop) : Type 0 where
   pub way : program.Leaving Position
   pub is : s.stop ≡ Some way
@@ -174,7 +174,7 @@ not_refused p q refusal sound same refused = none_some (sym sound ∙ ap refusal
 
 -- KEY LINES
 
--- behind the echo of a line
+-- after the echo of a line
 pub echoed_stands : (old mid : Session) (s : talk.Session Position) (st : Stands old s) (line bytes screen : List ℕ) → bytes ≡ line → screen ≡ (seen old).job.screen ++ (bytes ++ line_end) → seen mid ≡ with_job (record (seen old).job { screen = screen }) (seen old) → Stands mid (says (line ++ line_end) s)
 echoed_stands old mid s st line bytes screen same wrote is = record {
   program = st.program;
@@ -192,7 +192,7 @@ module _ {P W : Type 0} {who : P → W} {log : P → List Event} where
       serves_from (λ most. ap (λ (o : Option Account). acts judge_of most o (command_of line) t) none ∙ ap (λ (k : Command). visitor_acts k t) (sym (is ∙ ap command_of same)))
       (serves_rest st.program new result (visitor_acts command t) (follows_from (sym (visitor_low st.program command t) ∙ ap (visitor_acts command) st.low) f) (visitor_fits st.program command t st.fits))
 
-  -- behind it
+  -- after it
   pub serves_user : {p q : P} {c d : Clock} (new : Session) (s : talk.Session Position) (line bytes : List ℕ) (command : Command) (account : Account) (result : Result AfterLine NoMemory) → s.account ≡ Some account → command ≡ command_of bytes → bytes ≡ line
       → Serves who log p q c d (λ most. user_acts judge_of most account command (says (line ++ line_end) s)) new result
       → Serves who log p q c d (λ most. line_acts judge_of most line s) new result

@@ -1,4 +1,4 @@
--- From what a call does of the code's session to what it does of the session for which that stands.
+-- From what a call does in the code's session to what it does in the session that this represents.
 use Rattle.std.proofs.Common.{◌≡◌, ℕ, List, [], ◌∷◌, Some, None, Ok, Err, Result, refl, sym, ap, subst, append-nil}
 use Rattle.std.specs.Prelude.{IfOk}
 use Rattle.std.specs.Option.{option_map}
@@ -22,10 +22,10 @@ use Rattle.command_level.specs.Seen.{seen}
 use Rattle.command_level.specs.Standing.{low_session, StopFits, LeftBy, Serves}
 use Rattle.command_level.proofs.Lows.{lows, Fit}
 
--- PATHS
+-- EXECUTIONS
 
 module _ {K L S T A : Type 0} (ways : K → L) (put : S → T) where
-  -- what a path of the whole is of the part
+  -- an execution of the whole as one of the part
   pub record Under (c d : Clock) (m : Act K S A) (ps : List Event) (whole : Act L T A) : Type 0 where
     pub left : Act K S A
     pub path : Path c m ps d left
@@ -62,7 +62,7 @@ ends_path holds c d m left ps (gone {e = i} {s = s} {events = qs} e g p) h = end
 
 -- WHAT IS LEFT
 
--- an act that goes onward with the places of a program's code goes so without
+-- a tree that ends onward with the places of a program's code does so without them
 module _ (p : Program) where
   pub record GoesAs (m : Step Position) (on : AfterLine) (u : talk.Session Spot) : Type 0 where
     pub state : talk.Session Position
@@ -101,7 +101,7 @@ module _ (p : Program) where
   fits_as m onward.Ended t e h = subst (λ m. Fit p m) e h
   fits_as m onward.Expired t e h = subst (λ m. Fit p m) e h
 
-  -- a step to which the code's session came
+  -- a step that the code's session reached
   pub leaves_by : (session : Session) (result : Result AfterLine NoMemory) (m : Step Position) → IfOk result (λ on. lows p m ≡ goes on (seen session)) → Fit p m
       → LeftBy session result (option_map (λ t most. t) (unless_memory result (λ on. m)))
   leaves_by session (Ok on) m e h =
@@ -110,11 +110,11 @@ module _ (p : Program) where
   leaves_by session (Err none) m e h = refl
 
 module _ {P W : Type 0} {who : P → W} {log : P → List Event} where
-  -- told in other words
+  -- the same for an equal tree
   pub serves_from : {p q : P} {c d : Clock} {step step' : ℕ → Step Position} {session : Session} {result : Result AfterLine NoMemory} → ((most : ℕ) → step most ≡ step' most) → Serves who log p q c d step' session result → Serves who log p q c d step session result
   serves_from {p} {q} {c} {d} {step} {step'} {session} {result} same f = subst (λ (step : ℕ → Step Position). Serves who log p q c d step session result) (λ i most. sym (same most) i) f
 
-  -- nothing was asked, and nothing is told
+  -- nothing was asked, and nothing is claimed
   pub serves_nothing : {p : P} {c : Clock} {step : ℕ → Step Position} {session : Session} (e : NoMemory) → Serves who log p p c c step session (Err e)
   serves_nothing {p} {c} {step} e = record { left = None; leaves = refl; follows = record { events = []; grew = (refl, sym (append-nil (log p))); bound = 0; reaches = λ most le. (c, step most, here) } }
 

@@ -1,4 +1,5 @@
--- Where what runs programs has come, and for which session of the definitions the code's stands there.
+-- What a call that runs programs has reached, and which session of the definitions the code's
+-- represents there.
 use Rattle.std.specs.Prelude.{◌≡◌, ◌<◌, ℕ, Bool, true, false, List, Option, Some, None, Result, Ok, Err}
 use Rattle.basic_values.specs.declared.failures.NoMemory.{NoMemory}
 use Rattle.basic_values.specs.declared.failures.Trouble.{Trouble}
@@ -26,7 +27,7 @@ use Rattle.command_level.specs.declared.chains.Reached.TheVariants as reached
 use Rattle.command_level.specs.Seen.{seen}
 use Rattle.command_level.specs.Standing.{low_session, StopFits, LeftBy}
 
--- a body that is left that was not called is an end as any other
+-- a body that is left without a call counts as the end of the program
 abbrev pub IsReached : Result (Unit {0}) (Trouble Exit) → Reached → Type 0
 IsReached (Ok done) at = at ≡ reached.End exit.Ended
 IsReached (Err (trouble.Refused why)) at = at ≡ reached.End why
@@ -58,7 +59,8 @@ pub record AtEnd (session : Session) (why : Exit) (p : Program) (s : talk.Sessio
   pub ran : RanIn session p s j
   pub way : break_over (low_leaving p) b ≡ break_of why
 
--- What is left there, where so many more programs may chain: what is done at the end of the run, or a line behind which the session goes on. Where memory ran out nothing is told.
+-- What is left there, if this many more programs may chain: what is done at the end of the run, or
+-- a line after which the session continues. If memory ran out, nothing is claimed.
 abbrev pub LeftRun : (ℕ → ℕ) → Session → Result Reached NoMemory → Option (ℕ → Step Position) → Type 0
 LeftRun count session (Ok (reached.End why)) left =
     (p : Program) × (s : talk.Session Position) × (b : Break (program.Leaving Position)) × (j : Job Position)
@@ -66,14 +68,14 @@ LeftRun count session (Ok (reached.End why)) left =
 LeftRun count session (Ok (reached.Over onward)) left = LeftBy session (Ok onward) left
 LeftRun count session (Err e) left = left ≡ None
 
--- a call follows what is to be done, up to what is left there
+-- a call executes what is to be done, up to what is left there
 pub record ServesRun {P W : Type 0} (who : P → W) (log : P → List Event) (old new : P) (c d : Clock)
     (count : ℕ → ℕ) (step : ℕ → Step Position) (session : Session) (result : Result Reached NoMemory) : Type 0 where
   pub left : Option (ℕ → Step Position)
   pub leaves : LeftRun count session result left
   pub follows : FollowsSession who log old new c d step left
 
--- where a CHAIN was reached a unit was taken
+-- if a CHAIN was reached, a unit was taken
 abbrev pub Spent : Clock → Clock → Reached → Type 0
 Spent c d (reached.End exit.Chained) = units_left d < units_left c
 Spent c d other = Unit {0}

@@ -1,4 +1,4 @@
--- For which session of the definitions the code's stands, and what a call of it does.
+-- Which session of the definitions the code's represents, and what a call does in it.
 use Rattle.std.specs.Prelude.{◌≡◌, ℕ, Bool, true, false, List, Option, Some, None, Result, Ok, Err}
 use Rattle.std.specs.Option.{option_map, OnSome}
 use Rattle.basic_values.specs.declared.failures.NoMemory.{NoMemory}
@@ -38,22 +38,23 @@ low_session program s = record {
   stop = option_map (low_leaving program) s.stop;
 }
 
--- a STOP is one of the program in memory, which is not refused
+-- a STOP is one of the program in memory, which is not rejected
 abbrev pub StopFits : Program → talk.Session Position → Type 0
 StopFits program s = OnSome s.stop ((program ≡ program_by judge_of s.lines) × (refusal_of program ≡ None))
 
--- the code's session stands for this one: its places are those of the program that ran last
+-- the code's session represents this one: its places are those of the program that ran last
 pub record Stands (session : Session) (s : talk.Session Position) : Type 0 where
   pub program : Program
   pub low : low_session program s ≡ seen session
   pub fits : StopFits program s
 
--- what is left behind an answer: onward in a session for which the code's stands; where memory ran out nothing is told
+-- what is left after an answer: onward, in a session that the code's represents; if memory ran out,
+-- nothing is claimed
 abbrev pub LeftBy : Session → Result AfterLine NoMemory → Option (ℕ → Step Position) → Type 0
 LeftBy session (Ok onward) left = (t : talk.Session Position) × Stands session t × (left ≡ Some (λ most. goes onward t))
 LeftBy session (Err e) left = left ≡ None
 
--- a call follows what is to be done, up to what is left
+-- a call executes what is to be done, up to what is left
 pub record Serves {P W : Type 0} (who : P → W) (log : P → List Event) (old new : P) (c d : Clock)
     (step : ℕ → Step Position) (session : Session) (result : Result AfterLine NoMemory) : Type 0 where
   pub left : Option (ℕ → Step Position)
@@ -65,7 +66,7 @@ abbrev pub is_gone : Exit → Bool
 is_gone exit.Gone = true
 is_gone other = false
 
--- what the end of a run leads to, in the state that it left; where memory ran out nothing is told
+-- what the end of a run leads to, in the state that it left; if memory ran out, nothing is claimed
 abbrev pub run_ends : Trouble Exit → talk.Session Spot → Option (Step Spot)
 run_ends (trouble.Refused why) s = Some (outlived (run_is_over s) s (break_of why) s.job)
 run_ends trouble.NoMemory s = None

@@ -41,17 +41,17 @@ use monitor_calls::{Account, Port, Short};
 use program_files::read_pages;
 use std::alloc::Global;
 
-/// Where what runs programs has come.
+/// What a call that runs programs has reached.
 #[derive(Clone, Copy)]
 pub(crate) enum Reached {
-    /// To the end of a program that ran.
+    /// The end of a program that ran.
     End(Exit),
     /// No program runs any more.
     Over(AfterLine),
 }
 
 impl Session {
-    /// What is done where a run has come: at a CHAIN the next program runs.
+    /// Does what follows the end of a run: after a CHAIN the next program runs.
     pub(crate) fn follow_chains<P: Port>(
         &mut self,
         alloc: Global,
@@ -73,8 +73,8 @@ impl Session {
         }
     }
 
-    /// One chain: the program that is named is read and begins, or the one that ran goes on with an
-    /// error.
+    /// Does one chain: reads and begins the program that is named, or continues the one that ran
+    /// with an error.
     fn follow_chain<P: Port>(
         &mut self,
         alloc: Global,
@@ -98,7 +98,7 @@ impl Session {
         }
     }
 
-    /// The program that was read comes into memory, and begins.
+    /// Puts the program that was read into memory, and begins it.
     fn chain_to<P: Port>(
         &mut self,
         alloc: Global,
@@ -119,7 +119,7 @@ impl Session {
         self.start(alloc, line, clock, port)
     }
 
-    /// The program goes on with an error of its CHAIN. It ran, so it is not refused.
+    /// Continues the program with an error of its CHAIN. It ran, so it is not rejected.
     fn raise_fault<P: Port>(
         &mut self,
         alloc: Global,
@@ -141,7 +141,7 @@ impl Session {
         }
     }
 
-    /// The end of a run, where memory may have run out.
+    /// Ends a run, unless memory ran out.
     fn end_run_at(&mut self, end: Trouble<Exit>) -> Result<AfterLine, NoMemory>
         ensures { IfOk result (λ onward.
             run_ends end (seen self.old) ≡ Some (goes onward (seen self.new))) }
@@ -152,7 +152,7 @@ impl Session {
         }
     }
 
-    /// Its report, the STOP for CONT, and Ready.
+    /// Writes its report, keeps the STOP for CONT, and writes Ready.
     #[tactic(auto, using(crate::proofs::Lows::outlived))]
     fn end_run(&mut self, why: Exit) -> Result<AfterLine, NoMemory>
         ensures { IfOk result (λ onward.
@@ -169,7 +169,7 @@ impl Session {
         Ok(AfterLine::Next)
     }
 
-    /// The end of a line of immediate mode. Where it chains, the next program begins.
+    /// Ends a line of immediate mode. If it chains, the next program begins.
     pub(crate) fn end_line<P: Port>(
         &mut self,
         alloc: Global,
@@ -197,7 +197,7 @@ impl Session {
         }
     }
 
-    /// The program that a line of immediate mode names is read and begins, or an error is reported.
+    /// Reads and begins the program that a line of immediate mode names, or reports an error.
     fn chain_from_line<P: Port>(
         &mut self,
         alloc: Global,
@@ -219,7 +219,7 @@ impl Session {
         }
     }
 
-    /// The end of a line of immediate mode that chains to nothing, where memory may have run out.
+    /// Ends a line of immediate mode that does not chain, unless memory ran out.
     fn end_line_at(&mut self, end: Trouble<Exit>) -> Result<AfterLine, NoMemory>
         ensures { IfOk result (λ onward.
             line_ends end (seen self.old) ≡ Some (goes onward (seen self.new))) }
@@ -230,7 +230,7 @@ impl Session {
         }
     }
 
-    /// Its report, and Ready.
+    /// Writes its report, and Ready.
     #[tactic(auto, using(crate::proofs::Lows::outlived))]
     fn end_line_by(&mut self, why: Exit) -> Result<AfterLine, NoMemory>
         ensures { IfOk result (λ onward.
@@ -245,8 +245,8 @@ impl Session {
     }
 }
 
-/// Where a run has come. Where it left the body of a function that was not called, that is an end
-/// as any other.
+/// Returns what a run has reached. A body that was left without a call counts as the end of the
+/// program.
 pub(crate) fn ran_to(end: Result<(), Trouble<Exit>>) -> Result<Reached, NoMemory>
     ensures ok { IfOk result (IsReached end) }
     ensures memory { OnErr result (end ≡ Err trouble.NoMemory) }
@@ -258,7 +258,7 @@ pub(crate) fn ran_to(end: Result<(), Trouble<Exit>>) -> Result<Reached, NoMemory
     }
 }
 
-/// No program ran.
+/// Returns that no program ran.
 pub(crate) fn none_ran(done: Result<AfterLine, NoMemory>) -> Result<Reached, NoMemory>
     ensures { IsOver done result }
 {
@@ -268,7 +268,7 @@ pub(crate) fn none_ran(done: Result<AfterLine, NoMemory>) -> Result<Reached, NoM
     }
 }
 
-/// Whether a run has come to a CHAIN.
+/// Returns whether a run has reached a CHAIN.
 fn is_chain(at: &Reached) -> bool
     ensures { result ≡ is_chain at.now }
 {
@@ -278,7 +278,7 @@ fn is_chain(at: &Reached) -> bool
     }
 }
 
-/// The program that a text names, with its name.
+/// Reads the program that the bytes name, and returns it with its name.
 fn read_program<P: Port>(
     alloc: Global,
     own: Account,
@@ -294,7 +294,7 @@ fn read_program<P: Port>(
     }
 }
 
-/// The program in a file, with its name.
+/// Reads the program in a file, and returns it with its name.
 fn read_file<P: Port>(
     alloc: Global,
     spec: &Spec,
@@ -310,7 +310,7 @@ fn read_file<P: Port>(
     }
 }
 
-/// Whether the job's calls are used up.
+/// Returns whether the job's calls are used up.
 fn is_gone(why: &Exit) -> bool
     ensures { result ≡ is_gone why.now }
 {
@@ -320,7 +320,7 @@ fn is_gone(why: &Exit) -> bool
     }
 }
 
-/// Where CONT goes on: behind a STOP, and behind no other end.
+/// Returns the place at which CONT continues: after a STOP, and after no other end.
 fn stop_by(why: &Exit) -> Option<Stop>
     ensures { option_map leaving_of result ≡ stop_by (break_of why.now) }
 {

@@ -17,7 +17,7 @@ use program_files::{assign_printer, deassign_printer, print_file};
 use std::alloc::Global;
 
 impl Session {
-    /// ASSIGN LP:.
+    /// Assigns the printer to the job. The manual's ASSIGN LP:.
     pub(crate) fn assign<P: Port>(
         &mut self,
         alloc: Global,
@@ -33,7 +33,7 @@ impl Session {
         }
     }
 
-    /// DEASSIGN LP:.
+    /// Releases the printer. The manual's DEASSIGN LP:.
     pub(crate) fn deassign<P: Port>(
         &mut self,
         alloc: Global,
@@ -49,7 +49,7 @@ impl Session {
         }
     }
 
-    /// QUE.
+    /// Prints a file. The manual's QUE.
     pub(crate) fn queue<P: Port>(
         &mut self,
         alloc: Global,
@@ -67,7 +67,7 @@ impl Session {
         }
     }
 
-    /// QUE of the file that is named.
+    /// Does QUE of the file that is named.
     fn print<P: Port>(
         &mut self,
         alloc: Global,
@@ -85,14 +85,14 @@ impl Session {
     }
 }
 
-/// The file that is to be printed, or the error that refuses its name.
+/// Returns the file that is to be printed, or the error of its name.
 fn listed_spec(own: Account, text: &[u8]) -> Result<Spec, Fault>
     ensures { result ≡ listed_spec own text.now }
 {
     parse_spec(text, own, &listing_extension())
 }
 
-/// The extension of listings.
+/// Returns the extension of files to be printed.
 fn listing_extension() -> Short
     ensures { result ≡ listing_extension }
 {

@@ -39,11 +39,11 @@ use program_model::{LowerCause, LowerRefusal};
 use program_soundness::can_begin;
 use std::alloc::Global;
 
-/// The answer to CONT where no STOP is kept.
+/// The answer to CONT if no STOP is kept.
 const CANT_CONTINUE: &[u8] = b"?Can't continue\r\n";
 
 impl Session {
-    /// RUN and RUNNH.
+    /// Runs the program in memory. The manual's RUN and RUNNH.
     pub(crate) fn run_program<P: Port>(
         &mut self,
         alloc: Global,
@@ -61,8 +61,7 @@ impl Session {
         self.follow_chains(alloc, reached, clock, port)
     }
 
-    /// The program in memory begins, at the line that is wanted or at its first, behind the closing
-    /// of all channels.
+    /// Closes all channels, and begins the program in memory, at the given line or at its first.
     pub(crate) fn start<P: Port>(
         &mut self,
         alloc: Global,
@@ -82,7 +81,7 @@ impl Session {
         }
     }
 
-    /// The same, behind the closing.
+    /// Does the same after the closing.
     fn start_shut<P: Port>(
         &mut self,
         alloc: Global,
@@ -104,7 +103,7 @@ impl Session {
         }
     }
 
-    /// It is not refused, and begins where it can.
+    /// Begins a program that is not rejected, if it can begin there.
     fn start_code<P: Port>(
         &mut self,
         alloc: Global,
@@ -135,7 +134,7 @@ impl Session {
         ))
     }
 
-    /// What a program finds that begins.
+    /// Sets the state in which a program begins.
     fn begin_run(&mut self, alloc: Global) -> Result<(), NoMemory>
         ensures { (s : talk.Session Position) → Stands self.old s
             → OnOk result (low_session (program_by judge_of s.lines)
@@ -146,7 +145,7 @@ impl Session {
         clear(&mut self.running, loops)
     }
 
-    /// RUN with a name.
+    /// Does RUN with a name.
     pub(crate) fn run_file<P: Port>(
         &mut self,
         alloc: Global,
@@ -168,7 +167,7 @@ impl Session {
         }
     }
 
-    /// A program is read, and runs.
+    /// Reads a program, and runs it.
     fn read_and_run<P: Port>(
         &mut self,
         alloc: Global,
@@ -186,7 +185,7 @@ impl Session {
         }
     }
 
-    /// The program on these pages comes into memory, and runs.
+    /// Puts the program on these pages into memory, and runs it.
     fn run_pages<P: Port>(
         &mut self,
         alloc: Global,
@@ -210,7 +209,7 @@ impl Session {
         }
     }
 
-    /// CONT.
+    /// Continues the program after a STOP. The manual's CONT.
     pub(crate) fn continue_program<P: Port>(
         &mut self,
         alloc: Global,
@@ -228,7 +227,8 @@ impl Session {
         }
     }
 
-    /// The program goes on behind a STOP. Its text is that which was stopped, so it is not refused.
+    /// Continues the program after a STOP. It is the program that was stopped, so it is not
+    /// rejected.
     fn continue_behind<P: Port>(
         &mut self,
         alloc: Global,
@@ -253,7 +253,7 @@ impl Session {
         }
     }
 
-    /// A line of immediate mode.
+    /// Does a line of immediate mode.
     pub(crate) fn run_statement<P: Port>(
         &mut self,
         alloc: Global,
@@ -273,7 +273,7 @@ impl Session {
         }
     }
 
-    /// It has a tree.
+    /// Does a line that has a tree.
     fn do_line<P: Port>(
         &mut self,
         alloc: Global,
@@ -296,7 +296,7 @@ impl Session {
         }
     }
 
-    /// What is written at an end, and Ready.
+    /// Writes the report of an end, and Ready.
     pub(crate) fn report(&mut self, why: Exit) -> Result<(), NoMemory>
         ensures { OnOk result (seen self.new
             ≡ reported (seen self.old) (break_of why) (seen self.old).job) }
@@ -314,7 +314,7 @@ impl Session {
     }
 }
 
-/// The refusal of a line at which the program cannot begin.
+/// Returns the rejection for a line at which the program cannot begin.
 fn no_line(line: Option<u16>) -> LowerRefusal
     ensures { result ≡ no_line line }
 {

@@ -1,9 +1,10 @@
-//! The session of one terminal: its key lines, the requests that they make, and its screen.
+//! The session of one terminal: its key lines, its requests, and its screen.
 //!
-//! It stands on what a key line asks for (`commands`), on the runs of programs (`programs`), and on
-//! a port to a monitor. Each method is the code of one act of `session_model`'s `Talk`. Where it
-//! runs no program it is told with the places of the code, and where it runs one of the session for
-//! which the code's stands. `serve` carries the promise of all of it: the session is the talk.
+//! It uses what a key line asks for (`commands`), the runs of programs (`programs`), and a port to
+//! a monitor. Each method implements one tree of `session_model`'s `Talk`. The contract of a method
+//! that runs no program is about the session with the places of the code. That of a method that
+//! runs one is about the session that the code's represents. `serve` has the promise of all of it:
+//! its requests and its screen are those of the session's behaviour.
 
 ghost use Rattle.std.specs.Prelude.{◌≡◌, ◌≤◌, ℕ, List, length, IfOk, OnOk, OnErr};
 ghost use Rattle.monitor_calls.specs.declared.events.Event.{Event};
@@ -41,13 +42,13 @@ use terminal_line::Screen;
 /// The answer to a command with a wrong tail.
 pub(crate) const ILLEGAL_COMMAND: &[u8] = b"?Illegal command\r\n";
 
-/// What stands for an account before a login.
+/// The account of a job before a login.
 const NO_ACCOUNT: Account = Account {
     project: 0,
     programmer: 0,
 };
 
-/// Whether the session goes on behind a line.
+/// Whether the session continues after a line.
 #[derive(Clone, Copy)]
 pub(crate) enum AfterLine {
     Next,
@@ -57,8 +58,8 @@ pub(crate) enum AfterLine {
     Expired,
 }
 
-/// What is kept from line to line: the account that the session acts for, if it is logged in, the
-/// program in memory, and what its programs keep, with the screen.
+/// The state from line to line: the account that the session acts for, if it is logged in, the
+/// program in memory, the state of its programs, and the screen.
 #[derive(Drop)]
 pub(crate) struct Session {
     pub(crate) account: Option<Account>,
@@ -66,18 +67,19 @@ pub(crate) struct Session {
     pub(crate) name: Option<Short>,
     pub(crate) text: ProgramText,
     pub(crate) running: Running,
-    /// Where CONT goes on.
+    /// The place at which CONT continues.
     pub(crate) stop: Option<Stop>,
 }
 
 /// Runs the session of a terminal and returns what it shows at its end. Key lines and replies come
 /// through the port. After 2^64 - 1 key lines the session stops as if memory had run out.
 pub fn serve<P: Port>(alloc: Global, port: &mut P) -> Result<Screen, NoMemory>
-    // The requests and the screen are those of the talk, whose lines the grammar judges.
+    // The requests and the screen are those of the session's behaviour, whose lines the grammar
+    // judges.
     ensures talk { IfOk result (λ screen. (events : List Event)
         × Grew P.who P.log port.old port.new events
         × IsTalkOf events screen) }
-    // What was asked begins what the talk asks.
+    // The requests are the first ones of that behaviour.
     ensures memory { OnErr result ((events : List Event)
         × Grew P.who P.log port.old port.new events
         × BeginsTalkOf events) }
@@ -97,7 +99,7 @@ pub fn serve<P: Port>(alloc: Global, port: &mut P) -> Result<Screen, NoMemory>
     Err(NoMemory)
 }
 
-/// A session that nobody has logged in to.
+/// Returns a session without a login.
 fn begin(alloc: Global) -> Result<Session, NoMemory>
     ensures { IfOk result (λ session. seen session ≡ talk.opening) }
 {
@@ -111,7 +113,7 @@ fn begin(alloc: Global) -> Result<Session, NoMemory>
     })
 }
 
-/// A job that has run nothing.
+/// Returns a job that has run nothing.
 fn at_rest(alloc: Global) -> Result<Running, NoMemory>
     ensures { IfOk result (λ running. acting.seen running ≡ new_job) }
 {
@@ -141,7 +143,7 @@ fn at_rest(alloc: Global) -> Result<Running, NoMemory>
 
 impl Session {
     /// Shows the screen, waits for the next key line, and does what it asks for. At the end of the
-    /// keys the session is left.
+    /// keys it leaves the session.
     fn turn<P: Port>(
         &mut self,
         alloc: Global,
@@ -162,7 +164,7 @@ impl Session {
         }
     }
 
-    /// One key line: its echo, and what it asks for.
+    /// Takes one key line: writes its echo, and does what it asks for.
     fn take_line<P: Port>(
         &mut self,
         alloc: Global,
@@ -183,7 +185,7 @@ impl Session {
         }
     }
 
-    /// What a command does before the login.
+    /// Does a command before the login.
     #[tactic(auto, using(crate::proofs::SessionLemmas::calls))]
     fn visitor_acts<P: Port>(
         &mut self,
@@ -206,7 +208,7 @@ impl Session {
         }
     }
 
-    /// What a command does behind the login.
+    /// Does a command after the login.
     fn user_acts<P: Port>(
         &mut self,
         alloc: Global,
@@ -229,7 +231,7 @@ impl Session {
         }
     }
 
-    /// What runs no program.
+    /// Does a command that runs no program.
     #[tactic(auto, using(crate::proofs::SessionLemmas::calls))]
     fn rest<P: Port>(
         &mut self,
@@ -272,7 +274,7 @@ impl Session {
         }
     }
 
-    /// Writes a command's text, and Ready at the start of a line.
+    /// Writes a command's message, and Ready at the start of a line.
     pub(crate) fn answer(&mut self, text: &[u8]) -> Result<AfterLine, NoMemory>
         ensures { IfOk result (λ onward.
             answered text.now (seen self.old)
@@ -302,7 +304,7 @@ impl Session {
         self.running.screen.begin_line(b"Ready\r\n")
     }
 
-    /// What the session shows.
+    /// Returns what the session shows.
     fn into_screen(self) -> Screen
         ensures { result ≡ (seen self).job.screen }
     {
@@ -317,7 +319,7 @@ impl Session {
         write_used_up(&mut self.running.screen)
     }
 
-    /// HELLO: a wrong form and a wrong login have one answer.
+    /// Logs in. The manual's HELLO. A wrong form and a wrong login have the same answer.
     #[tactic(auto, using(crate::proofs::SessionLemmas::calls))]
     fn hello<P: Port>(
         &mut self,
@@ -346,7 +348,7 @@ impl Session {
         }
     }
 
-    /// What the reply to a login leads to. A reply that is none to it counts as Expired.
+    /// Does what the reply to a login leads to. A reply that does not fit it counts as Expired.
     fn enter(&mut self, account: Account, reply: &Reply) -> Result<AfterLine, NoMemory>
         ensures { IfOk result (λ onward. (password : List ℕ) →
             entered account (counts_as (request.Login account password) reply.now) (seen self.old)
@@ -367,8 +369,7 @@ impl Session {
         }
     }
 
-    /// BYE, and the end of the keys, behind the login. Whatever is replied to a logout counts as
-    /// Done.
+    /// Logs out, at BYE or at the end of the keys. Whatever is replied to a logout counts as Done.
     #[tactic(auto, using(crate::proofs::SessionLemmas::calls))]
     fn log_out<P: Port>(&mut self, alloc: Global, port: &mut P) -> Result<(), NoMemory>
         ensures { (clock : play.Clock) → Follows P.who P.log port.old port.new clock clock
@@ -380,7 +381,7 @@ impl Session {
         Ok(())
     }
 
-    /// The end of the keys.
+    /// Leaves the session at the end of the keys.
     #[tactic(auto, using(crate::proofs::SessionLemmas::calls))]
     fn leave<P: Port>(&mut self, alloc: Global, port: &mut P) -> Result<(), NoMemory>
         ensures { (clock : play.Clock) → Follows P.who P.log port.old port.new clock clock

@@ -2,12 +2,14 @@
 
 ghost use Rattle.error_trap.specs.Laws.{ResumeLeadsBack, HandlersAreNotTrapped};
 
-/// RESUME leads back to the statement whose error was trapped, and ERR and ERL keep their values.
+/// States that RESUME leads back to the statement whose error was trapped, and ERR and ERL keep
+/// their values.
 pub fn resume_leads_back()
     ensures { ResumeLeadsBack }
 {}
 
-/// An error that occurs while another is being handled is reported, and the trap keeps the first.
+/// States that an error that occurs while another is being handled is reported, and the trap keeps
+/// the first.
 pub fn handlers_are_not_trapped()
     ensures { HandlersAreNotTrapped }
 {}

@@ -5,7 +5,7 @@ ghost use Rattle.error_trap.specs.Trapping.{untouched, raised, resumed, handled_
 
 use basic_values::{Fault, Halt};
 
-/// A job's trap. Lines are those of the program, and a place is one of its code at main level.
+/// A job's trap. Lines are those of the program, and a place is one of its code at top level.
 #[derive(Clone, Copy)]
 pub struct Trap {
     /// The line to which an error goes, if ON ERROR set one.
@@ -16,11 +16,11 @@ pub struct Trap {
     pub number: u8,
     /// The line of the statement in which it occurred: the manual's ERL.
     pub line: u16,
-    /// The start of the statement at main level that was running then.
+    /// The start of the statement at top level that was running then.
     pub place: u32,
 }
 
-/// Where an error leads: to the handler's line, or to the report that ends the program.
+/// What an error leads to: to the handler's line, or to the report that ends the program.
 #[derive(Clone, Copy)]
 pub enum Raised {
     Handle(u16),

@@ -1,5 +1,5 @@
--- The first of some levels that is too deep: there is one only if not all are within the limit, and
--- none before it is too deep.
+-- The first of some nesting levels that is too deep. There is one only if not all are within the
+-- limit, and none before it is too deep.
 use Rattle.std.proofs.Common.{subst, ◌≡◌, ℕ, suc, ◌<◌, ◌≤◌, Bool, true, false, All, List, [], ◌∷◌, take, get_or, Option, Some, None, refl, sym, ◌∙◌, arith}
 use Rattle.std.specs.Prelude.{nat_lt, position}
 use Rattle.std.proofs.lemmas.Grind.{common_steps}

@@ -32,7 +32,7 @@ is_tree w x u s =
     let e = s.2 ∙ ap (λ y. steps_of s.0 ++ y) s.4.0 ∙ append-nil (steps_of s.0) in
     (s.0, e, record { tree = s.3.tree; kind = s.3.kind; spelling = ap (λ y. words y) e }, s.4.1)
 
--- it ends the levels that it opens
+-- it ends the nesting levels that it opens
 pub expression_nests : (w : Want) → Nests (wanted w) []
 expression_nests w x u s =
     let i = is_tree w x u s in
@@ -60,7 +60,7 @@ limit_behind w ws from k o le inside h l not_deep =
     let e : drop (k - from) (drop from ws) ≡ drop k ws = drop_between ws from k le in
     limit_there (ExprWhole w) (wanted w) [] (reads_expression w) (drop from ws) (k - from) o (inside_between ws from k inside) h (l ∙ sym e) (λ d. not_deep (d ∙ ap (λ (x : List Word). Err (TooDeep x)) e))
 
--- the words that were passed are those of the tree, however many levels are left
+-- the words that were passed are those of the tree, however many nesting levels are left
 pub last_taken : (w : Want) (ws : List Word) (n from k : ℕ) (t : Tree) → from ≤ k → k ≤ length ws → run n (drop from ws) (wanted w) [] ≡ Ok (Term t ∷ [], drop k ws) → between ws from k ≡ words (steps_of t)
 last_taken w ws n from k t le inside h =
     let f = finished (between ws from k) (drop k ws) n (wanted w) [] (Term t ∷ []) (at_cut w ws from k (Ok (Term t ∷ [], drop k ws)) n le h) in

@@ -22,7 +22,7 @@ use Rattle.grammar_machine.proofs.FormStatements.{made_of}
 
 -- ---- LET
 
--- the words of an expression do not depend on the kind that is wanted
+-- the words of an expression do not depend on the kind that is expected
 other_want : {e d b : Bool} {f : Form} {w u : Want} {t : Tree} {ps : List WordPiece} {v : Value} → Reads e d f (Holds b ∷ Expression w t ∷ ps) v → Reads e d f (Holds b ∷ Expression u t ∷ ps) v
 other_want a = record { bound = a.bound; by = a.by }
 

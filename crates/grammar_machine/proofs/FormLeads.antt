@@ -31,7 +31,7 @@ abbrev pub Ending : Bool → List Word → Type 0
 Ending e [] = Unit {0}
 Ending e (t ∷ ts) = word_ends e t ≡ true
 
--- with enough levels left, the words of these steps lead from the form to the value
+-- with enough nesting levels left, the words of these steps lead from the form to the value
 pub record FormLeads (e : Bool) (f : Form) (p : List LevelStep) (v : Value) : Type 0 where
   pub bound : ℕ
   pub by : (n : ℕ) → bound ≤ n → (r : List Word) (k : List Symbol) (vs : Values) → Ending e r → run n (words p ++ r) (Go f ∷ k) vs ≡ run n r k (v ∷ vs)

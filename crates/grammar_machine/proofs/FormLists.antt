@@ -22,11 +22,11 @@ abbrev pub each_item : {A : Type 0} → (A → Item) → List A → List Item
 each_item item [] = []
 each_item item (a ∷ more) = item a ∷ each_item item more
 
--- the form of an element reads its pieces, if the test holds of what follows
+-- the form of an element reads its pieces, if the test is true of what follows
 abbrev pub ReadsOne : {A : Type 0} → Bool → Bool → Value → Sequence → (A → List WordPiece) → (A → Item) → (List WordPiece → Bool) → Type 0
 ReadsOne {A = A} e d v s pieces item fit = (a : A) (h : Item → Form) (ps : List WordPiece) → ArePieces (pieces a) → ArePieces ps → fit ps ≡ true → Reads e d (h (item a)) ps v → Reads e d (item_form s h) (pieces a ++ ps) v
 
--- a list has room for this many elements
+-- a list can take this many more elements
 abbrev pub HasRoom : Sequence → ℕ → Type 0
 HasRoom s limit = (items : List Item) → length items < limit → has_room s items ≡ true
 

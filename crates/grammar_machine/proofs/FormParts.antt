@@ -52,7 +52,7 @@ read_not_key {c = c} {ps = ps} b i a = record { bound = a.bound; by = λ n h r k
 pub read_not_sign : {e d : Bool} {o : Bool} {s : Sign} {f g : Form} {ps : List WordPiece} {v : Value} → absent (Punctuation s) ps ≡ true → ArePieces ps → Reads e d g ps v → Reads e d (IfSign o s f g) ps v
 read_not_sign {s = s} {ps = ps} b i a = record { bound = a.bound; by = λ n h r k vs x. if_sign_not n _ _ _ _ _ k vs (absent_first _ (Punctuation s) ps r b i x) ∙ a.by n h r k vs x }
 
--- a parenthesis opens a level, which ends after it
+-- a parenthesis opens a nesting level, which ends after it
 opened_by : {e : Bool} {f : Form} {ps : List WordPiece} {v : Value} (a : Reads e true f ps v) (s : Sign) (n : ℕ) → suc a.bound ≤ n → (r : List Word) (k : List Symbol) (vs : Values) → Ending e r → run n (Punctuation s ∷ (words (pieces_steps ps) ++ r)) (Go (TakeSign true s f) ∷ k) vs ≡ run n r k (v ∷ vs)
 opened_by a s zero h r k vs x = absurd (omega (arith, h))
 opened_by a s (suc n) h r k vs x = sign_opened n s _ _ k vs ∙ a.by n (omega (arith, h)) r k vs x

@@ -21,13 +21,13 @@ use Rattle.grammar_machine.proofs.MachineComplete.{small}
 use Rattle.grammar_machine.proofs.FormLeads.{word_ends, Ending, FormLeads}
 use Rattle.grammar_machine.proofs.FormWords.{is_word, is_other_word}
 
--- the levels that are left, and one more if a level ends
+-- the nesting levels that are left, and one more if a nesting level ends
 abbrev pub raised : Bool → ℕ → ℕ
 raised false n = n
 raised true n = suc n
 
--- with enough levels left, the words of these pieces lead from the form to the value; at most one
--- level ends in them
+-- with enough nesting levels left, the words of these pieces lead from the form to the value; at
+-- most one nesting level ends in them
 pub record Reads (e ends : Bool) (f : Form) (ps : List WordPiece) (v : Value) : Type 0 where
   pub bound : ℕ
   pub by : (n : ℕ) → bound ≤ n → (r : List Word) (k : List Symbol) (vs : Values) → Ending e r → run n (words (pieces_steps ps) ++ r) (Go f ∷ k) vs ≡ run (raised ends n) r k (v ∷ vs)

@@ -37,8 +37,8 @@ pub read_range : {e d : Bool} {x : Value} (g : Name → Tree → Tree → Option
 read_range g v start limit None a h = read_name a.0 (read_sign (read_expr a.1.1.0 refl (read_key (read_expr a.1.1.1.1.0 refl (read_not_key refl tt h)))))
 read_range g v start limit (Some step) a h = read_name a.0 (read_sign (read_expr a.1.1.0 refl (read_key (read_expr a.1.1.1.1.0 refl (read_if_key (read_expr a.1.1.1.1.1.1.0 refl h))))))
 
--- a modifier begins with a known word; its level opens with that word, and does not end in the
--- modifier
+-- a modifier begins with a known word; its nesting level opens with that word, and does not end in
+-- the modifier
 pub record ModifierBegun (m : ModifierTree) : Type 0 where
   pub word : Word
   pub rest : List Word

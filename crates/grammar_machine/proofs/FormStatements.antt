@@ -24,7 +24,7 @@ use Rattle.grammar_machine.proofs.PieceLists.{pieces_split}
 use Rattle.grammar_machine.proofs.FormLists.{read_last_list, targets_back, one_target}
 use Rattle.grammar_machine.proofs.FormSimple.{Begun, begun_as}
 
--- what holds for the elements of a list, holds for the list
+-- what is true of the elements of a list is true of the list
 pub made_of : {A : Type 0} {e : Bool} (s : A → StatementTree) (a b : A) → a ≡ b → Reads e false (says (s a)) [] (Stated (s b))
 made_of {e = e} s a b h = subst (λ x. Reads e false (says (s a)) [] (Stated (s x))) h read_made
 

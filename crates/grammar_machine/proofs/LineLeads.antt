@@ -81,9 +81,9 @@ modifier_word_ends t = refl
 pub modifier_ends : (t : Word) (ts : List Word) (f : Form) → modifier_of t ≡ Some f → Ending true (t ∷ ts)
 modifier_ends t ts f e = rw e at (modifier_word_ends t)
 
--- ---- the levels that modifiers open
+-- ---- the nesting levels that modifiers open
 
--- the levels left before the statement, if this many are left after its last modifier
+-- the nesting levels left before the statement, if this many are left after its last modifier
 abbrev pub levels_before : StatementTree → ℕ → ℕ
 levels_before (Modified s m) n = levels_before s (suc n)
 levels_before other n = n
@@ -92,7 +92,7 @@ abbrev pub modifier_count : StatementTree → ℕ
 modifier_count (Modified s m) = suc (modifier_count s)
 modifier_count other = 0
 
--- the ends of those levels
+-- the ends of those nesting levels
 abbrev pub closes : StatementTree → List Symbol → List Symbol
 closes (Modified s m) k = Close ∷ closes s k
 closes other k = k
@@ -105,7 +105,7 @@ run_closes : (s : StatementTree) (n : ℕ) (r : List Word) (k : List Symbol) (vs
 run_closes (Modified s m) n r k vs = run_close n r (closes s k) vs ∙ run_closes s (suc n) r k vs
 run_closes s n r k vs = refl
 
--- the ends of levels have no words
+-- the ends of nesting levels have no words
 pub closings_words : (s : StatementTree) → words (pieces_steps (closings s)) ≡ []
 closings_words (Modified s m) = closings_words s
 closings_words s = refl
@@ -132,7 +132,7 @@ one_modifier m d s n le r k vs e =
 modifier_behind : (m : ModifierTree) (d : ModifierBegun m) (r : List Word) → Ending true (words (pieces_steps (modifier m)) ++ r)
 modifier_behind m d r = subst (λ x. Ending true (x ++ r)) (sym d.spelled) (modifier_ends d.word (d.rest ++ r) d.form d.known)
 
--- a statement that may have modifiers, up to where the levels of its modifiers end
+-- a statement that may have modifiers, up to where the nesting levels of its modifiers end
 pub record BegunModified (s : StatementTree) : Type 0 where
   pub word : Word
   pub rest : List Word

@@ -1,4 +1,4 @@
--- Every line ends exactly the levels that it opens: proved by its pieces.
+-- Every line ends exactly the nesting levels that it opens: proved by its pieces.
 use Rattle.std.proofs.Common.{subst, ◌≡◌, ℕ, suc, Bool, true, false, List, [], ◌∷◌, ◌++◌, Option, Some, None, refl, sym, append_assoc}
 use Rattle.std.proofs.lemmas.List.{append-nil}
 use Rattle.basic_tree.specs.declared.names.Name.{Name}
@@ -21,7 +21,7 @@ use Rattle.basic_tree.specs.SpellingStatements.{line_steps, closings, go, items,
 use Rattle.grammar_machine.proofs.MachineLevels.{Above, tree_above}
 use Rattle.grammar_machine.proofs.MachineReads.{place_pieces, separated}
 
--- the pieces lead from this many open levels to that many
+-- the pieces lead from this many open nesting levels to that many
 abbrev pub Rises : ℕ → List WordPiece → ℕ → Type 0
 Rises d [] e = d ≡ e
 Rises d (Fixed (Plain w) ∷ ps) e = Rises d ps e
@@ -32,7 +32,7 @@ Rises d (NameOf w n ∷ ps) e = Rises d ps e
 Rises d (LiteralOf b n ∷ ps) e = Rises d ps e
 Rises d (Holds b ∷ ps) e = Rises d ps e
 
--- the pieces end the levels that they open
+-- the pieces end the nesting levels that they open
 abbrev pub Balanced : List WordPiece → Type 0
 Balanced ps = (d : ℕ) → Rises d ps d
 
@@ -117,7 +117,7 @@ matrix_level m = λ d. refl
 prompt_level : (p : PromptTree) → Balanced (prompt p)
 prompt_level p = separator_level p.separator
 
--- a modifier opens a level and does not end it
+-- a modifier opens a nesting level and does not end it
 pub modifier_rises : (m : ModifierTree) (d : ℕ) → Rises d (modifier m) (suc d)
 modifier_rises (If t) d = refl
 modifier_rises (Unless t) d = refl
@@ -153,13 +153,13 @@ items_level (item ∷ more) = each_level (λ i. Fixed (Plain (Item i)) ∷ []) (
 
 -- ---- statements
 
--- the number of levels that are open after a statement's last modifier, if this many are open
--- before it
+-- the number of nesting levels that are open after a statement's last modifier, if this many are
+-- open before it
 abbrev pub raised : StatementTree → ℕ → ℕ
 raised (Modified s m) d = suc (raised s d)
 raised other d = d
 
--- the ends of its modifiers' levels
+-- the ends of its modifiers' nesting levels
 pub closings_rise : (s : StatementTree) (d : ℕ) → Rises (raised s d) (closings s) d
 closings_rise (Modified s m) d = (raised s d, refl, closings_rise s d)
 closings_rise s d = refl

@@ -1,4 +1,4 @@
--- Every statement is one without modifiers, followed by its modifiers in order.
+-- Every statement is one without modifiers, and then its modifiers in order.
 use Rattle.std.proofs.Common.{◌≡◌, false, List, [], ◌∷◌, ◌++◌, refl, ap, ◌∙◌, append_assoc}
 use Rattle.std.proofs.lemmas.List.{append-nil}
 use Rattle.basic_tree.specs.SpellingWords.{LevelStep, Closes}
@@ -16,7 +16,7 @@ MayHave s [] = Unit {0}
 MayHave s (m ∷ ms) = (is_if s ≡ false) × (is_head s ≡ false)
 
 -- with these modifiers after it, the statement is this one; closed: the steps with all ends of
--- levels
+-- nesting levels
 pub record Unmodified (s : StatementTree) (closed : List LevelStep) : Type 0 where
   pub base : StatementTree
   pub modifiers : List ModifierTree

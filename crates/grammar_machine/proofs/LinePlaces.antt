@@ -15,7 +15,8 @@ use Rattle.grammar_machine.proofs.MachinePlaces.{values}
 use Rattle.grammar_machine.proofs.MachineStops.{Nests, finished, finished_flat, TakesWhole, none_at_end}
 use Rattle.grammar_machine.proofs.WholePlaces.{AnyWhole, ReadsWhole, at_place, flat_there, limit_there, deep_there}
 
--- what is expected spells only lines, and the machine takes each line if enough levels are left
+-- what is expected spells only lines, and the machine takes each line if enough nesting levels are
+-- left
 pub record ReadsLines (s : List Symbol) (vs : Values) (made : LineTree → Values) : Type 0 where
   pub spells : (x : List LevelStep) (u : Values) → Spelled s vs x u → (l : LineTree) × (x ≡ line_steps l) × IsLine (words x) l × (made l ≡ u)
   pub takes : (ws : List Word) (l : LineTree) → IsLine ws l → (d : ℕ) × ((n : ℕ) → d ≤ n → run n ws s vs ≡ Ok (made l, []))
@@ -47,7 +48,7 @@ module _ (s : List Symbol) (vs : Values) (made : LineTree → Values) (reads : R
 
   -- ---- a line
 
-  -- the words that were passed are those of the line, however many levels are left
+  -- the words that were passed are those of the line, however many nesting levels are left
   pub last_taken_line : (ws : List Word) (n k : ℕ) (l : LineTree) → run n ws s vs ≡ Ok (made l, drop k ws) → take k ws ≡ words (line_steps l)
   last_taken_line ws n k l h =
       let f = finished (take k ws) (drop k ws) n s vs (made l) (at_place LineWhole s vs reads_whole ws k n (Ok (made l, drop k ws)) h) in

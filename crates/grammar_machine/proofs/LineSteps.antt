@@ -178,7 +178,7 @@ pub run_clause_missing : (n : ℕ) (g : ClauseTree → Form) (k : List Symbol) (
 unfolding run
 run_clause_missing n g k vs = refl
 
--- a line number ends its clause's level
+-- a line number ends its clause's nesting level
 pub run_line_clause : (n c : ℕ) (ws : List Word) (g : ClauseTree → Form) (k : List Symbol) (vs : Values) → within LineNumber c ≡ true → run n (Number c ∷ ws) (Go (ClauseIn g) ∷ k) vs ≡ run (suc n) ws (Go (g (LineClause c)) ∷ k) vs
 unfolding run
 run_line_clause n c ws g k vs e = rw e (run_close n ws (Go (g (LineClause c)) ∷ k) vs)

@@ -148,7 +148,7 @@ raise : (l m : ℕ) → l ≤ m → (w : Want) (vs : Values) (t : Word) (s : Opt
 raise l m le w vs t None h = tt
 raise l m le w vs t (Some s) h = λ k q u r. let g = h k q u r in (g.0, g.1, g.2, record { tree = g.3.tree; within = omega (arith, g.3.within); kind = g.3.kind }, g.4)
 
--- a sign or NOT, its operand, and the end of its level
+-- a sign or NOT, its operand, and the end of its nesting level
 prefixed_back : (l m : ℕ) (w : Want) (vs : Values) (t : Word) (a : Action) (make : Tree → Tree) → ((b : Tree) (us : Values) → Term (make b) ∷ us ≡ made a (Term b ∷ us) ∷ others a (Term b ∷ us)) → ((b : Tree) → steps_of (make b) ≡ Opens t ∷ (steps_of b ++ Closes ∷ [])) → ((b : Tree) → is_text (make b) ≡ false)
     → ((b : Tree) → Fine m want.Number b → IsTree (make b) × (level_of (make b) ≤ l)) → StartBack l w vs t (prefixed w vs (Level m want.Number) a)
 prefixed_back l m w vs t a make makes spells numeric trees = kind_back_at w (λ fits k q u h.
@@ -172,7 +172,7 @@ negated_back l le w vs (Key other) s h = h
 negated_back l le w vs (Punctuation p) s h = h
 negated_back l le w vs other s h = h
 
--- ---- more operands at a level
+-- ---- more operands at a precedence level
 
 fits_same : (w : Want) (a b : Tree) → is_text b ≡ is_text a → Fits w a → Fits w b
 fits_same want.Number a b e f = e ∙ f
@@ -201,7 +201,7 @@ start_behind : (l m : ℕ) (v w : Want) (vs : Values) (t : Word) (s : Option Sta
 start_behind l m v w vs t None more grow h = tt
 start_behind l m v w vs t (Some s) more grow h = λ k q u r. grow k (taken s.opens t ∷ q) u (h (more ++ k) q u (subst (λ x. Spelled x s.values q u) (append_assoc s.expected more k) r))
 
--- what the rank of a level says about it
+-- what the rank of a precedence level says about it
 abbrev pub RankFact : Rank → ℕ → Type 0
 RankFact Signs n = n ≡ sign_level
 RankFact Relations n = n ≡ relation_level

@@ -21,7 +21,7 @@ abbrev words_in : Reading → List Word
 words_in (Ok tokens) = words_of tokens
 words_in (Err refusal) = []
 
--- what the machine reads of a line if an expression is wanted
+-- what the machine reads of a line if an expression is expected
 abbrev reading : Want → List ℕ → MachineOutcome
 reading w bytes = run most_levels (words_in (tokens_of bytes)) (Level loosest w ∷ []) []
 

@@ -1,4 +1,4 @@
--- The words of an expression lead the machine to its tree: from a precedence level to a lower one.
+-- The words of an expression lead the machine to its tree: from one precedence to a lower one.
 use Rattle.std.proofs.Common.{subst, ◌≡◌, ◌+◌, ◌-◌, ℕ, zero, suc, ◌≤◌, Bool, true, false, List, [], ◌∷◌, ◌++◌, refl, sym, ap, ◌∙◌, append_assoc, arith}
 use Rattle.basic_tree.specs.declared.expressions.Operator.{Operator}
 use Rattle.basic_tree.specs.declared.expressions.Operator.TheVariants as operator
@@ -37,7 +37,7 @@ ends_bare other = false
 abbrev pub Parted : Tree → List Word → Type 0
 Parted t r = ends_bare t ≡ true → First is_opening r
 
--- what is still expected after an operand of a level, and which kind is wanted
+-- what is still expected after an operand of a precedence level, and which kind is expected
 abbrev pub more_ranked : Rank → ℕ → Want → List Symbol
 more_ranked Signs l w = []
 more_ranked Relations l w = relations w
@@ -86,12 +86,12 @@ skip_ranked Relations n l w r k t vs f h = no_relations n r w k t vs f (relation
 skip_ranked Nots n l w r k t vs f h = refl
 skip_ranked Chain n l w r k t vs f h = no_operator n l r k t vs h
 
--- if no more operands of a level follow, what is expected of it is skipped
+-- if no more operands of a precedence level follow, what is expected of it is skipped
 pub skip_more : (n l : ℕ) (w : Want) (r : List Word) (k : List Symbol) (t : Tree) (vs : Values) → Fits w t → NoMore l r → run n r (more_at l w ++ k) (Term t ∷ vs) ≡ run n r k (Term t ∷ vs)
 skip_more n zero w r k t vs f h = refl
 skip_more n (suc l) w r k t vs f h = skip_ranked (rank_of (suc l)) n (suc l) w r k t vs f h
 
--- an operand at its level, as a whole
+-- an operand at its precedence level, as a whole
 pub operand : (n l : ℕ) (t : Tree) → TreeLeads n l t → (w : Want) (r : List Word) (k : List Symbol) (vs : Values) → Fits w t → Follows (suc l) r → Parted t r → run n (words (steps_of t) ++ r) (Level l w ∷ k) vs ≡ run n r k (Term t ∷ vs)
 operand n l t h w r k vs f s p = h.by w r k vs (fits_first l w t f) s.0 p ∙ skip_more n l w r k t vs f s.1
 
@@ -142,9 +142,9 @@ no_not_first (Not a) r i h = absurd (omega (arith, h))
 no_not_first (Operation a o b) r i h = subst (λ x. First is_not x) (sym (words_parts (steps_of a) (Plain _ ∷ steps_of b) r)) (no_not_first a _ i.0 (omega (arith, h, i.2)))
 no_not_first (Comparison a o b) r i h = subst (λ x. First is_not x) (sym (words_parts (steps_of a) (Plain _ ∷ steps_of b) r)) (no_not_first a _ i.0 (omega (arith, h, i.2)))
 
--- ---- from a precedence level to a lower one
+-- ---- from one precedence to a lower one
 
--- as TreeLeads, at the level after l, whose rank is x
+-- as TreeLeads, at the precedence level after l, whose rank is x
 abbrev RankedLeads : Rank → ℕ → ℕ → Tree → Type 0
 RankedLeads x n l t = (w : Want) (r : List Word) (k : List Symbol) (vs : Values) → Fits (first_ranked x w) t → Follows (suc l) r → Parted t r → run n (words (steps_of t) ++ r) (Level (suc l) w ∷ k) vs ≡ run n r (more_ranked x (suc l) w ++ k) (Term t ∷ vs)
 

@@ -6,7 +6,7 @@ use Rattle.basic_tree.specs.Trees.{Tree, Literal, Quoted, Variable, Element, Fun
 use Rattle.basic_tree.specs.SpellingExpressions.{steps_of, list_steps, more_steps}
 use Rattle.grammar_machine.proofs.MachinePasses.{Counts}
 
--- no level ends that was not opened, if this many are open before
+-- no nesting level ends that was not opened, if this many are open before
 abbrev pub Above : ℕ → List LevelStep → Type 0
 Above depth [] = Unit {0}
 Above depth (Plain w ∷ steps) = Above depth steps
@@ -16,7 +16,7 @@ Above depth (Closes ∷ steps) = (e : ℕ) × (depth ≡ suc e) × Above e steps
 abbrev moved_right : (a b q : List LevelStep) (depth : ℕ) → Above depth (a ++ (b ++ q)) → Above depth ((a ++ b) ++ q)
 moved_right a b q depth h = subst (λ x. Above depth x) (sym (append_assoc a b q)) h
 
--- each tree ends the levels that it opens
+-- each tree ends the nesting levels that it opens
 mutual
   pub tree_above : (t : Tree) (depth : ℕ) (q : List LevelStep) → Above depth q → Above depth (steps_of t ++ q)
   tree_above (Literal n) depth q h = h
@@ -40,7 +40,7 @@ mutual
   more_above NoTrees depth q h = (depth, refl, h)
   more_above (AndTrees a more) depth q h = moved_right (steps_of a) (more_steps more) q (suc depth) (tree_above a (suc depth) (more_steps more ++ q) (more_above more depth q h))
 
--- if no step opens a level too many, no word is nested too deep
+-- if no step opens a nesting level too many, no word is nested too deep
 pub flat : (g q : List LevelStep) (n m depth : ℕ) → n + depth ≡ most_levels → Counts n g m → Above depth (g ++ q) → All (λ level. level ≤ most_levels) (take (length (words g)) (levels depth (g ++ q)))
 flat [] q n m depth e c a = All-nil (λ level. level ≤ most_levels)
 flat (Plain w ∷ g) q n m depth e c a = All-cons (λ level. level ≤ most_levels) depth (take (length (words g)) (levels depth (g ++ q))) (omega (arith, e)) (flat g q n m depth e c a)

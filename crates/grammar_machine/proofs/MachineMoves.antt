@@ -142,7 +142,7 @@ exponent_back vs (Punctuation sign.Plus) = λ k q u h.
 exponent_back vs (Punctuation other) = exponent_atom vs (Punctuation other) (atom want.Number vs (Punctuation other)) (atom_back want.Number vs (Punctuation other))
 exponent_back vs other = exponent_atom vs other (atom want.Number vs other) (atom_back want.Number vs other)
 
--- ---- signs, and the ends of levels
+-- ---- signs, and the ends of nesting levels
 
 sign_back : (s t : Sign) (vs : Values) (b : Bool) → is_same_sign s t ≡ b → MoveBack (Expect s) vs (Some (Punctuation t)) (cond b (Shifts false vs []) Refuses)
 sign_back s t vs true e = λ k q u h. (q, ap (λ x. mark x ∷ q) (sym (signs_equal s t e)), h)

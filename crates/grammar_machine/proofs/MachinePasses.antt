@@ -1,5 +1,5 @@
--- What the machine does when it passes words: the steps that it passed, and how many levels are
--- left.
+-- What the machine does when it passes words: the steps that it passed, and how many nesting levels
+-- are left.
 use Rattle.std.proofs.Common.{◌≡◌, ℕ, zero, suc, ◌+◌, ◌≤◌, Bool, true, false, List, [], ◌∷◌, ◌++◌, length, Option, Some, None, Ok, Err, refl, sym, ap, ◌∙◌, subst, arith, length-append}
 use Rattle.basic_tree.specs.SpellingWords.{Word, LevelStep, Plain, Opens, Closes, words}
 use Rattle.grammar_machine.specs.MachineStack.{Values, Symbol}
@@ -34,7 +34,7 @@ left_short (t ∷ ws) n k vs = go (turn k n vs (Some t)) (λ m vs' k'. left_shor
   go Stuck h = omega arith
   go Deep h = omega arith
 
--- ---- with more levels, every turn is the same, except one that was too deep
+-- ---- with more nesting levels, every turn is the same, except one that was too deep
 
 abbrev pub Further : ℕ → Turn → Turn → Type 0
 Further d (Next m a b) y = y ≡ Next (m + d) a b
@@ -57,9 +57,9 @@ pub turn_more : (k : List Symbol) (n d : ℕ) (vs : Values) (o : Option Word) �
 turn_more [] n d vs o = refl
 turn_more (s ∷ k) n d vs o = moved_more (move s vs o) n d k (λ m vs'. turn k m vs' o) (λ i vs'. turn_more k i d vs' o)
 
--- ---- levels
+-- ---- nesting levels
 
--- from this many levels, no step opens one too many, and that many are left after them
+-- from this many nesting levels, no step opens one too many, and that many are left after them
 abbrev pub Counts : ℕ → List LevelStep → ℕ → Type 0
 Counts n [] m = n ≡ m
 Counts n (Plain w ∷ steps) m = Counts n steps m

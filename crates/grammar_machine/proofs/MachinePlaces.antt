@@ -7,7 +7,7 @@ use Rattle.grammar_machine.proofs.MachineSpelled.{Spelled}
 use Rattle.grammar_machine.proofs.MachineTurns.{ends, TurnBack, end_back, turn_back}
 use Rattle.grammar_machine.proofs.MachinePasses.{left, left_short, Further, turn_more, passes}
 
--- a word is rejected, or all that was expected has ended, however many levels are left
+-- a word is rejected, or all that was expected has ended, however many nesting levels are left
 stops : (d : ℕ) (c : Word) (r : List Word) (n : ℕ) (k : List Symbol) (vs : Values) → left (run n (c ∷ r) k vs) ≡ c ∷ r → (run n (c ∷ r) k vs ≡ Err (TooDeep (c ∷ r)) → ⊥) → (q : List Word) → left (run (n + d) (c ∷ q) k vs) ≡ c ∷ q
 unfolding run
 stops d c r n k vs h not_deep q = go (turn k n vs (Some c)) (turn_more k n d vs (Some c)) h not_deep where
@@ -17,7 +17,7 @@ stops d c r n k vs h not_deep q = go (turn k n vs (Some c)) (turn_more k n d vs 
   go Stuck y l nd = rw y refl
   go Deep y l nd = absurd (nd refl)
 
--- nothing that continues with that word is taken whole, with any number of levels
+-- nothing that continues with that word is taken whole, with any number of nesting levels
 pub goes_no_further : (d : ℕ) (p : List Word) (c : Word) (r : List Word) (n : ℕ) (k : List Symbol) (vs : Values) → left (run n (p ++ c ∷ r) k vs) ≡ c ∷ r → (run n (p ++ c ∷ r) k vs ≡ Err (TooDeep (c ∷ r)) → ⊥) → (q : List Word) → left (run (n + d) (p ++ c ∷ q) k vs) ≡ c ∷ q
 goes_no_further d p c r n k vs h nd q =
     let at = passes p (c ∷ r) n k vs h in

@@ -12,7 +12,7 @@ use Rattle.basic_tree.specs.SpellingStatements.{clause_pieces, statement_pieces}
 use Rattle.grammar_machine.specs.MachineStack.{Value, Stated, Item, TargetItem, ShapeItem, FileItem, NameItem, LineItem, ChannelItem, FieldItem, Sequence, Targets, Shapes, FileShapes, Parameters, Arrays, Lines, Channels, FieldParts, within, Form, Made, TakeKey, TakeSign, TakeClosing, IfKey, IfSign, ExprOf, ExprIf, TargetOf, NameIn, FnNameIn, LiteralIn, LiteralIf, QuotedIf, ItemIn, MoreItems, MoreOf, MorePrinted, MoreUsing, ClauseIn}
 use Rattle.grammar_machine.specs.MachineForms.{has_room}
 
--- a word, which may open a level
+-- a word, which may open a nesting level
 abbrev pub taken : Bool → Word → LevelStep
 taken true t = Opens t
 taken false t = Plain t

@@ -14,13 +14,13 @@ use Rattle.grammar_machine.specs.MachineStack.{Value, Term, Several, Stated, Par
 use Rattle.basic_tree.specs.SpellingPieces.{each, pieces_steps, ArePieces}
 use Rattle.grammar_machine.proofs.MachineReads.{Reads, modifiers_steps, AreModifiers, modified_by, place_pieces, separated}
 
--- a tree of a precedence level and a wanted kind
+-- a tree of a precedence level and an expected kind
 pub record Fine (l : ℕ) (w : Want) (t : Tree) : Type 0 where
   pub tree : IsTree t
   pub within : level_of t ≤ l
   pub kind : Fits w t
 
--- a tree with more operands at a level
+-- a tree with more operands at a precedence level
 pub record Grown (l : ℕ) (a : Tree) (steps : List LevelStep) (t : Tree) : Type 0 where
   pub spelled : steps_of t ≡ steps_of a ++ steps
   pub tree : IsTree a → level_of a ≤ l → IsTree t

@@ -1,4 +1,5 @@
--- Single steps of the machine: how a level begins as a higher one does, and what is skipped.
+-- Single steps of the machine: how a precedence level begins as a higher one does, and what is
+-- skipped.
 use Rattle.std.proofs.Common.{◌==◌, ◌≡◌, ℕ, suc, Bool, true, false, List, [], ◌∷◌, ◌++◌, Option, Some, None, refl, ap, ◌∙◌, append_assoc}
 use Rattle.basic_tree.specs.declared.names.Name.{Name}
 use Rattle.basic_tree.specs.declared.tokens.Keyword.TheVariants as keyword
@@ -17,7 +18,7 @@ use Rattle.grammar_machine.specs.MachineStarts.{Start, behind, side, relations, 
 use Rattle.grammar_machine.specs.MachineMoves.{Skips, begun, more_of, no_relation, related}
 use Rattle.grammar_machine.specs.MachineRun.{Turn, moved, turn, turned, run}
 
--- ---- how a level begins
+-- ---- how a precedence level begins
 
 moved_behind : (s : Option Start) (n : ℕ) (more k : List Symbol) (f g : ℕ → Values → Turn) → moved (begun (behind more s)) n k f ≡ moved (begun s) n (more ++ k) g
 moved_behind None n more k f g = refl
@@ -85,7 +86,7 @@ unfolding run
 run_close n [] k vs = refl
 run_close n (t ∷ ts) k vs = refl
 
--- ---- if no more of a level follows
+-- ---- if no more of a precedence level follows
 
 abbrev pub is_operator_at : ℕ → Option Operator → Bool
 is_operator_at l None = false

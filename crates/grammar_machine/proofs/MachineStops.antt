@@ -15,14 +15,14 @@ use Rattle.grammar_machine.proofs.DeepLevels.{first, later, never}
 use Rattle.grammar_machine.proofs.MachineLevels.{Above, flat}
 use Rattle.grammar_machine.proofs.MachinePlaces.{goes_no_further, ended, words_of_ends}
 
--- the machine at the place that it has reached, with the levels that are left
+-- the machine at the place that it has reached, with the nesting levels that are left
 pub goes_on_from : (p : List Word) (n : ℕ) (k : List Symbol) (vs : Values) (n' : ℕ) (k' : List Symbol) (vs' : Values) → Passes p n k vs n' k' vs' → (x : List Word) → run n (p ++ x) k vs ≡ run n' x k' vs'
 goes_on_from p n k vs n' k' vs' h x =
     let none : n + 0 ≡ n = omega arith in
     let left_over : n' + 0 ≡ n' = omega arith in
     ap (λ i. run i (p ++ x) k vs) (sym none) ∙ h.runs 0 x ∙ ap (λ i. run i x k' vs') left_over
 
--- if no level is left, the next word that opens one is too deep
+-- if no nesting level is left, the next word that opens one is too deep
 pub deep_at : (g q : List LevelStep) (c : Word) (n depth : ℕ) → n + depth ≡ most_levels → Counts n g 0 → Above depth (g ++ Opens c ∷ q) → position (λ level. nat_lt most_levels level) (levels depth (g ++ Opens c ∷ q)) ≡ Some (length (words g))
 deep_at [] q c n depth e h a = first (depth + 1) (levels (depth + 1) q) (omega (arith, e, h))
 deep_at (Plain w ∷ g) q c n depth e h a = later depth (levels depth (g ++ Opens c ∷ q)) (length (words g)) (omega (arith, e)) (deep_at g q c n depth e h a)
@@ -38,7 +38,7 @@ no_levels : (c depth : ℕ) → levels depth (ends c []) ≡ []
 no_levels zero depth = refl
 no_levels (suc c) depth = no_levels c (depth - 1)
 
--- with the same steps and the ends of levels, no word is too deep
+-- with the same steps and the ends of nesting levels, no word is too deep
 pub none_deep : (g : List LevelStep) (c n m depth : ℕ) → n + depth ≡ most_levels → Counts n g m → Above depth (g ++ ends c []) → position (λ level. nat_lt most_levels level) (levels depth (g ++ ends c [])) ≡ None
 none_deep [] c n m depth e h a = rw (no_levels c depth) refl
 none_deep (Plain w ∷ g) c n m depth e h a = never depth (levels depth (g ++ ends c [])) (omega (arith, e)) (none_deep g c n m depth e h a)
@@ -52,7 +52,7 @@ none_deep (Closes ∷ g) c n m depth e h a =
 
 -- ---- the words that were passed
 
--- all that is expected ends the levels that it opens
+-- all that is expected ends the nesting levels that it opens
 abbrev pub Nests : List Symbol → Values → Type 0
 Nests k vs = (x : List LevelStep) (u : Values) → Spelled k vs x u → Above 0 x
 
@@ -84,7 +84,7 @@ passed p r k vs nests h =
       flat = subst (λ (x : List Word). IsFlatTo (length x) (at.3.steps ++ f.0)) at.3.spelled whole;
     }
 
--- ---- a word that opens a level too many
+-- ---- a word that opens a nesting level too many
 
 -- steps with these words, and this word after them, begin what is expected, and it is the first
 -- that is too deep
@@ -162,7 +162,7 @@ finished_flat p r k vs u nests h =
 
 -- ---- what cannot continue
 
--- the machine takes each whole to its end, if it has enough levels
+-- the machine takes each whole to its end, if it has enough nesting levels
 abbrev pub TakesWhole : (List Word → Type 0) → List Symbol → Values → Type 0
 TakesWhole whole k vs = (ws : List Word) → whole ws → (d : ℕ) × (u : Values) × (run (most_levels + d) ws k vs ≡ Ok (u, []))
 

@@ -19,7 +19,7 @@ use Rattle.grammar_machine.proofs.MachineSteps.{First, is_opening, is_plus_or_mi
 use Rattle.grammar_machine.proofs.MachineLeads.{Follows, Parted, TreeLeads, more_at, first_at, operand, at_level, words_parts, no_sign_first}
 use Rattle.grammar_machine.proofs.MachineComplete.{fits_want}
 
--- the words of a tree lead to it at its level, and after `^`
+-- the words of a tree lead to it at its precedence level, and after `^`
 pub record Complete (n : ℕ) (t : Tree) : Type 0 where
   pub leads : TreeLeads n (level_of t) t
   pub exponent : is_exponent t ≡ true → Fits want.Number t → (r : List Word) (k : List Symbol) (vs : Values) → Parted t r → run n (words (steps_of t) ++ r) (Exponent ∷ k) vs ≡ run n r k (Term t ∷ vs)
@@ -41,7 +41,7 @@ atom_complete n t i e h = record {
 
 -- ---- signs and NOT
 
--- a tree that opens a level, its operand at a level, and the end
+-- a tree that opens a nesting level, its operand at a precedence level, and the end
 pub prefixed_words : (a : Tree) (r : List Word) (n : ℕ) (k : List Symbol) (vs : Values) → run n (words (steps_of a ++ Closes ∷ []) ++ r) k vs ≡ run n (words (steps_of a) ++ r) k vs
 prefixed_words a r n k vs = ap (λ ws. run n ws k vs) (words_parts (steps_of a) (Closes ∷ []) r)
 

@@ -1,4 +1,4 @@
--- What a turn of the whole stack took is spelled so, and how many levels it left.
+-- What a turn of the whole stack took is spelled so, and how many nesting levels it left.
 use Rattle.std.proofs.Common.{◌≡◌, ◌+◌, ℕ, zero, suc, Bool, true, false, List, [], ◌∷◌, ◌++◌, Option, Some, None, refl, arith}
 use Rattle.basic_tree.specs.SpellingWords.{Word, LevelStep, Opens, Closes}
 use Rattle.grammar_machine.specs.MachineStack.{Values, Symbol}
@@ -9,12 +9,12 @@ use Rattle.grammar_machine.proofs.MachineSpelled.{Spelled}
 use Rattle.grammar_machine.proofs.MachineBack.{taken, TakesBack}
 use Rattle.grammar_machine.proofs.MachineMoves.{MoveBack, move_back}
 
--- this many levels end before the steps
+-- this many nesting levels end before the steps
 abbrev pub ends : ℕ → List LevelStep → List LevelStep
 ends zero q = q
 ends (suc c) q = Closes ∷ ends c q
 
--- the levels that were left before a word, which may open one
+-- the nesting levels that were left before a word, which may open one
 abbrev pub before : Bool → ℕ → ℕ
 before true m = suc m
 before false m = m

@@ -1,4 +1,5 @@
--- The options of GET, PUT and OPEN, and the number of CHAIN: what their forms read is what they spell.
+-- The options of GET, PUT and OPEN, and the number of CHAIN: what their forms read is what they
+-- spell.
 use Rattle.std.proofs.Common.{◌≡◌, Bool, true, false, inl, inr, List, ◌∷◌, ◌++◌, Option, Some, None}
 use Rattle.basic_tree.specs.declared.tokens.Keyword.{Keyword}
 use Rattle.basic_tree.specs.declared.tokens.Keyword.TheVariants as keyword

@@ -1,4 +1,4 @@
--- Steps that pieces spell, joined piece by piece from the front.
+-- Steps that pieces spell, put together piece by piece from the beginning.
 use Rattle.std.proofs.Common.{◌≡◌, ℕ, Bool, true, List, [], ◌∷◌, ◌++◌, sym, ap, ◌∙◌, subst, append_assoc}
 use Rattle.std.proofs.lemmas.List.{append-nil}
 use Rattle.basic_tree.specs.declared.names.Name.{Name}

@@ -16,7 +16,8 @@ use Rattle.grammar_machine.proofs.BetweenLemmas.{behind_place}
 abbrev pub AnyWhole : Whole → List Word → Type 0
 AnyWhole whole ws = (g : List LevelStep) × whole ws g
 
--- what is expected spells only wholes, and the machine takes each whole if enough levels are left
+-- what is expected spells only wholes, and the machine takes each whole if enough nesting levels
+-- are left
 pub record ReadsWhole (whole : Whole) (s : List Symbol) (vs : Values) : Type 0 where
   pub spells : (x : List LevelStep) (u : Values) → Spelled s vs x u → whole (words x) x
   pub takes : TakesWhole (AnyWhole whole) s vs

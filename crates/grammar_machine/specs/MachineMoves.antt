@@ -24,10 +24,10 @@ use Rattle.grammar_machine.specs.MachineStarts.{Start, takes, atom, signed, star
 -- ---- what a symbol does with the next word, or at the end
 
 pub data MachineMove : Type 0 where
-  -- it takes the word, which may open a level
+  -- it takes the word, which may open a nesting level
   Shifts : Bool → Values → List Symbol → MachineMove
   Skips : Values → MachineMove
-  -- a level ends
+  -- a nesting level ends
   Closes : Values → MachineMove
   Refuses : MachineMove
 

@@ -12,7 +12,7 @@ pub data Turn : Type 0 where
   Stuck : Turn
   Deep : Turn
 
--- with this many levels left
+-- with this many nesting levels left
 abbrev pub entered : Bool → ℕ → Values → List Symbol → Turn
 entered false n vs k = Next n vs k
 entered true zero vs k = Deep
@@ -28,7 +28,7 @@ abbrev pub turn : List Symbol → ℕ → Values → Option Word → Turn
 turn [] n vs t = Ended vs
 turn (s ∷ k) n vs t = moved (move s vs t) n k (λ m vs'. turn k m vs' t)
 
--- the words from the rejected one on, or from the one that opens a level too many
+-- the words from the rejected one on, or from the one that opens a nesting level too many
 pub data Halt : Type 0 where
   Wrong : List Word → Halt
   TooDeep : List Word → Halt

@@ -72,7 +72,7 @@ pub data Form : Type 0 where
   -- a word, which may open a level of nesting
   TakeKey : Bool → Keyword → Form → Form
   TakeSign : Bool → Sign → Form → Form
-  -- the closing parenthesis, which ends its level
+  -- the closing parenthesis, which ends its nesting level
   TakeClosing : Form → Form
   -- a word and what follows it, or else the other form
   IfKey : Bool → Keyword → Form → Form → Form
@@ -96,7 +96,7 @@ pub data Form : Type 0 where
   MorePrinted : Option PrintChannelTree → List PrintItemTree → Form
   -- more values of PRINT USING, after its channel, its format and the values so far
   MoreUsing : Option Tree → Tree → List UsingItemTree → Form
-  -- what an IF runs; its level ends there
+  -- what an IF runs; its nesting level ends there
   ClauseIn : (ClauseTree → Form) → Form
 
 -- what makes a tree of the topmost values
@@ -118,19 +118,19 @@ pub data Action : Type 0 where
   AddStatement : Action
 
 pub data Symbol : Type 0 where
-  -- an expression of a precedence level and a wanted kind
+  -- an expression of a precedence level and an expected kind
   Level : ℕ → Want → Symbol
-  -- more operands of a level
+  -- more operands of a precedence level
   More : ℕ → Symbol
   -- more relations; true: the whole has to be a number
   MoreRelations : Bool → Symbol
   -- signs and an atom, after `^`
   Exponent : Symbol
-  -- a sign that opens no level
+  -- a sign that opens no nesting level
   Expect : Sign → Symbol
   -- the parenthesis that opens a list
   Opening : Symbol
-  -- the end of a level
+  -- the end of a nesting level
   Close : Symbol
   Do : Action → Symbol
   -- after a name: subscripts, or none

@@ -1,5 +1,5 @@
--- How an expression of a level begins with a word, and what is expected after that. It serves
--- proofs only.
+-- How an expression of a precedence level begins with a word, and what is expected after that. It
+-- serves proofs only.
 use Rattle.std.specs.Prelude.{ℕ, zero, suc, ◌+◌, ◌==◌, nat_lt, not, if◌then◌else◌, List, [], ◌∷◌, ◌++◌, Bool, true, false, cond, Option, Some, None}
 use Rattle.basic_values.specs.declared.limits.TheConstants.{MOST_NUMBER}
 use Rattle.basic_tree.specs.declared.tokens.Keyword.TheVariants as keyword
@@ -15,7 +15,7 @@ use Rattle.grammar_machine.specs.MachineStack.{Action, Arguments, Close, Collect
 
 -- ---- how an expression begins
 
--- whether a level opens, the values, and what is expected then
+-- whether a nesting level opens, the values, and what is expected then
 pub record Start : Type 0 where
   pub opens : Bool
   pub values : Values
@@ -28,7 +28,7 @@ abbrev pub behind : List Symbol → Option Start → Option Start
 behind more None = None
 behind more (Some s) = Some (record { opens = s.opens; values = s.values; expected = s.expected ++ more })
 
--- whether a number or a string is allowed where this kind is wanted
+-- whether a number or a string is allowed if this kind is expected
 abbrev pub takes : Want → Bool → Bool
 takes want.Number is_textual = not is_textual
 takes want.Text is_textual = is_textual
@@ -84,7 +84,7 @@ relations want.Number = MoreRelations true ∷ []
 relations want.Text = []
 relations want.Either = MoreRelations false ∷ []
 
--- what a level has: signs, relations, NOT, or a chain of operators
+-- what a precedence level has: signs, relations, NOT, or a chain of operators
 pub data Rank : Type 0 where
   Signs : Rank
   Relations : Rank

@@ -6,33 +6,35 @@ ghost use Rattle.basic_tree.specs.AnswerLaws.{OneExprAnswer, OneLineAnswer};
 ghost use Rattle.basic_tree.specs.GrammarPlaces.{ExpressionsAreRead, OneTree, OneLine};
 ghost use Rattle.basic_tree.specs.LineVerdicts.{LinesAreJudged};
 
-/// No words are two expressions, whatever kinds are wanted.
+/// States that no words are two expressions, whatever kinds are expected.
 pub fn one_tree()
     ensures { OneTree }
 {}
 
-/// No words are two lines.
+/// States that no words are two lines.
 pub fn one_line()
     ensures { OneLine }
 {}
 
-/// Every line has a tree, or is rejected for a cause: there is a judge that follows the grammar.
+/// States that every line has a tree, or is rejected for a cause: there is a judge that follows the
+/// grammar.
 pub fn lines_are_judged()
     ensures { LinesAreJudged }
 {}
 
-/// From each place on, words are read as an expression of the wanted kind, or rejected.
+/// States that from each place on words are read as an expression of the expected kind, or
+/// rejected.
 pub fn expressions_are_read()
     ensures { ExpressionsAreRead }
 {}
 
-/// The nesting depth of a word depends on the words up to it, and on none after it.
+/// States that the nesting depth of a word depends on the words up to it, and on none after it.
 pub fn levels_are_settled()
     ensures { LevelsAreSettled }
 {}
 
-/// From a place on, words are read as one expression up to one place, or rejected at one place for
-/// one cause.
+/// States that from a place on words are read as one expression up to one place, or rejected at one
+/// place for one cause.
 pub fn expressions_have_one_answer()
     ensures { OneExprAnswer }
 {}
@@ -47,7 +49,7 @@ pub fn bytes_have_one_answer()
     ensures { OneBytesAnswer }
 {}
 
-/// Every line has one verdict: all judges agree.
+/// States that every line has one verdict: all judges agree.
 pub fn one_verdict()
     ensures { OneVerdict }
 {}

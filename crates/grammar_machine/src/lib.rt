@@ -1,6 +1,6 @@
-//! A stack machine that reads words as expressions and lines. Its stack holds what is still
-//! expected. The parsers' inner functions are proved against it, but no contract of a whole parser
-//! mentions it: you only have to trust the grammar of `basic_tree`.
+//! A stack machine that reads words as expressions and lines. Its stack has what is still expected.
+//! The parsers' inner functions are proved against it, but no contract of a whole parser mentions
+//! it: you only have to trust the grammar of `basic_tree`.
 //!
 //! `specs/MachineStack` has the stack, `MachineMoves` what each symbol does with a word,
 //! `MachineForms` and `MachineSentences` what each statement expects, word by word, `MachineRun`

@@ -6,7 +6,7 @@ use Rattle.basic_values.specs.declared.errors.TheConstants.{NOT_ENOUGH_DATA, OUT
 use Rattle.basic_values.specs.declared.failures.Trouble.{Trouble}
 use Rattle.basic_values.specs.declared.failures.Trouble.TheVariants as trouble
 
--- A call that may fail returns what is wanted, or its error. If memory runs out, nothing is said.
+-- A call that may fail returns the result, or its error. If memory runs out, nothing is claimed.
 abbrev pub Answers : {A F : Type 0} → Result A F → Result A (Trouble F) → Type 0
 Answers wanted (Ok value) = wanted ≡ Ok value
 Answers wanted (Err (trouble.Refused why)) = wanted ≡ Err why

@@ -1,9 +1,9 @@
 //! The items of INPUT and READ: those of a key line, the next one of DATA, and the value of an
 //! item.
 //!
-//! `items_of` promises that a line gives as many items as wanted or fails, `next_item` that an item
-//! of DATA is taken once, and `item_value` which string or number an item is. The definitions are
-//! in `program_model`.
+//! `items_of` promises that a line gives as many items as required or fails, `next_item` that an
+//! item of DATA is taken once, and `item_value` which string or number an item is. The definitions
+//! are in `program_model`.
 #![tactic(auto)]
 
 mod data_items;

@@ -1,4 +1,4 @@
--- Arrays that are renumbered: no cell takes more room than before.
+-- Arrays that are renumbered: no cell gets larger.
 use Rattle.std.proofs.Common.{◌≡◌, ℕ, suc, ◌+◌, ◌-◌, ◌<◌, ◌≤◌, Bool, true, false, List, [], ◌∷◌, length, get_or, take, drop, Option, sym, ap, ◌∙◌, arith}
 use Rattle.std.proofs.lemmas.List.{take-map, drop-map, with_items_is}
 use Rattle.std.proofs.lemmas.List.FromFn.{length-map-range_with_len}
@@ -23,7 +23,7 @@ size-chosen : (inner : Bool) (n : ℤ) (content : Content) → size (if inner th
 size-chosen true n content = size-least content
 size-chosen false n content = omega arith
 
--- where no place takes more, all take no more
+-- if no place gets larger, the sum does not
 sizes-le : (f : ℕ → Content) (xs : List Content) (a : ℕ)
     → ((k j : ℕ) → a + k ≡ j → k < length xs → size (f j) ≤ size (get_or xs k (Number (pos 0))))
     → sum_by size (map f (range_with_len a (length xs))) ≤ sum_by size xs
@@ -46,14 +46,14 @@ cells_size-renumbered number second cells =
     let same : j ≡ k = omega arith in
     rw same at)
 
--- the table after its cells were renumbered in their place
+-- the table after its cells were renumbered in place
 pub table_size-renumbered : (number : ℕ → ℤ) (table : Inside) (old new : List Content) → old ≡ table.cells.items → length old ≡ table.cells.len → new ≡ renumbered_cells number table.second old
     → table_size (table_seen (record table { cells = with_items table.cells new })) ≤ table_size (table_seen table)
 table_size-renumbered number table old new is long set =
     let same : length new ≡ table.cells.len = ap length set ∙ length-map-range_with_len (renumbered_cell number table.second old) 0 (length old) ∙ long in
     omega (arith, ap (sum_by size) (with_items_is table.cells new same), ap (sum_by size) set, cells_size-renumbered number table.second old, ap (sum_by size) is)
 
--- the numbers of some elements that stand one behind the other
+-- the numbers of some adjacent elements
 pub part_numbers : (cells : List Content) (place count : ℕ) → map number_of (slice_range cells place (place + count)) ≡ take count (drop place (map number_of cells))
 part_numbers cells place count =
     let many : place + count - place ≡ count = omega arith in

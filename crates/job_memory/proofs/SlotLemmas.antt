@@ -1,4 +1,5 @@
--- The entries of slots: a look-up, a store and a removal by a name's slot are those of a list in the order of names.
+-- The entries of slots: a look-up, a store and a removal by a name's slot are those of a list in
+-- the order of names.
 use Rattle.std.proofs.Common.{◌≡◌, ◌≢◌, ℕ, zero, suc, ◌+◌, ◌*◌, ◌/◌, ◌%◌, ◌<◌, ◌≤◌, List, [], ◌∷◌, ◌++◌, Bool, true, false, true≢false, cond, Option, Some, None, ⊎_elim, refl, sym, ap, ◌∙◌, arith}
 use Rattle.std.proofs.lemmas.Bool.{cases_eq}
 use Rattle.std.proofs.lemmas.Grind.{get_or-set_at}
@@ -19,7 +20,7 @@ use Rattle.job_memory.specs.Slots.{place_of, slot_of, digit_at, name_of, slot_in
 use Rattle.job_memory.proofs.NameLemmas.{name_total}
 use Rattle.job_memory.proofs.EntryLemmas.{equal_from, insert_entry-found, lookup-insert_entry, lookup-insert_entry-other, sorted-insert_entry, remove_entry-insert_entry, same_entries, set_value-absent}
 
--- one more at the end that holds nothing
+-- one more empty slot at the end
 pub get_or-push_default : {A : Type 0} (xs : List A) (d : A) (k : ℕ) → slice_index_or (xs ++ d ∷ []) k d ≡ slice_index_or xs k d
 get_or-push_default [] d zero = refl
 get_or-push_default [] d (suc k) = refl
@@ -146,7 +147,7 @@ module _ {T : Type 0} where
   rows_here q letter (suc k) (row ∷ rows) is =
       row_apart q letter 0 row (entries_from (letter + 1) rows) (λ j l at. omega arith) ∙ rows_here q (letter + 1) k rows (omega arith)
 
-  -- a name's entry holds what its slot does
+  -- the entry of a name is what is in its slot
   pub lookup-entries_of : (q : Name) (rows : List (List (Option T))) → lookup (at_name q) (entries_of rows) ≡ stored_in rows q
   lookup-entries_of q rows = rows_here q 0 q.letter rows (omega arith)
 
@@ -171,7 +172,7 @@ module _ {T : Type 0} where
 
   -- SLOTS THAT CHANGE
 
-  -- where each name has the same stored, the entries are the same
+  -- if each name has the same content stored, the entries are the same
   pub entries_of-kept : (old new : List (List (Option T))) → ((q : Name) → stored_in new q ≡ stored_in old q) → entries_of new ≡ entries_of old
   entries_of-kept old new same =
       same_entries name_total same_name (entries_of new) (entries_of old) (sorted-entries_of new) (sorted-entries_of old) (λ q. lookup-entries_of q new ∙ same q ∙ sym (lookup-entries_of q old))
@@ -205,7 +206,7 @@ module _ {T : Type 0} where
   remove_absent test [] absent = refl
   remove_absent test (e ∷ es) absent = remove_absent_by test e es (test e.0) refl absent (λ a. remove_absent test es a)
 
-  -- what is said of each name, from what is said of this one and of the others
+  -- what is stored under each name, from this name and the others
   each_by : (old new : List (List (Option T))) (name q : Name) (held : Option T) (b : Bool) → at_name q name ≡ b → stored_in new name ≡ held → (at_name q name ≡ false → stored_in new q ≡ stored_in old q)
       → stored_in new q ≡ cond b held (stored_in old q)
   each_by old new name q held true is here others = ap (stored_in new) (same_name q name (equal_from (name_cmp q name) is)) ∙ here
@@ -225,11 +226,11 @@ module _ {T : Type 0} where
       entries_of-stored new old name value (each new old name (Some value) was (λ q apart. sym (others q apart))) in
       sym (ap (remove_entry (at_name name)) put ∙ remove_entry-insert_entry name_total name value (entries_of new) (lookup-entries_of name new ∙ here))
 
-  -- a name that has no row has nothing stored
+  -- nothing is stored under a name without a row
   pub lookup-no_row : (q : Name) (rows : List (List (Option T))) (letter : ℕ) → letter ≡ q.letter → length rows ≤ letter → lookup (at_name q) (entries_of rows) ≡ None
   lookup-no_row q rows letter is past = lookup-entries_of q rows ∙ ap (λ (r : List (Option T)). slot_in r (slot_of q)) (get_or_past rows q.letter [] (omega arith))
 
-  -- the row of a name holds what is stored under it
+  -- the row of a name has what is stored under it
   pub lookup-row : (q : Name) (rows : List (List (Option T))) (row : List (Option T)) (letter slot : ℕ) (found : Option T) → letter ≡ q.letter → slot ≡ slot_of q → letter < length rows → row ≡ slice_index_or rows letter row
       → found ≡ slot_in row slot → found ≡ lookup (at_name q) (entries_of rows)
   lookup-row q rows row letter slot found letter_is slot_is inside read is =
@@ -286,7 +287,7 @@ module _ {T : Type 0} where
       let there : stored_in rows name ≡ Some old = sym (was_stored rows was row letter inside read name (sym letter_is)) ∙ ap (slot_in was) (sym slot_is) ∙ found in
       entries_of-written rows (slice_set rows letter row) name old value there (stored_each rows was row letter inside read name slot (Some value) letter_is slot_is holds)
 
-  -- the value of a slot that holds one is changed, and nothing of one that holds none
+  -- a filled slot takes the value, and an empty one stays empty
   pub entries_of-rewrite : (rows : List (List (Option T))) (was row : List (Option T)) (letter : ℕ) → letter < length rows → was ≡ slice_index_or rows letter was
       → (name : Name) (slot : ℕ) (held : Option T) (value : T) → letter ≡ name.letter → slot ≡ slot_of name → slot_in was slot ≡ held → HoldsAt slot (option_map (λ _. value) held) was row
       → entries_of (slice_set rows letter row) ≡ set_value (at_name name) (entries_of rows) value
@@ -305,7 +306,7 @@ module _ {T : Type 0} where
       emptied_by rows (slice_set rows letter row) name (stored_in rows name) refl
       (stored_here rows was row letter inside read name slot None letter_is slot_is holds) (stored_others rows was row letter inside read name slot None letter_is slot_is holds)
 
-  -- nothing is taken out of no row
+  -- removing a name without a row changes nothing
   pub entries_of-no_row : (rows : List (List (Option T))) (name : Name) (letter : ℕ) → letter ≡ name.letter → length rows ≤ letter → entries_of rows ≡ remove_entry (at_name name) (entries_of rows)
   entries_of-no_row rows name letter is past = sym (remove_absent (at_name name) (entries_of rows) (lookup-no_row name rows letter is past))
 
@@ -317,7 +318,7 @@ module _ {T : Type 0} where
   pub entries_of-same : (old new : List (List (Option T))) → SameRows old new → entries_of new ≡ entries_of old
   entries_of-same old new same = entries_of-kept old new (λ q. ap (λ (r : List (Option T)). slot_in r (slot_of q)) (same q.letter))
 
--- VALUES THAT ARE CHANGED IN THEIR PLACES
+-- VALUES THAT ARE CHANGED IN PLACE
 
 abbrev entry_by : {T : Type 0} → (T → T) → Name × T → Name × T
 entry_by f entry = (entry.0, f entry.1)

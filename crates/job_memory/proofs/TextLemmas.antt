@@ -1,4 +1,4 @@
--- A text that is changed in its place: from the one variable to all variables, and to the memory.
+-- A string that is changed in place: from the one variable to all variables, and to the memory.
 use Rattle.std.proofs.Common.{◌≡◌, ℕ, ◌+◌, ◌≤◌, List, Bool, true, false, Option, Some, None, sym, ap, ◌∙◌, arith, length-append}
 use Rattle.std.proofs.lemmas.Map.Entries.{sum_by-insert_entry, sum_by-set_value}
 use Rattle.std.proofs.lemmas.Map.Steps.{set_value_same}
@@ -22,7 +22,7 @@ use Rattle.job_memory.proofs.EntryLemmas.{insert_entry-found}
 use Rattle.job_memory.proofs.NameLemmas.{name_total}
 
 module _ (name : Name) (old new : List (Name × Content)) (was is : Content) (sorted : IsStrictlySortedBy name_cmp (keys_of old)) (found : lookup (at_name name) old ≡ Some was) (set : new ≡ set_value (at_name name) old is) where
-  -- a variable takes another content: the entries, and the room
+  -- a variable takes another content: the entries, and the size
   entries_changed : (wanted : Content) → is ≡ wanted → new ≡ insert_entry name_cmp old name wanted
   entries_changed wanted same = set ∙ sym (insert_entry-found name_total name was is old sorted found) ∙ ap (insert_entry name_cmp old name) same
 
@@ -51,7 +51,7 @@ module _ (name : Name) (old new : List (Name × Content)) (was is : Content) (so
   changed_among here most change (Err (trouble.Refused halt.NoError)) left by = absurd by
   changed_among here most change (Err trouble.NoMemory) left by = unchanged (some_content by)
 
-  -- bytes at the end take their room
+  -- bytes at the end add to the size
   pub grown : (here : ℕ) (more : List ℕ) (r : Result Bool (Trouble Halt)) → ChangesOwn one_variable here (lengthened more) (Some was) (Some is) r
       → IfOk r (λ done. variables_size new ≡ variables_size old + (if done then length more else 0))
   grown here more (Ok true) by =
@@ -59,7 +59,7 @@ module _ (name : Name) (old new : List (Name × Content)) (was is : Content) (so
   grown here more (Ok false) by = omega (arith, ap variables_size (unchanged (some_content by.0)))
   grown here more (Err why) by = tt
 
-  -- bytes that are cut off give theirs back
+  -- bytes that are cut off give their size back
   pub shrunk : (r : Option ℕ) → IfSome r (λ fewer. size is + fewer ≡ size was) → IfSome r (λ fewer. variables_size new + fewer ≡ variables_size old)
   shrunk (Some fewer) by = omega (arith, room_changed, by)
   shrunk None by = tt

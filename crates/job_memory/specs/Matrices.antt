@@ -1,5 +1,5 @@
--- Arrays as matrices: their bounds, where rows and columns stand, their numbers in order, and numbers that are stored to all
--- elements without a subscript 0.
+-- Arrays as matrices: their bounds, the places of rows and columns, their numbers in order, and
+-- stores to all elements without a subscript 0.
 use Rattle.std.specs.Prelude.{ℕ, ◌+◌, ◌/◌, ◌%◌, nat_le, Bool, ◌&&◌, if◌then◌else◌, List, [], map, length, slice_index_or, Option, Some, None, ℤ, pos}
 use Rattle.std.specs.List.{range_with_len}
 use Rattle.std.specs.Map.{set_value}
@@ -15,22 +15,23 @@ use Rattle.job_memory.specs.Tables.{Table}
 
 -- BOUNDS
 
--- the greatest subscripts of an array
+-- the largest subscripts of an array
 abbrev pub bounds_of : Table → ℕ × Option ℕ
 bounds_of table = (table.first, table.second)
 
--- those of the array of this name, where one was made
+-- those of the array of this name, if one was made
 abbrev pub bounds : Name → Memory → Option (ℕ × Option ℕ)
 bounds name m = option_map bounds_of (array name m.arrays)
 
--- how many elements an array with these bounds has; none where there is no array
+-- how many elements an array with these bounds has; 0 if there is no array
 abbrev pub count_in : Option (ℕ × Option ℕ) → ℕ
 count_in (Some bounds) = count bounds.0 bounds.1
 count_in None = 0
 
 -- ROWS AND COLUMNS
 
--- the row and the column of the element at a place; an array of one subscript has one column, number 1
+-- the row and the column of the element at a place; an array of one subscript has one column,
+-- number 1
 abbrev pub subscripts_at : Option ℕ → ℕ → ℕ × ℕ
 subscripts_at None place = (place, 1)
 subscripts_at (Some second) place = (place / (second + 1), place % (second + 1))
@@ -45,11 +46,12 @@ abbrev pub cells_in : Option Table → List Content
 cells_in (Some table) = table.cells
 cells_in None = []
 
--- the numbers of an array in the order in which its elements stand; none where it was not made
+-- the numbers of an array in the order of its elements; none if it was not made
 abbrev pub numbers : Name → Memory → List ℤ
 numbers name m = map number_of (cells_in (array name m.arrays))
 
--- the element at a place: one without a subscript 0 has the number of its place, each other one stays
+-- the element at a place: one without a subscript 0 takes the number of its place, each other one
+-- stays
 abbrev pub renumbered_cell : (ℕ → ℤ) → Option ℕ → List Content → ℕ → Content
 renumbered_cell number second cells place =
     if is_inner (subscripts_at second place)
@@ -64,7 +66,7 @@ abbrev pub renumbered_table : (ℕ → ℤ) → Table → Table
 renumbered_table number table =
     record table { cells = renumbered_cells number table.second table.cells }
 
--- the arrays with this one renumbered, where it is among them
+-- the arrays with this one renumbered, if it is among them
 abbrev pub renumbered_in : Name → (ℕ → ℤ) → List (Name × Table) → Option Table → List (Name × Table)
 renumbered_in name number arrays (Some table) =
     set_value (at_name name) arrays (renumbered_table number table)

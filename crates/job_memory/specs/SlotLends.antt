@@ -1,4 +1,4 @@
--- What slots hold once a value that they lent was written.
+-- What slots contain after a value that they lent was written.
 use Rattle.std.specs.Prelude.{◌≡◌, ℕ, List, Option}
 use Rattle.std.specs.Borrow.{LendsSo, Fml, RattleType, MutBor}
 use Rattle.std.specs.Map.{set_value}
@@ -10,7 +10,7 @@ use Rattle.job_memory.specs.Names.{at_name}
 use Rattle.job_memory.specs.Slots.{slot_in, SameSlots, HoldsAt, IsOrdered}
 
 module _ (T : RattleType) where
-  -- a slot that holds something holds what was written
+  -- a slot that is not empty gets what was written
   abbrev pub lends_slot : MutBor (List (Option T.Denot)) → ℕ → Option (MutBor T.Denot) → Fml
   lends_slot s slot r = LendsSo (row.the_row T) T s r (λ n w. HoldsAt slot (option_map (λ _. w) (slot_in s.now slot)) s.now n) (λ n. SameSlots s.now n)
 

@@ -1,4 +1,4 @@
--- Own texts that are changed in their place. To the job that is a store of the changed text.
+-- Own strings that are changed in place. To the job that is a store of the changed string.
 use Rattle.std.specs.Prelude.{◌≡◌, ℕ, ◌<◌, ◌≤◌, Bool, true, false, List, [], ◌++◌, length, take, drop, Option, Some, None, Result, Ok, Err}
 use Rattle.std.specs.BTreeMap.{insert_entry}
 use Rattle.std.specs.Map.{lookup}
@@ -15,16 +15,16 @@ use Rattle.job_memory.specs.Contents.{size_in, text_of}
 use Rattle.job_memory.specs.Memory.{Memory, variable, store, room_of, variables_size}
 use Rattle.job_memory.specs.Names.{name_cmp, at_name}
 
--- the own text that a variable holds, or the empty one
+-- the own string of a variable, or the empty one
 abbrev pub own_text_in : Option Content → List ℕ
 own_text_in (Some content) = text_of content
 own_text_in None = []
 
--- a variable holds a text of its own
+-- a variable has a string of its own
 abbrev pub IsOwn : Option Content → Type 0
 IsOwn held = held ≡ Some (Own (own_text_in held))
 
--- WHERE A VARIABLE IS KEPT: what it holds there, the same with another content of it, and the room of all that is kept
+-- WHERE A VARIABLE IS KEPT: its content there, the same with another content, and the total size
 pub record Keeping (S : Type 0) : Type 0 where
   pub held : S → Option Content
   pub put : Content → S → S
@@ -43,8 +43,9 @@ among_variables name = record {
 abbrev pub in_memory : Name → Keeping Memory
 in_memory name = record { held = λ m. variable name m; put = λ content m. store name content m; room = room_of }
 
--- THE CHANGE of a variable's own text, where all that is kept may take this room at most. It tells whether the variable has
--- such a text. If not, if the changed text is too long or has no room, or if memory runs out, nothing changes.
+-- THE CHANGE of a variable's own string, if the total size may be this at most. The answer says
+-- whether the variable has such a string. If not, nothing changes. Nothing changes either if the
+-- changed string is too long, if the total size is not allowed, or if memory runs out.
 abbrev pub ChangesOwn : {S : Type 0} → Keeping S → ℕ → (List ℕ → List ℕ) → S → S → Result Bool (Trouble Halt) → Type 0
 ChangesOwn kept most change old new (Ok true) =
     IsOwn (kept.held old) × (length (own_text_in (kept.held old)) ≤ MOST_BYTES) × (length (change (own_text_in (kept.held old))) ≤ MOST_BYTES)
@@ -61,7 +62,7 @@ ChangesOwn kept most change old new (Err NoMemory) = new ≡ old
 abbrev pub lengthened : List ℕ → List ℕ → List ℕ
 lengthened more text = text ++ more
 
--- so many bytes are left, after the first ones
+-- this many bytes are left, after the first ones
 abbrev pub shortened : ℕ → ℕ → List ℕ → List ℕ
 shortened before count text = take count (drop before text)
 

@@ -1,5 +1,5 @@
-//! Arrays as matrices: their bounds, where their rows and columns stand, their numbers in order,
-//! and numbers that are stored to all elements without a subscript 0.
+//! Arrays as matrices: their bounds, the places of their rows and columns, their numbers in order,
+//! and stores to all elements without a subscript 0.
 
 ghost use Rattle.std.specs.Prelude.{◌≡◌, ◌+◌, ◌≤◌, take, drop, vec_len, IfOk};
 ghost use Rattle.job_memory.specs.Matrices.{bounds, count_in, subscripts_at, is_inner, numbers};
@@ -14,8 +14,8 @@ use crate::tables::Table;
 use basic_tree::Name;
 use basic_values::{Int, NoMemory};
 
-/// The row and the column of the element at a place, where this is the greatest second subscript.
-/// An array of one subscript has one column, number 1.
+/// Returns the row and the column of the element at a place, given the largest second subscript. An
+/// array of one subscript has one column, number 1.
 pub fn subscripts_at(second: Option<u16>, place: usize) -> (usize, usize)
     ensures { result ≡ subscripts_at second place }
 {
@@ -28,7 +28,7 @@ pub fn subscripts_at(second: Option<u16>, place: usize) -> (usize, usize)
     }
 }
 
-/// Whether neither subscript is 0.
+/// Returns whether neither subscript is 0.
 pub fn is_inner(subscripts: (usize, usize)) -> bool
     ensures { result ≡ is_inner subscripts }
 {
@@ -36,7 +36,7 @@ pub fn is_inner(subscripts: (usize, usize)) -> bool
 }
 
 impl Memory {
-    /// The greatest subscripts of an array; none where no array of that name was made.
+    /// Returns the largest subscripts of an array; none if no array of that name was made.
     pub fn bounds(&self, name: Name) -> Option<(u16, Option<u16>)>
         ensures { result ≡ bounds name self.now }
     {
@@ -46,8 +46,8 @@ impl Memory {
         }
     }
 
-    /// The numbers of an array, in the order in which its elements stand: the last subscript runs
-    /// fastest. There are none where it was not made.
+    /// Returns the numbers of an array, in the order of its elements: the last subscript runs
+    /// fastest. There are none if it was not made.
     pub fn numbers(&self, name: Name) -> Result<Vec<Int>, NoMemory>
         ensures numbers { IfOk result (λ list. list.items ≡ numbers name self.now) }
         ensures count { IfOk result (λ list. vec_len list ≡ count_in (bounds name self.now)) }
@@ -58,7 +58,7 @@ impl Memory {
         }
     }
 
-    /// So many of them, from a place on.
+    /// Returns `count` of these numbers, from a place on.
     pub fn numbers_from(
         &self,
         name: Name,
@@ -76,9 +76,9 @@ impl Memory {
         }
     }
 
-    /// Stores to each element of an array that has no subscript 0 the number at its place, in the
-    /// order of `numbers`; a place past the end of the list has 0. Elements with a subscript 0
-    /// stay. It takes no memory, and does nothing where the array was not made.
+    /// Stores to each element without a subscript 0 the number at its place, in the order of
+    /// `numbers`; past the end of the list that is 0. Elements with a subscript 0 stay. Takes no
+    /// memory, and does nothing if the array was not made.
     pub fn set_numbers(&mut self, name: Name, numbers: &[Int])
         ensures { self.new ≡ renumbered name (number_in_list numbers.now) self.old }
     {
@@ -86,7 +86,7 @@ impl Memory {
     }
 }
 
-/// Renumbers one of the arrays, and gives the room of all that there is then.
+/// Renumbers one of the arrays, and returns the total size then.
 fn renumber_in(arrays: &mut Slots<Table>, name: Name, numbers: &[Int], room: usize) -> usize
     requires ordered { IsOrdered arrays.old }
     requires counted { arrays_size arrays.old ≤ room }

@@ -1,5 +1,5 @@
-//! What is stored under names, without a walk: each letter has a row, and each name of that letter
-//! has a slot of its own there.
+//! What is stored under names, without a search: each letter has a row, and each name of that
+//! letter has its own slot there.
 
 ghost use Rattle.std.specs.Prelude.{◌≡◌, ◌<◌, [], vec_len, option_copied, IfOk, OnOk, OnErr, Some};
 ghost use Rattle.std.specs.Prelude.{None};
@@ -30,7 +30,7 @@ impl<T> Model for Row<T> {
     ghost view = { λ row. row.slots.items };
 }
 
-/// What is stored under names. It is seen as the list of its entries in the order of names.
+/// What is stored under names. Its model is the list of its entries in the order of names.
 #[derive(Drop)]
 pub(crate) struct Slots<T> {
     alloc: Global,
@@ -47,7 +47,7 @@ impl<T> Model for Slots<T> {
     ghost view = { λ slots. entries_of slots.rows.items };
 }
 
-/// The slot of a name in the row of its letter: a number comes before a text.
+/// Returns the slot of a name in the row of its letter: a number comes before a string.
 fn slot_of(name: Name) -> usize
     ensures { result ≡ slot_of name }
 {
@@ -58,7 +58,7 @@ fn slot_of(name: Name) -> usize
     2 * place + usize::from(name.text)
 }
 
-/// The slots reach to this one. Those that are made hold nothing.
+/// Extends the slots up to this one. New slots are empty.
 fn reach_slot<T: Drop>(slots: &mut Vec<Option<T>>, slot: usize) -> Result<(), NoMemory>
     ensures same { SameSlots slots.old.items slots.new.items }
     ensures reaches { OnOk result (slot < vec_len slots.new) }
@@ -69,7 +69,7 @@ fn reach_slot<T: Drop>(slots: &mut Vec<Option<T>>, slot: usize) -> Result<(), No
     Ok(())
 }
 
-/// The rows reach to that of this letter. Those that are made have no slots.
+/// Extends the rows up to that of this letter. New rows have no slots.
 fn reach_row<T: Drop>(alloc: Global, rows: &mut Vec<Row<T>>, letter: usize) -> Result<(), NoMemory>
     ensures same { SameRows rows.old.items rows.new.items }
     ensures reaches { OnOk result (letter < vec_len rows.new) }
@@ -123,7 +123,7 @@ impl<T: Drop> Row<T> {
 }
 
 impl<T: Drop> Slots<T> {
-    /// Nothing is stored. It takes no memory.
+    /// Returns slots with nothing stored. Takes no memory.
     pub(crate) fn new(alloc: Global) -> Slots<T>
         ensures empty { result ≡ [] }
         ensures ordered { IsOrdered result }
@@ -142,7 +142,7 @@ impl<T: Drop> Slots<T> {
         self.rows.clear();
     }
 
-    /// What is stored under a name.
+    /// Returns what is stored under a name.
     pub(crate) fn get(&self, name: Name) -> Option<&T>
         ensures value { option_copied result ≡ lookup (at_name name) self.now }
     {
@@ -152,7 +152,7 @@ impl<T: Drop> Slots<T> {
         }
     }
 
-    /// What is stored under a name, to be changed in its place.
+    /// Returns what is stored under a name, to be changed in place.
     pub(crate) fn get_mut(&mut self, name: Name) -> Option<&mut T>
         ensures* writes_back { sem 𝓛 (lends_value T.row self.entry name result) }
         ensures value { option_copied_mut result ≡ lookup (at_name name) self.old }
@@ -165,7 +165,7 @@ impl<T: Drop> Slots<T> {
         }
     }
 
-    /// Stores under a name, and gives what was stored there.
+    /// Stores under a name, and returns what was stored there.
     pub(crate) fn insert(&mut self, name: Name, value: T) -> Result<Option<T>, NoMemory>
         ensures old { IfOk result (λ old. old ≡ lookup (at_name name) self.old) }
         ensures entries { OnOk result (self.new ≡ insert_entry name_cmp self.old name value) }
@@ -177,7 +177,7 @@ impl<T: Drop> Slots<T> {
         self.rows[letter].insert(slot_of(name), value)
     }
 
-    /// Nothing is stored under a name from here on. It gives what was.
+    /// Removes what is stored under a name, and returns it.
     pub(crate) fn remove(&mut self, name: Name) -> Option<T>
         ensures value { result ≡ lookup (at_name name) self.old }
         ensures entries { self.new ≡ remove_entry (at_name name) self.old }

@@ -1,5 +1,5 @@
-//! Texts that are changed in their place. Only a text of its own can be: a part of a channel's
-//! buffer is another's place too.
+//! Strings that are changed in place. This needs an own string, because a part of a channel's
+//! buffer is shared.
 
 ghost use Rattle.std.specs.Prelude.{◌≡◌, ◌+◌, Ok, Some, IfOk, IfSome, if◌then◌else◌, length};
 ghost use Rattle.std.specs.Option.{is_some};
@@ -17,7 +17,7 @@ use basic_tree::Name;
 use basic_values::{Halt, MOST_BYTES, Text, Trouble};
 
 impl Memory {
-    /// Puts bytes at the end of the own text of a variable, as a store of both would, and returns
+    /// Puts bytes at the end of the own string of a variable, as a store of both would, and returns
     /// whether it has one. If not, nothing changes.
     pub fn append(&mut self, name: Name, more: &[u8]) -> Result<bool, Trouble<Halt>>
         ensures { Appends name more.now self.old self.new result }
@@ -32,9 +32,9 @@ impl Memory {
         }
     }
 
-    /// Leaves so many bytes of the own text of a variable, after the first ones, or all that are
-    /// there, as a store of these would, and returns whether it has one. If not, nothing changes.
-    /// It takes no memory.
+    /// Keeps `count` bytes of the own string of a variable, after the first `before`, or as many as
+    /// there are. To the job that is a store of these. Returns whether it has such a string; if
+    /// not, nothing changes. Takes no memory.
     pub fn cut(&mut self, name: Name, before: usize, count: usize) -> bool
         ensures { Cuts name before count self.old self.new result }
     {
@@ -48,8 +48,8 @@ impl Memory {
     }
 }
 
-/// Puts bytes at the end of the own text of one of these variables, if they may take so many bytes
-/// more.
+/// Puts bytes at the end of the own string of one of these variables, if they may take that many
+/// bytes more.
 fn append_in(
     variables: &mut Slots<Content>,
     name: Name,
@@ -69,8 +69,8 @@ fn append_in(
     }
 }
 
-/// Leaves a part of the own text of one of these variables, and returns how many bytes fewer there
-/// are; none if it has no such text.
+/// Keeps a part of the own string of one of these variables. Returns how many bytes fewer there
+/// are; none if it has no such string.
 fn cut_in(variables: &mut Slots<Content>, name: Name, before: usize, count: usize) -> Option<usize>
     requires { IsOrdered variables.old }
     ensures changes { ChangesOwn (among_variables name) (variables_size variables.old)
@@ -85,8 +85,8 @@ fn cut_in(variables: &mut Slots<Content>, name: Name, before: usize, count: usiz
     }
 }
 
-/// Puts bytes at the end of a text, if it may take so many bytes more, and returns whether there
-/// was one.
+/// Puts bytes at the end of a string, if it may take that many bytes more, and returns whether
+/// there was one.
 fn lengthen(place: &mut Content, more: &[u8], spare: usize) -> Result<bool, Trouble<Halt>>
     ensures { ChangesOwn one_variable (size place.old + spare)
         (lengthened more.now) (Some place.old) (Some place.new) result }
@@ -111,7 +111,8 @@ fn append_to(text: &mut Text, more: &[u8], spare: usize) -> Result<bool, Trouble
     Ok(true)
 }
 
-/// Leaves a part of a text, and returns how many bytes fewer there are; none if there is no text.
+/// Keeps a part of a string, and returns how many bytes fewer there are; none if there is no
+/// string.
 fn shorten(place: &mut Content, before: usize, count: usize) -> Option<usize>
     ensures changes { ChangesOwn one_variable (size place.old) (shortened before count)
         (Some place.old) (Some place.new) (Ok (is_some result)) }

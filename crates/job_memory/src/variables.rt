@@ -15,7 +15,7 @@ use basic_values::{Halt, Int, Text, Trouble};
 use record_fields::{Buffers, Part};
 
 impl Memory {
-    /// The number of a variable: 0 where nothing is stored.
+    /// Returns the number of a variable: 0 if nothing is stored.
     pub fn number(&self, name: Name) -> Int
         ensures { result ≡ number_in (variable name self.now) }
     {
@@ -25,8 +25,8 @@ impl Memory {
         }
     }
 
-    /// The text of a variable, lent: its own, or the part of a channel's buffer that stands for it.
-    /// It is empty where nothing is stored.
+    /// Returns the string of a variable, lent: its own, or its part of a channel's buffer. It is
+    /// empty if nothing is stored.
     pub fn text<'a>(&'a self, name: Name, buffers: &'a Buffers) -> &'a [u8]
         ensures { result.now ≡ text_in buffers.entry.now (variable name self.entry.now) }
     {
@@ -47,22 +47,22 @@ impl Memory {
         self.put(name, Content::Number(value))
     }
 
-    /// Stores a text of its own.
+    /// Stores a string of its own.
     pub fn set_text(&mut self, name: Name, value: Text) -> Result<(), Trouble<Halt>>
         ensures { Stores name (content.Own value) self.old self.new result }
     {
         self.put(name, Content::Own(value))
     }
 
-    /// Lets a part of a channel's buffer stand for a text.
+    /// Makes a part of a channel's buffer the string of a variable.
     pub fn bind_part(&mut self, name: Name, channel: u8, part: Part) -> Result<(), Trouble<Halt>>
         ensures { Stores name (content.Fielded channel part) self.old self.new result }
     {
         self.put(name, Content::Fielded { channel, part })
     }
 
-    /// Stores what does not take the place of a number. It stays out of line, so that a number that
-    /// takes another's place is stored without a call.
+    /// Stores a content that does not replace a number. It stays out of line, so that a number that
+    /// replaces another is stored without a call.
     #[inline(never)]
     fn put(&mut self, name: Name, content: Content) -> Result<(), Trouble<Halt>>
         ensures { Stores name content self.old self.new result }
@@ -76,14 +76,14 @@ impl Memory {
         Ok(())
     }
 
-    /// The room that there would be with this content stored.
+    /// Returns the total size as it would be with this content stored.
     fn room_with(&self, name: Name, content: &Content) -> usize
         ensures { result ≡ room_of (store name content.now self.now) }
     {
         self.room - self.size_at(name) + size(content)
     }
 
-    /// The room of a variable.
+    /// Returns the size of a variable.
     fn size_at(&self, name: Name) -> usize
         ensures { result ≡ size_in (variable name self.now) }
     {
@@ -94,8 +94,8 @@ impl Memory {
     }
 }
 
-/// Puts a number in the place of another, which takes as much room. It tells whether one was there;
-/// if not, nothing changes.
+/// Replaces a number by another of the same size. Returns whether there was one; if not, nothing
+/// changes.
 fn overwrite(variables: &mut Slots<Content>, name: Name, value: Int) -> bool
     requires { IsOrdered variables.old }
     ensures overwrites { Overwrites name value variables.old variables.new result }
@@ -107,7 +107,7 @@ fn overwrite(variables: &mut Slots<Content>, name: Name, value: Int) -> bool
     }
 }
 
-/// Puts a number in the place of another. It tells whether that was one.
+/// Replaces a number by another. Returns whether the content was one.
 fn renumber(place: &mut Content, value: Int) -> bool
     ensures { Renumbers value place.old place.new result }
 {

@@ -1,4 +1,4 @@
--- Which reply fits which request, worked out.
+-- Examples of which reply fits which request.
 use Rattle.std.proofs.Common.{◌≡◌, ℕ, true, false, List, [], refl, replicate}
 use Rattle.monitor_calls.specs.declared.names.Account.{Account}
 use Rattle.monitor_calls.specs.declared.calls.Request.TheVariants.{Logout, Get, Put, GetRecord, PutRecord, Receive, Tick, Assign, Print, Status}

@@ -1,4 +1,4 @@
--- Asking: a request is made, and it goes on by what the reply counts as.
+-- Asking: the tree makes a request, and continues by what the reply counts as.
 use Rattle.std.specs.Prelude.{ℕ, ◌+◌, ◌-◌, Bool, true, false, not, ◌&&◌, nat_lt, nat_le, length, if◌then◌else◌}
 use Rattle.basic_values.specs.declared.limits.TheConstants.{LONGEST_MESSAGE, MOST_BLOCKS, MOST_CALLS, MOST_JOBS}
 use Rattle.monitor_calls.specs.declared.calls.Request.{Request}
@@ -10,28 +10,28 @@ use Rattle.monitor_calls.specs.Volumes.{is_between}
 use Rattle.job_model.specs.Act.{Act, Gives, Asks}
 use Rattle.job_model.specs.declared.replies.TheConstants.{LAST_ERROR}
 
--- WHAT ANSWERS A REQUEST that is neither refused nor the last call of its job
+-- WHAT ANSWERS A REQUEST that the monitor does not refuse and that is not the last call of its job
 
 pub data AnswerKind : Type 0 where
-  -- Done, where this holds
+  -- Done, if this is true
   ByDone : Bool → AnswerKind
   ByOpened : AnswerKind
-  -- a block, where this holds
+  -- a block, if this is true
   ByBlock : Bool → AnswerKind
-  -- a record from this block on, of so many pages at the most
+  -- a record from this block on, of at most this many pages
   ByRecord : ℕ → ℕ → AnswerKind
   ByName : AnswerKind
   ByMessage : AnswerKind
   ByState : AnswerKind
 
--- whether a disk can have the block; and so many blocks from this one on
+-- whether a disk can have the block; and this many blocks from this one on
 abbrev pub can_be_block : ℕ → Bool
 can_be_block block = is_between 1 MOST_BLOCKS block
 
 abbrev pub can_be_blocks : ℕ → ℕ → Bool
 can_be_blocks block count = nat_le 1 block && nat_le (block + count - 1) MOST_BLOCKS
 
--- a writing is done only where a disk can have the blocks
+-- a write can be done only if a disk can have the blocks
 abbrev pub answer_to : Request → AnswerKind
 answer_to (Login account password) = ByDone true
 answer_to Logout = ByDone true
@@ -62,7 +62,7 @@ answer_to Status = ByState
 abbrev pub can_be_record : ℕ → ℕ → ℕ → Bool
 can_be_record block most count = is_between 1 most count && can_be_blocks block count
 
--- jobs are numbered from 0, and a job makes only so many calls
+-- jobs are numbered from 0, and the calls of a job are limited
 abbrev pub is_answer : AnswerKind → Reply → Bool
 is_answer (ByDone can_be) Done = can_be
 is_answer ByOpened (Opened blocks read write) = true
@@ -107,13 +107,13 @@ is_error number = is_between 1 LAST_ERROR number
 
 -- THE REPLIES THAT FIT
 
--- a refusal by an error, Expired at the last call, which a Logout never is, or the answer
+-- a refusal by an error; Expired at the last call, which a Logout never is; or the answer
 abbrev pub fits : Request → Reply → Bool
 fits request (Failed number) = can_fail request && is_error number
 fits request Expired = not (is_logout request)
 fits request reply = is_answer (answer_to request) reply
 
--- what stands for a reply that is none to this request
+-- what a reply that does not fit the request counts as
 abbrev pub unfitting : Request → Reply
 unfitting request = if is_logout request then Done else Expired
 

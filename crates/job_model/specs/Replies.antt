@@ -1,4 +1,4 @@
--- What a reply tells of what was asked. Nothing is kept meanwhile.
+-- What a reply leads to. It uses no part of the state.
 use Rattle.std.specs.Prelude.{◌≡◌, ℕ, Bool, if◌then◌else◌, List}
 use Rattle.monitor_calls.specs.declared.calls.Request.{Request}
 use Rattle.monitor_calls.specs.declared.calls.Reply.{Reply}
@@ -9,7 +9,7 @@ use Rattle.job_model.specs.Asking.{ask, counts_as, is_error}
 abbrev pub ReplyAct : Type 0 → Type 0
 ReplyAct A = Act ⊥ Unit A
 
--- WHAT IT LEADS TO: a refusal is a fault, and what is no reply to the request ends the job
+-- WHAT IT LEADS TO: a refusal is a fault, and a reply that does not fit the request ends the job
 
 abbrev pub done_by : Reply → ReplyAct Unit
 done_by Done = Gives tt tt
@@ -42,12 +42,12 @@ no_part = record { part = λ s. tt; with_part = λ s none. s }
 
 -- WHAT THE CALLS COMPUTE OF IT: the same as what it counts as
 
--- to a request that can be refused, and whether it can be done
+-- to a request that the monitor can refuse, and whether it can be done
 abbrev pub taken_as : Bool → Reply → Reply
 taken_as can_be_done Done = if can_be_done then Done else Expired
 taken_as can_be_done (Failed number) = if is_error number then Failed number else Expired
 taken_as can_be_done reply = Expired
 
--- nothing but Done or a refusal is a reply to the request, and Done only where it can be done
+-- only Done or a refusal is a reply to the request, and Done only if it can be done
 abbrev pub IsDoneOnly : Bool → Request → Type 0
 IsDoneOnly can_be_done request = (reply : Reply) → taken_as can_be_done reply ≡ counts_as request reply

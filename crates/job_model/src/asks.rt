@@ -1,4 +1,4 @@
-//! One request each over a port, and what the reply to it comes to.
+//! Calls that make one request each over a port, and return what its reply leads to.
 
 ghost use Rattle.std.specs.Prelude.{◌≡◌, true, length, IfOk, OnOk};
 ghost use Rattle.monitor_calls.specs.declared.calls.Request.TheVariants as request;
@@ -13,7 +13,8 @@ use basic_values::{Series, Stop};
 use monitor_calls::{FileName, OpenKind, Page, Port, Request};
 use std::alloc::Global;
 
-/// Asks what nothing but Done or a refusal is a reply to, and says whether it can be done.
+/// Makes a request to which only Done or a refusal is a reply. If it returns Ok, `can_be_done` is
+/// true.
 pub fn ask_done<P: Port>(
     alloc: Global,
     port: &mut P,
@@ -29,7 +30,7 @@ pub fn ask_done<P: Port>(
     done_by(&reply, can_be_done)
 }
 
-/// Opens a file, and gives how many blocks it has.
+/// Opens a file, and returns how many blocks it has.
 pub fn ask_open<P: Port>(
     alloc: Global,
     port: &mut P,
@@ -69,7 +70,7 @@ pub fn ask_block<P: Port>(
     block_by(reply, block)
 }
 
-/// Reads a record of up to so many blocks, and gives those that there are.
+/// Reads a record of at most `count` blocks, and returns the blocks that there are.
 pub fn ask_record<P: Port>(
     alloc: Global,
     port: &mut P,

@@ -1,4 +1,4 @@
-//! What a reply tells: that it was done, what was opened or read, or why not.
+//! What a reply says: that the request was done, what was opened or read, or why not.
 
 ghost use Rattle.std.specs.Prelude.{◌≡◌, ◌≤◌, ◌+◌, ℕ, Bool, true, length, Option, Some, IfOk, OnOk};
 ghost use Rattle.std.specs.Prelude.{if◌then◌else◌};
@@ -18,7 +18,7 @@ use monitor_calls::{Page, Reply};
 /// The last number of an error. The first is 1.
 pub const LAST_ERROR: u8 = 70;
 
-/// What a reply comes to that may be Done.
+/// Returns what a reply that may be Done leads to.
 pub fn done_by(reply: &Reply, can_be_done: bool) -> Result<(), Stop>
     ensures answer { answered_by result tt ≡ Some (done_by (taken_as can_be_done reply.now)) }
     ensures could { OnOk result (can_be_done ≡ true) }
@@ -30,7 +30,7 @@ pub fn done_by(reply: &Reply, can_be_done: bool) -> Result<(), Stop>
     }
 }
 
-/// What a reply to an opening comes to: how many blocks the file has.
+/// Returns how many blocks the file has, by a reply to its opening.
 pub fn opened_by(reply: &Reply) -> Result<u16, Stop>
     ensures { (channel : ℕ) (name : TheName) (kind : Kind) (update : Bool) (code : Option ℕ)
         → answered_by result tt ≡ Some (opened_by
@@ -43,7 +43,7 @@ pub fn opened_by(reply: &Reply) -> Result<u16, Stop>
     }
 }
 
-/// What a reply to the reading of this block comes to.
+/// Returns the block, by a reply to its reading.
 pub fn block_by(reply: Reply, block: u16) -> Result<Page, Stop>
     ensures answer { (channel : ℕ) → answered_by result tt
         ≡ Some (block_by (counts_as (request.Get channel block) reply)) }
@@ -62,7 +62,7 @@ pub fn block_by(reply: Reply, block: u16) -> Result<Page, Stop>
     }
 }
 
-/// What a reply to the reading of a record of so many blocks comes to.
+/// Returns the blocks of a record of at most `count`, by a reply to its reading.
 pub fn pages_by(reply: Reply, block: u16, count: u8) -> Result<Series<Page>, Stop>
     ensures answer { (channel : ℕ) → answered_by result tt
         ≡ Some (pages_by (counts_as (request.GetRecord channel block count) reply)) }
@@ -81,7 +81,7 @@ pub fn pages_by(reply: Reply, block: u16, count: u8) -> Result<Series<Page>, Sto
     }
 }
 
-/// What a refusal comes to.
+/// Returns what a refusal leads to. A number that no error has ends the job.
 fn refused_by(fault: Fault) -> Stop
     ensures { result ≡ if is_error fault then stop.Fault fault else stop.Expired }
 {
@@ -92,21 +92,21 @@ fn refused_by(fault: Fault) -> Stop
     }
 }
 
-/// Whether a refusal can have this number: errors are numbered from 1 to 70.
+/// Returns whether a refusal can have this number: errors are numbered from 1 to 70.
 pub fn is_error(fault: Fault) -> bool
     ensures { result ≡ is_error fault }
 {
     (1..=LAST_ERROR).contains(&fault.number())
 }
 
-/// Whether a disk can have the block.
+/// Returns whether a disk can have the block.
 pub fn can_be_block(block: u16) -> bool
     ensures { result ≡ can_be_block block }
 {
     (1..=MOST_BLOCKS).contains(&block)
 }
 
-/// Whether a disk can have so many blocks from this one on.
+/// Returns whether a disk can have `count` blocks from this one on.
 pub fn can_be_blocks(block: u16, count: usize) -> bool
     ensures { result ≡ can_be_blocks block count }
 {
@@ -114,7 +114,7 @@ pub fn can_be_blocks(block: u16, count: usize) -> bool
     1 <= block && count <= last && block as usize + count <= last + 1
 }
 
-/// Whether these can be the pages of a record that was read from this block on.
+/// Returns whether these can be the pages of a record that was read from this block on.
 fn can_be_record(block: u16, most: u8, pages: &[Page]) -> bool
     ensures { result ≡ can_be_record block most (length pages.now) }
 {

@@ -1,4 +1,4 @@
--- What is tested or done without asking.
+-- Tests and steps that make no request.
 use Rattle.std.proofs.Common.{◌≡◌, List, Option, Some, None, Result, sym}
 use Rattle.std.specs.Prelude.{IfSome}
 use Rattle.basic_values.specs.declared.failures.Stop.{Stop}
@@ -11,7 +11,7 @@ use Rattle.job_model.proofs.Follows.{follows_to, follows_stay, follows_nothing, 
 pub follows_tested : {P W S A : Type 0} {who : P → W} {log : P → List Event} {p : P} {c : Clock} (r : Result A Stop) (s : S) (m : Act ⊥ S A) → answered_by r s ≡ Some m → Follows who log p p c c m (answered_by r s)
 follows_tested r s m e = follows_to (sym e) follows_stay
 
--- where something is left, it is what was to be done
+-- if anything is left, it is what was to be done
 module _ {P W L S A : Type 0} {who : P → W} {log : P → List Event} {p : P} {c : Clock} {m : Act L S A} where
   all_left : (left : Option (Act L S A)) → IfSome left (λ t. m ≡ t) → Follows who log p p c c m left
   all_left None is = follows_nothing

@@ -1,4 +1,4 @@
--- Acts on elements of arrays in files, by the subscripts themselves.
+-- Trees for elements of arrays in files, by the subscripts themselves.
 use Rattle.std.proofs.Common.{◌≡◌, List, Option, ap, ◌∙◌}
 use Rattle.std.specs.Prelude.{ℤ}
 use Rattle.job_model.specs.Act.{Gives, ◌then◌, on}

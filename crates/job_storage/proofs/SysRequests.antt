@@ -1,4 +1,4 @@
--- What a text of SYS asks the monitor is one of the requests of its table.
+-- Each request that a SYS string makes is one of the requests of its table.
 use Rattle.std.proofs.Common.{◌≡◌, ℕ, List, subst}
 use Rattle.monitor_calls.specs.declared.calls.Request.{Request}
 use Rattle.monitor_calls.specs.declared.calls.Request.TheVariants.{Declare, Remove, Send, Receive, Status}

@@ -1,4 +1,4 @@
--- LSET and RSET, as acts on what a job keeps.
+-- LSET and RSET, as interaction trees over the variables and files.
 use Rattle.std.specs.Prelude.{ℕ, List, length, Option, Some, None}
 use Rattle.basic_tree.specs.declared.names.Name.{Name}
 use Rattle.job_memory.specs.declared.contents.Content.{Content}
@@ -11,11 +11,12 @@ use Rattle.record_fields.specs.declared.writing.Side.{Side}
 use Rattle.record_fields.specs.Buffers.{buffer_of, with_buffer}
 use Rattle.record_fields.specs.Writing.{justified, set_part}
 
--- what a job keeps, with other buffers
+-- the storage with other buffers
 abbrev pub with_buffers : List (List ℕ) → Storage → Storage
 with_buffers buffers s = record s { files = record s.files { buffers = buffers } }
 
--- a field changes in its buffer, and an own text keeps its length; where nothing is stored, nothing is
+-- a field changes in its buffer, and an own string keeps its length; if nothing is stored, nothing
+-- changes
 abbrev pub justify_in : Side → Name → List ℕ → Option Content → StorageAct (Unit {0})
 justify_in side x t (Some (content.Fielded c part)) s =
     Gives tt (with_buffers (with_buffer c (set_part side part t (buffer_of c s.files.buffers)) s.files.buffers) s)

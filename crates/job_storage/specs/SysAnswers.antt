@@ -1,4 +1,4 @@
--- What the monitor is asked by SYS, and what answers it.
+-- The requests of SYS, and what answers each of them.
 use Rattle.std.specs.Prelude.{true}
 use Rattle.monitor_calls.specs.declared.calls.Request.{Request}
 use Rattle.monitor_calls.specs.declared.calls.Request.TheVariants.{Declare, Remove, Send, Receive, Status}

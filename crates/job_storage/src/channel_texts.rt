@@ -1,4 +1,4 @@
-//! Texts on channels, and what is known of a channel without asking.
+//! Text on channels, and what is known of a channel without a request.
 
 ghost use Rattle.std.specs.Prelude.{◌≡◌};
 ghost use Rattle.channels.specs.Files.{channel_column, shown_count};
@@ -13,7 +13,7 @@ use monitor_calls::Port;
 use std::alloc::Global;
 
 impl Storage {
-    /// One writing of PRINT # or PRINT USING. Errors 46 and 9, and those of the monitor.
+    /// Writes once for PRINT # or PRINT USING. Errors 46 and 9, and those of the monitor.
     pub fn write_on<P: Port>(
         &mut self,
         alloc: Global,
@@ -28,8 +28,8 @@ impl Storage {
             .write_text(alloc, &mut self.buffers, port, channel, bytes)
     }
 
-    /// The next line of INPUT # or INPUT LINE #, without its end. Errors 46, 9, 50 where it is too
-    /// long, and those of the monitor: 11 at the end of the file.
+    /// Reads the next line for INPUT # or INPUT LINE #, without its end. Errors 46, 9, 50 if it is
+    /// too long, and those of the monitor: 11 at the end of the file.
     pub fn read_line<P: Port>(
         &mut self,
         alloc: Global,
@@ -43,15 +43,15 @@ impl Storage {
             .read_line(alloc, &mut self.buffers, port, channel)
     }
 
-    /// The column of a channel, from 0 on. The manual's POS. Error 46 outside 1 to 12, 9 where it
-    /// is not open.
+    /// Returns the column of a channel, from 0 on. The manual's POS. Error 46 outside 1 to 12, 9 if
+    /// it is not open.
     pub fn column(&self, channel: Int) -> Result<Int, Fault>
         ensures { result ≡ channel_column channel self.now.files.channels }
     {
         self.channels.column(channel)
     }
 
-    /// How many bytes the last GET read. The manual's RECOUNT.
+    /// Returns how many bytes the last GET read. The manual's RECOUNT.
     pub fn recount(&self) -> Int
         ensures { result ≡ shown_count self.now.files.recount }
     {

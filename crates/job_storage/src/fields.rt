@@ -22,9 +22,9 @@ use record_fields::{Part, Side, layout, lset, rset};
 use std::alloc::Global;
 
 impl Storage {
-    /// FIELD: each variable stands for the next part of the channel's buffer, of so many bytes.
-    /// Errors 46 and 9 of the channel, and 63 of the widths, which binds nothing. Where a variable
-    /// has no room those before it are bound.
+    /// Binds each variable to the next part of the channel's buffer, by the widths in bytes. The
+    /// manual's FIELD. Errors 46 and 9 of the channel. Error 63 of the widths binds nothing. If
+    /// memory for a variable runs out, those before it stay bound.
     pub(crate) fn field(
         &mut self,
         alloc: Global,
@@ -56,7 +56,7 @@ impl Storage {
         self.bind_all(channel, names, parts.as_slice())
     }
 
-    /// The parts of the channel's buffer that have these widths.
+    /// Returns the parts of the channel's buffer that have these widths.
     fn parts_for(&self, alloc: Global, channel: u8, widths: &[Value]) -> Result<Series<Part>, Stop>
         requires { IsChannel channel }
         ensures { (s : held.Storage) → IfSome (answered_by result s) (λ left.
@@ -97,8 +97,8 @@ impl Storage {
         }
     }
 
-    /// LSET or RSET by a text: a field changes in its buffer, and an own text keeps its length.
-    /// Where nothing is stored, nothing is.
+    /// Justifies a string for LSET or RSET: a field changes in its buffer, and an own string keeps
+    /// its length. If nothing is stored, nothing changes.
     pub fn justify(
         &mut self,
         alloc: Global,
@@ -119,7 +119,7 @@ impl Storage {
         }
     }
 
-    /// An own text becomes another of this length.
+    /// Replaces an own string by another of this length.
     fn justify_own(
         &mut self,
         alloc: Global,
@@ -140,8 +140,8 @@ impl Storage {
         }
     }
 
-    /// LSET or RSET by the text of a variable. Between fields of one channel it takes no memory,
-    /// and makes no copy.
+    /// Justifies the string of a variable for LSET or RSET. Between fields of one channel it takes
+    /// no memory, and makes no copy.
     pub fn justify_by(
         &mut self,
         alloc: Global,
@@ -161,7 +161,8 @@ impl Storage {
         self.justify(alloc, side, name, text.as_bytes())
     }
 
-    /// The parts that two variables stand for, where both lie in the buffer of one channel.
+    /// Returns the parts in which two variables are fielded, if both are in the buffer of one
+    /// channel.
     fn in_one_buffer(&self, name: Name, by: Name) -> Option<(u8, Part, Part)>
         ensures { IfSome result (λ found.
             (variable name self.now.memory ≡ Some (content.Fielded found.0 found.1))
@@ -177,7 +178,7 @@ impl Storage {
     }
 }
 
-/// A text of this length, justified. Only memory may run out.
+/// Returns a string of this length, justified. Only memory may run out.
 fn justified(alloc: Global, side: Side, length: usize, text: &[u8]) -> Result<Text, NoMemory>
     ensures { IfOk result (λ made. made ≡ justified side length text.now) }
 {

@@ -26,7 +26,7 @@ use record_fields::{RecordSize, natural};
 use std::alloc::Global;
 
 impl Storage {
-    /// What a statement on files does, by the values of its operands.
+    /// Does a statement on files, by the values of its operands.
     pub fn act<P: Port>(
         &mut self,
         alloc: Global,
@@ -68,9 +68,9 @@ impl Storage {
 
     // OPEN
 
-    /// OPEN: with RECORDSIZE and MODE, which are 0 where they are left out. Errors 46 outside 1 to
-    /// 12, 7 where the channel is open, 31 of RECORDSIZE and MODE, 8 and 2 of the file's name, and
-    /// those of the monitor.
+    /// Opens a file on a channel, with RECORDSIZE and MODE, which are 0 if they are left out. The
+    /// manual's OPEN. Errors 46 outside 1 to 12, 7 if the channel is open, 31 of RECORDSIZE and
+    /// MODE, 8 and 2 of the file's name, and those of the monitor.
     fn open<P: Port>(
         &mut self,
         alloc: Global,
@@ -133,7 +133,7 @@ impl Storage {
         )
     }
 
-    /// The channel of a number, for an OPEN; its error ends the statement.
+    /// Returns the channel of a number, for an OPEN; its error ends the statement.
     fn channel_to_open(&self, channel: Int) -> Result<u8, Stop>
         ensures tested { (s : held.Storage) → answered_by result s
             ≡ Some (is_tested (channel_to_open channel self.now.files.channels) s) }
@@ -145,7 +145,7 @@ impl Storage {
         }
     }
 
-    /// The file that a text names; its error ends the statement.
+    /// Returns the file that a string names; its error ends the statement.
     fn file_said(&self, text: &[u8]) -> Result<Spec, Stop>
         ensures { (s : held.Storage) → answered_by result s
             ≡ Some (is_tested (file_said text.now self.now) s) }
@@ -158,8 +158,8 @@ impl Storage {
 
     // CLOSE
 
-    /// CLOSE of one channel, which may be closed already. What was fielded on it is empty then.
-    /// Error 46 outside 1 to 12, and those of the monitor.
+    /// Closes one channel, which may be closed already. What was fielded on it is empty then. The
+    /// manual's CLOSE. Error 46 outside 1 to 12, and those of the monitor.
     fn close<P: Port>(&mut self, alloc: Global, port: &mut P, channel: Int) -> Result<(), Stop>
         ensures { (clock : play.Clock) → Follows P.who P.log port.old port.new clock clock
             (close_act channel self.old) (answered_by result self.new) }
@@ -171,7 +171,7 @@ impl Storage {
         Ok(())
     }
 
-    /// What was fielded on a channel that was closed is empty.
+    /// Empties what was fielded on a channel that was closed.
     fn forget(&mut self, closed: Option<u8>)
         ensures { self.new ≡ without_fields closed self.old }
     {
@@ -180,7 +180,7 @@ impl Storage {
         }
     }
 
-    /// The quiet closing of all channels, in rising order. No refusal is told.
+    /// Closes all channels implicitly, in increasing order. Refusals are ignored.
     pub fn shut_all<P: Port>(&mut self, alloc: Global, port: &mut P) -> Result<(), Stop>
         ensures { (clock : play.Clock) → Follows P.who P.log port.old port.new clock clock
             (shut_act self.old) (answered_by result self.new) }
@@ -192,7 +192,7 @@ impl Storage {
 
     // GET, PUT AND UNLOCK
 
-    /// GET: a record comes into the channel's buffer.
+    /// Reads a record into the channel's buffer. The manual's GET.
     fn get<P: Port>(
         &mut self,
         alloc: Global,
@@ -207,7 +207,7 @@ impl Storage {
             .get(alloc, &mut self.buffers, port, channel, block)
     }
 
-    /// PUT: the channel's buffer is written as a record.
+    /// Writes the channel's buffer as a record. The manual's PUT.
     fn put<P: Port>(
         &mut self,
         alloc: Global,
@@ -222,7 +222,7 @@ impl Storage {
             .put(alloc, &self.buffers, port, channel, block)
     }
 
-    /// UNLOCK: the monitor lets go of what the channel holds.
+    /// Asks the monitor to release what the channel has locked. The manual's UNLOCK.
     fn unlock<P: Port>(&mut self, alloc: Global, port: &mut P, channel: Int) -> Result<(), Stop>
         ensures { (clock : play.Clock) → Follows P.who P.log port.old port.new clock clock
             (unlock_act channel self.old) (answered_by result self.new) }
@@ -232,7 +232,8 @@ impl Storage {
 
     // KILL, NAME AND SLEEP
 
-    /// KILL of the file that a text names. Errors 8 and 2 of the name, and those of the monitor.
+    /// Deletes the file that a string names. The manual's KILL. Errors 8 and 2 of the name, and
+    /// those of the monitor.
     fn kill<P: Port>(&mut self, alloc: Global, port: &mut P, text: &[u8]) -> Result<(), Stop>
         ensures { (clock : play.Clock) → Follows P.who P.log port.old port.new clock clock
             (kill_act text.now self.old) (answered_by result self.new) }
@@ -241,7 +242,8 @@ impl Storage {
         self.ask(alloc, port, Request::Kill { name: spec.name })
     }
 
-    /// NAME: the file that a text names gets the name, and the code, of another text.
+    /// Gives the file that a string names the name, and the code, of another string. The manual's
+    /// NAME.
     fn rename<P: Port>(
         &mut self,
         alloc: Global,
@@ -265,7 +267,7 @@ impl Storage {
         )
     }
 
-    /// SLEEP of so many seconds, of none where the number is negative.
+    /// Sleeps for this many seconds, or for none if the number is negative. The manual's SLEEP.
     fn sleep<P: Port>(&mut self, alloc: Global, port: &mut P, number: Int) -> Result<(), Stop>
         ensures { (clock : play.Clock) → Follows P.who P.log port.old port.new clock clock
             (sleep_act number self.old) (answered_by result self.new) }
@@ -279,7 +281,7 @@ impl Storage {
         )
     }
 
-    /// Asks what is done or refused.
+    /// Makes a request that is either done or refused.
     fn ask<P: Port>(&mut self, alloc: Global, port: &mut P, request: Request) -> Result<(), Stop>
         requires { IsDoneOnly true request }
         ensures { (clock : play.Clock) → Follows P.who P.log port.old port.new clock clock
@@ -289,7 +291,7 @@ impl Storage {
     }
 }
 
-/// RECORDSIZE and MODE; error 31 ends the statement.
+/// Returns what RECORDSIZE and MODE mean; error 31 ends the statement.
 fn record_and_mode(bytes: Int, mode: Int) -> Result<(RecordSize, bool), Stop>
     ensures { (s : held.Storage) → answered_by result s
         ≡ Some (is_tested (record_and_mode bytes mode) s) }
@@ -300,7 +302,7 @@ fn record_and_mode(bytes: Int, mode: Int) -> Result<(RecordSize, bool), Stop>
     }
 }
 
-/// The records of RECORDSIZE, where there are such.
+/// Returns the records of RECORDSIZE, if there are such.
 fn record_size(bytes: Int) -> Option<RecordSize>
     ensures { result ≡ record_size (natural bytes) }
 {
@@ -312,7 +314,7 @@ fn record_size(bytes: Int) -> Option<RecordSize>
     }
 }
 
-/// Whether MODE holds a block that was got.
+/// Returns whether MODE locks a block that GET reads; none if it is not a mode.
 fn is_update(mode: Int) -> Option<bool>
     ensures { result ≡ is_update (natural mode) }
 {
@@ -323,14 +325,14 @@ fn is_update(mode: Int) -> Option<bool>
     }
 }
 
-/// What stands for the extension of a name without one.
+/// Returns the extension of a name without one, which is empty.
 fn no_extension() -> Short
     ensures { result ≡ [] }
 {
     Short::of(b"").unwrap()
 }
 
-/// The seconds of SLEEP.
+/// Returns the seconds of SLEEP.
 fn seconds_of(number: Int) -> u16
     ensures { result ≡ seconds_of number }
 {

@@ -15,8 +15,8 @@ use std::alloc::Global;
 use virtual_arrays::{Element, VirtualShape, read, write_number, write_text};
 
 impl Storage {
-    /// An element of an array in a file, by its subscripts. Errors 46 and 9 of its channel, 31 on a
-    /// channel with larger records, 55 of the subscripts, and those of the monitor.
+    /// Reads an element of an array in a file, by its subscripts. Errors 46 and 9 of its channel,
+    /// 31 on a channel with larger records, 55 of the subscripts, and those of the monitor.
     pub fn read_element<P: Port>(
         &mut self,
         alloc: Global,
@@ -39,8 +39,8 @@ impl Storage {
         Ok(value_of(element))
     }
 
-    /// Stores a value to an element of an array in a file: a longer text is cut, and zeros stand
-    /// behind a shorter one. Errors as of `read_element`.
+    /// Stores a value to an element of an array in a file: a longer string is cut, and a shorter
+    /// one is filled up with zeros. Errors as of `read_element`.
     pub fn write_element<P: Port>(
         &mut self,
         alloc: Global,
@@ -79,7 +79,7 @@ impl Storage {
     }
 }
 
-/// The second of the subscripts, if there is one.
+/// Returns the second of the subscripts, if there is one.
 pub fn second(subscripts: &[Value]) -> Option<Int>
     ensures { result ≡ second subscripts.now }
 {
@@ -89,7 +89,7 @@ pub fn second(subscripts: &[Value]) -> Option<Int>
     }
 }
 
-/// An element's value, as a program has it.
+/// Returns an element's value, as a program has it.
 fn value_of(element: Element) -> Value
     ensures { result ≡ value_of_element element }
 {

@@ -1,11 +1,11 @@
-//! What a job keeps of its variables and files, and what the statements on files do to it.
+//! A job's variables and files, and what the statements on files do to them.
 //!
-//! `storage::Storage` is the state: for whom the job acts, its variables, its channels and their
-//! buffers, and core common. `Storage::act` carries the promise: over any port a statement on files
-//! goes through the act that `program_model` has for it; so do one writing, the reading of a line,
-//! elements of arrays in files, and SYS. It stands on `job_memory` for variables, on `channels` and
-//! `virtual_arrays` for files, on `sys_calls` for the texts of SYS, and on `file_names` for the
-//! names that programs write.
+//! `storage::Storage` is the state: the job's account, its variables, its channels and their
+//! buffers, and core common. `Storage::act` promises that over any port a statement on files
+//! executes the interaction tree that `program_model` has for it. So does one write, the reading of
+//! a line, an element of an array in a file, and SYS. The crate uses `job_memory` for variables,
+//! `channels` and `virtual_arrays` for files, `sys_calls` for the strings of SYS, and `file_names`
+//! for the names that programs write.
 #![tactic(auto)]
 
 mod channel_texts;

@@ -1,4 +1,4 @@
-//! What a job keeps of its variables and files.
+//! A job's variables and files.
 
 ghost use Rattle.std.specs.Prelude.{◌≡◌, Ok, [], IfOk, IfErr, Err, replicate};
 ghost use Rattle.basic_values.specs.declared.limits.TheConstants.{LAST_CHANNEL};
@@ -20,8 +20,8 @@ use record_fields::Buffers;
 use std::alloc::Global;
 use std::marker::Model;
 
-/// For whom a job acts, its variables, its channels and their buffers, in which some texts stand,
-/// and core common.
+/// The account that a job acts for, its variables, its channels and their buffers, which contain
+/// the fielded strings, and core common.
 #[derive(Drop)]
 pub struct Storage {
     pub(crate) account: Account,
@@ -46,7 +46,7 @@ impl Model for Storage {
 }
 
 impl Storage {
-    /// No variables, no open channel, and an empty core common.
+    /// Returns a storage with no variables, no open channel, and an empty core common.
     pub fn new(alloc: Global, account: Account, buffers: Buffers) -> Storage
         ensures { result ≡ record {
           account = account;
@@ -68,14 +68,14 @@ impl Storage {
         }
     }
 
-    /// For whom the job acts.
+    /// Returns the account that the job acts for.
     pub fn account(&self) -> Account
         ensures { result ≡ self.now.account }
     {
         self.account
     }
 
-    /// The job acts for this account.
+    /// Makes the job act for this account.
     pub fn act_for(&mut self, account: Account)
         ensures { self.new ≡ record self.old { account = account } }
     {
@@ -89,7 +89,7 @@ impl Storage {
         self.memory.clear();
     }
 
-    /// Makes an array of zeros, or of empty texts, in the place of the one that is there.
+    /// Makes an array of zeros, or of empty strings, in the place of the one that is there.
     pub fn dim(&mut self, shape: Shape) -> Result<(), Trouble<Halt>>
         ensures memory { Changes
             self.old.memory self.new.memory (made shape self.old.memory) result }
@@ -100,14 +100,14 @@ impl Storage {
         self.memory.dim(shape)
     }
 
-    /// The number of a variable: 0 where nothing is stored.
+    /// Returns the number of a variable: 0 if nothing is stored.
     pub fn number(&self, name: Name) -> Int
         ensures { result ≡ number_in (variable name self.now.memory) }
     {
         self.memory.number(name)
     }
 
-    /// The text of a variable, lent. It is empty where nothing is stored.
+    /// Returns the string of a variable, lent. It is empty if nothing is stored.
     pub fn text(&self, name: Name) -> &[u8]
         ensures { result.now
             ≡ text_in self.entry.now.files.buffers (variable name self.entry.now.memory) }
@@ -125,7 +125,7 @@ impl Storage {
         self.memory.set_number(name, value)
     }
 
-    /// Stores a text.
+    /// Stores a string.
     pub fn set_text(&mut self, name: Name, value: Text) -> Result<(), Trouble<Halt>>
         ensures memory { Stores name (content.Own value) self.old.memory self.new.memory result }
         ensures files { self.new.files ≡ self.old.files }
@@ -135,8 +135,8 @@ impl Storage {
         self.memory.set_text(name, value)
     }
 
-    /// Puts bytes behind the own text of a variable, and tells whether it has one. If not, nothing
-    /// changes.
+    /// Puts bytes at the end of the own string of a variable, and returns whether it has one. If
+    /// not, nothing changes.
     pub fn append(&mut self, name: Name, more: &[u8]) -> Result<bool, Trouble<Halt>>
         ensures memory { Appends name more.now self.old.memory self.new.memory result }
         ensures files { self.new.files ≡ self.old.files }
@@ -146,8 +146,8 @@ impl Storage {
         self.memory.append(name, more)
     }
 
-    /// Leaves a part of the own text of a variable, and tells whether it has one. If not, nothing
-    /// changes. It takes no memory.
+    /// Keeps a part of the own string of a variable, and returns whether it has one. If not,
+    /// nothing changes. Takes no memory.
     pub fn cut(&mut self, name: Name, part: Cut) -> bool
         ensures memory { Cuts name part.before part.count
             self.old.memory self.new.memory result }
@@ -158,14 +158,14 @@ impl Storage {
         self.memory.cut(name, part.before, part.count)
     }
 
-    /// The number of an element, or error 55.
+    /// Returns the number of an element, or error 55.
     pub fn number_at(&self, name: Name, first: Int, second: Option<Int>) -> Result<Int, Fault>
         ensures { result ≡ number_at name first second self.now.memory }
     {
         self.memory.number_at(name, first, second)
     }
 
-    /// The text of an element, lent, or error 55.
+    /// Returns the string of an element, lent, or error 55.
     pub fn text_at(&self, name: Name, first: Int, second: Option<Int>) -> Result<&[u8], Fault>
         ensures text { IfOk result
             (λ t. text_at name first second self.entry.now.memory ≡ Ok t.now) }
@@ -192,7 +192,7 @@ impl Storage {
         self.memory.set_number_at(name, first, second, value)
     }
 
-    /// Stores a text to an element, or error 55.
+    /// Stores a string to an element, or error 55.
     pub fn set_text_at(
         &mut self,
         name: Name,
@@ -209,7 +209,8 @@ impl Storage {
         self.memory.set_text_at(name, first, second, value)
     }
 
-    /// A call begins: the variables of these names are kept aside, and hold 0 or the empty text.
+    /// Begins a call: keeps the variables of these names aside, and sets them to 0 or the empty
+    /// string.
     pub fn enter(&mut self, names: &[Name]) -> Result<(), Trouble<Halt>>
         ensures memory { Changes
             self.old.memory self.new.memory (enter names.now self.old.memory) result }
@@ -220,8 +221,8 @@ impl Storage {
         self.memory.enter(names)
     }
 
-    /// The last call that has not ended ends: its variables hold again what they held before it. It
-    /// takes no memory.
+    /// Ends the newest running call: its variables get back their contents from before it. Takes no
+    /// memory.
     pub fn leave(&mut self)
         ensures { self.new ≡ record self.old { memory = leave self.old.memory } }
     {

@@ -1,4 +1,4 @@
-//! SYS: what a text asks, and the text that is given.
+//! SYS: what a string asks for, and the string that it returns.
 
 ghost use Rattle.std.specs.Prelude.{◌≡◌, Some, IfSome, IsTrue, if◌then◌else◌};
 ghost use Rattle.basic_values.specs.declared.failures.Stop.TheVariants as stop;
@@ -21,7 +21,7 @@ use monitor_calls::{Port, Reply, Request};
 use std::alloc::Global;
 use sys_calls::{SysCall, decode, encode};
 
-/// What answers a request of SYS, where it is not refused.
+/// What answers a request of SYS, if it is not refused.
 #[derive(Clone, Copy)]
 pub(crate) enum SysAnswer {
     Done,
@@ -30,8 +30,8 @@ pub(crate) enum SysAnswer {
 }
 
 impl Storage {
-    /// SYS: what the text asks is done, and a text is given. Error 18 of a text that asks nothing,
-    /// and those of the monitor.
+    /// Does what the string of SYS asks for, and returns a string. Error 18 of a string that asks
+    /// for nothing, and those of the monitor.
     pub fn sys<P: Port>(&mut self, alloc: Global, port: &mut P, text: &[u8]) -> Result<Text, Stop>
         ensures { (clock : play.Clock) → Follows P.who P.log port.old port.new clock clock
             (sys_act text.now self.old) (answered_by result self.new) }
@@ -65,7 +65,7 @@ impl Storage {
     }
 }
 
-/// Asks the monitor, and tells its answer as a text.
+/// Makes a request, and returns its answer as a string.
 fn ask_text<P: Port>(alloc: Global, port: &mut P, request: Request) -> Result<Text, Stop>
     requires { IsAskedBySys request }
     ensures { (clock : play.Clock) → Follows P.who P.log port.old port.new clock clock
@@ -76,7 +76,7 @@ fn ask_text<P: Port>(alloc: Global, port: &mut P, request: Request) -> Result<Te
     text_by(alloc, answer, &reply)
 }
 
-/// What answers a request of SYS.
+/// Returns what answers a request of SYS.
 fn answer_to(request: &Request) -> SysAnswer
     requires { IsAskedBySys request.now }
     ensures { answer_to request.now ≡ kind_answered result }
@@ -88,7 +88,8 @@ fn answer_to(request: &Request) -> SysAnswer
     }
 }
 
-/// The text of a reply; a refusal ends the statement, and what is no reply to the request the job.
+/// Returns the string of a reply. A refusal ends the statement, and a reply that does not fit the
+/// request ends the job.
 fn text_by(alloc: Global, answer: SysAnswer, reply: &Reply) -> Result<Text, Stop>
     ensures { (request : Asked) → IsAskedBySys request → answer_to request ≡ kind_answered answer
         → IfSome (answered_by result tt) (λ left. text_by (counts_as request reply.now) ≡ left) }
@@ -103,7 +104,7 @@ fn text_by(alloc: Global, answer: SysAnswer, reply: &Reply) -> Result<Text, Stop
     }
 }
 
-/// What a refusal comes to.
+/// Returns what a refusal leads to. A number that no error has ends the job.
 fn refused_by(fault: Fault) -> Stop
     ensures { result ≡ if is_error fault then stop.Fault fault else stop.Expired }
 {
@@ -114,7 +115,7 @@ fn refused_by(fault: Fault) -> Stop
     }
 }
 
-/// Whether a reply is the answer.
+/// Returns whether a reply is the answer.
 fn is_told(answer: SysAnswer, reply: &Reply) -> bool
     ensures is { result ≡ is_answer (kind_answered answer) reply.now }
     ensures told { IsTrue result → IsToldBySys reply.now }

@@ -1,4 +1,4 @@
-//! Values by their place among others: a missing one counts as 0, and as an empty text.
+//! Values by their place in a list: a missing one counts as 0, and as an empty string.
 
 ghost use Rattle.std.specs.Prelude.{◌≡◌, ◌≤◌, drop, length, map, IfOk};
 ghost use Rattle.basic_values.specs.declared.texts.TheConstants.{MOST_BYTES};
@@ -9,7 +9,7 @@ use basic_values::{Int, NoMemory, Text};
 use program_model::Value;
 use std::alloc::Global;
 
-/// The number of a value, 0 of a text.
+/// Returns the number of a value, 0 for a string.
 pub fn number(value: &Value) -> Int
     ensures { result ≡ number value.now }
 {
@@ -19,7 +19,7 @@ pub fn number(value: &Value) -> Int
     }
 }
 
-/// The bytes of a value, none of a number.
+/// Returns the bytes of a value, none for a number.
 pub fn bytes(value: &Value) -> &[u8]
     ensures bytes { result.now ≡ text value.entry.now }
     ensures short { length result.now ≤ MOST_BYTES }
@@ -30,7 +30,7 @@ pub fn bytes(value: &Value) -> &[u8]
     }
 }
 
-/// A text of its own of the bytes of another, which are not too many: only memory may run out.
+/// Returns a copy of a string that is not too long: only memory may run out.
 pub fn copied(alloc: Global, bytes: &[u8]) -> Result<Text, NoMemory>
     ensures { IfOk result (λ text. text ≡ bytes.now) }
 {
@@ -40,7 +40,7 @@ pub fn copied(alloc: Global, bytes: &[u8]) -> Result<Text, NoMemory>
     }
 }
 
-/// The value of this place, from 0, as a number.
+/// Returns the value at this place, from 0, as a number.
 pub fn number_at(place: usize, values: &[Value]) -> Int
     ensures { result ≡ number_at place values.now }
 {
@@ -50,7 +50,7 @@ pub fn number_at(place: usize, values: &[Value]) -> Int
     }
 }
 
-/// The value of this place, from 0, as a text.
+/// Returns the value at this place, from 0, as a string.
 pub fn text_at(place: usize, values: &[Value]) -> &[u8]
     ensures bytes { result.now ≡ text_at place values.entry.now }
     ensures short { length result.now ≤ MOST_BYTES }
@@ -61,7 +61,7 @@ pub fn text_at(place: usize, values: &[Value]) -> &[u8]
     }
 }
 
-/// The values behind the first.
+/// Returns the values after the first.
 pub(crate) fn behind_first(values: &[Value]) -> &[Value]
     ensures { result.now ≡ drop 1 values.entry.now }
 {
@@ -71,7 +71,7 @@ pub(crate) fn behind_first(values: &[Value]) -> &[Value]
     }
 }
 
-/// The values as numbers.
+/// Returns the values as numbers.
 pub(crate) fn numbers(alloc: Global, values: &[Value]) -> Result<Vec<Int>, NoMemory>
     ensures { IfOk result (λ numbers. numbers.items ≡ map number values.now) }
 {

@@ -2,7 +2,7 @@
 
 use std::test::Fail;
 
-/// Fails with the table and the place of a row, if the row has another result.
+/// Fails with the table and the place of a table entry, if it has another result.
 pub(crate) fn expect_row(table: &str, place: usize, is_so: bool) -> Result<(), Fail> {
     if is_so {
         return Ok(());
@@ -10,7 +10,7 @@ pub(crate) fn expect_row(table: &str, place: usize, is_so: bool) -> Result<(), F
     Err(Fail::new(format_args!("row {place} of {table} is answered otherwise")))
 }
 
-/// Fails with this text, unless it is so.
+/// Fails with this message, unless the condition is true.
 pub(crate) fn expect(is_so: bool, what: &str) -> Result<(), Fail> {
     if is_so { Ok(()) } else { Err(Fail::new(what)) }
 }

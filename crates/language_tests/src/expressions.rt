@@ -1,4 +1,4 @@
-//! Lines and their words, and the longest expression at the front of a line.
+//! Lines and their words, and the longest expression that a line begins with.
 
 use crate::expects::expect_row;
 use basic_expr::{Word, Words, parse_expr};
@@ -315,7 +315,7 @@ fn refused(refusal: Refusal) -> Answer {
     }
 }
 
-/// A line, the kind that is wanted at its front, and the result.
+/// A line, the kind that is expected at its beginning, and the result.
 type Row = (&'static [u8], Want, Answer);
 
 /// The longest run of tokens is taken, and the others are left.

@@ -504,7 +504,8 @@ fn words_stand_behind_a_value_or_not(rt: HostRuntime) -> Result<(), Fail> {
     expect(remark == Answer::Tree, "a remark behind a value")
 }
 
-/// The parts of a nested line, and its result: front, part, middle, end, number of levels, result.
+/// The parts of a nested line, and its result: beginning, part, middle, end, number of nesting
+/// levels, result.
 type Nest = (
     &'static [u8],
     &'static [u8],
@@ -543,7 +544,7 @@ static NESTS: [Nest; 15] = [
     (b"STOPIF1IF1IF", b"(", b"1", b")", 61, Answer::Tree),
     (b"STOPIF1IF1IF", b"(", b"1", b")", 62, Answer::TooDeep(67)),
     (b"PRINT", b"(", b")", b")", 65, Answer::TooDeep(65)),
-    // an error before the level that is too deep is reported first
+    // an error before the nesting level that is too deep is reported first
     (b"PRINT 1 1", b"(", b"1", b")", 65, Answer::Syntax(2)),
 ];
 
@@ -555,7 +556,7 @@ fn push_times(line: &mut Vec<u8>, part: &[u8], times: usize) -> Result<(), Alloc
     Ok(())
 }
 
-/// Appends the front, the part this many times, the middle, and the end as many times.
+/// Appends the beginning, the part this many times, the middle, and the end as many times.
 fn push_nest(line: &mut Vec<u8>, nest: &Nest) -> Result<(), AllocError> {
     line.extend_from_slice(nest.0)?;
     push_times(line, nest.1, nest.4)?;

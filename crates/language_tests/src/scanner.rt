@@ -20,7 +20,7 @@ const D: TokenKind = TokenKind::DataItem;
 
 const S: TokenKind = TokenKind::Sign;
 
-/// A wanted token: its kind, its start and its bytes.
+/// An expected token: its kind, its start and its bytes.
 type Wanted<'a> = (TokenKind, u16, &'a [u8]);
 
 /// A line, and its tokens.
@@ -247,7 +247,7 @@ fn refused() -> &'static [Refused] {
 }
 
 /// The keywords except REM and DATA, and the longer one of two spellings, with blanks between them:
-/// the proof goes through each row of a table, but takes this text as one.
+/// the proof goes through each row of a table, but takes this string as one.
 const WORDS: &[u8] =
     b"ABS% AND AS ASCII CHAIN CHR$ CLOSE CLUSTERSIZE CON CVT$% CVT%$ DEF DIM ELSE END EQV \
 ERL ERR ERROR FIELD FILE FNEND FOR GET GO GOSUB GOTO IDN IF IMP INPUT INSTR KILL \
@@ -256,7 +256,7 @@ POS PRINT PUT READ RECORD RECORDSIZE RECOUNT RESTORE RESUME RETURN RIGHT$ RSET S
 SLEEP SPACE$ STEP STOP STRING$ SUB SWAP% SYS TAB THEN TO TRN UNLESS UNLOCK UNTIL \
 USING VAL WHILE XLATE XOR ZER";
 
-/// Returns whether a token is the wanted one.
+/// Returns whether a token is the expected one.
 fn is_token(token: Token<'_>, wanted: &Wanted<'_>) -> bool {
     token.kind == wanted.0 && token.start == wanted.1 && token.bytes == wanted.2
 }
@@ -354,7 +354,7 @@ fn ends_before(line: &[u8], word: &[u8], behind: &[u8], kind: Option<TokenKind>)
     }
 }
 
-/// The same for the word with that text after it.
+/// Returns the same for the word with those bytes after it.
 fn is_ended(alloc: Global, word: &[u8], behind: &[u8], kind: Option<TokenKind>) -> bool {
     match [word, behind].concat(alloc) {
         Ok(line) => ends_before(line.as_slice(), word, behind, kind),
@@ -372,7 +372,7 @@ fn ends(alloc: Global, word: &[u8]) -> bool {
     true
 }
 
-/// Returns the first word of a text, and what follows the blank after it.
+/// Returns the first word of some bytes, and what follows the blank after it.
 fn cut_word(text: &[u8]) -> (&[u8], &[u8]) {
     for place in 0..text.len() {
         if text[place] == b' ' {
@@ -382,7 +382,7 @@ fn cut_word(text: &[u8]) -> (&[u8], &[u8]) {
     (text, &text[text.len()..])
 }
 
-/// Fails with the first word of a text that does not end like this.
+/// Fails with the first of these words that does not end like this.
 fn expect_ends(alloc: Global, words: &[u8]) -> Result<(), Fail> {
     let mut rest = words;
     for place in 0..words.len() {
@@ -439,7 +439,7 @@ fn are_keywords(word: &[u8], other: &[u8]) -> bool {
     keyword_of(word) == Some(Keyword::Left) && keyword_of(other).is_none()
 }
 
-/// The same for signs.
+/// Returns the same for signs.
 fn are_signs(sign: &[u8], other: &[u8]) -> bool {
     sign_of(sign) == Some(Sign::DoubleStar) && sign_of(other).is_none()
 }

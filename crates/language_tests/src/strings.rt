@@ -155,7 +155,7 @@ fn parts() -> &'static [Row] {
     &PARTS
 }
 
-/// The parts as new strings, and cut in place.
+/// Checks the parts as new strings, and cut in place.
 #[test]
 fn parts_by_length_and_place(rt: HostRuntime) -> Result<(), Fail> {
     let rows = parts();
@@ -221,7 +221,7 @@ fn numbers() -> &'static [Row] {
     &NUMBERS
 }
 
-/// A number as its shortest text, as it is printed and as two bytes, its absolute value and its
+/// A number in its shortest form, as it is printed and as two bytes, its absolute value and its
 /// sign.
 type Back = (i16, &'static [u8], &'static [u8], [u8; 2], i16, i16);
 
@@ -233,7 +233,7 @@ static BACK: [Back; 5] = [
     (LOW, b"-32768", b"-32768 ", [128, 0], LOW, -1),
 ];
 
-/// Returns whether the texts of a number are read as that number.
+/// Returns whether the strings of a number are read as that number.
 fn gives_back(row: &Back) -> bool {
     let found = (value(row.1), value(row.2), item(row.1));
     found == (Ok(row.0), Ok(row.0), Ok(row.0)) && number_of(&row.3).value() == row.0
@@ -285,7 +285,7 @@ fn value_of(answer: Result<Int, Fault>) -> Value {
     }
 }
 
-/// Returns what VAL makes of a text.
+/// Returns what VAL makes of a string.
 fn value(bytes: &[u8]) -> Value {
     value_of(val(bytes))
 }
@@ -295,7 +295,7 @@ fn item(bytes: &[u8]) -> Value {
     value_of(item_number(bytes))
 }
 
-/// A text, what VAL makes of it, and what READ and INPUT do.
+/// A string, what VAL makes of it, and what READ and INPUT do.
 type Spelled = (&'static [u8], Value, Value);
 
 static SPELLED: [Spelled; 21] = [
@@ -409,7 +409,7 @@ fn length_and_end(text: &[u8], count: i16) -> Option<(i16, i16)> {
     Some((len(text).value(), end))
 }
 
-/// The same for the functions that give its length, its end, and as many spaces.
+/// Returns the same for the functions that give its length, its end, and as many spaces.
 fn is_whole(alloc: Global, text: &[u8], spaces: &[u8], count: i16) -> bool {
     let end = if count == 0 { 1 } else { count };
     gives_whole(alloc, text, count)

@@ -198,7 +198,7 @@ fn put_expr(out: &mut Told, tree: &Expr) {
     }
 }
 
-/// Puts an expression between two texts.
+/// Puts an expression between two strings.
 #[cycle(expressions)]
 fn put_between(out: &mut Told, front: &str, tree: &Expr, end: &str) {
     out.put(front);

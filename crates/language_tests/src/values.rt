@@ -1,4 +1,4 @@
-//! Integers, strings, failures, and numbers in a text.
+//! Integers, strings, failures, and numbers in a string.
 
 use crate::expects::{expect, expect_bytes, expect_row};
 use basic_values::{
@@ -226,7 +226,7 @@ fn texts_are_compared(_rt: HostRuntime) -> Result<(), Fail> {
     Ok(())
 }
 
-/// The lengths of two strings, and that of both joined; `None` if it is too long.
+/// The lengths of two strings, and that of both concatenated; `None` if it is too long.
 type Lengths = (usize, usize, Option<usize>);
 
 static LENGTHS: [Lengths; 8] = [
@@ -240,7 +240,7 @@ static LENGTHS: [Lengths; 8] = [
     (32768, 0, None),
 ];
 
-/// Returns whether two strings joined have that length, or are rejected as too long.
+/// Returns whether two concatenated strings have that length, or are rejected as too long.
 fn is_as_long(alloc: Global, a: &[u8], b: &[u8], length: Option<usize>) -> bool {
     match concat(alloc, a, b) {
         Ok(text) => length == Some(text.as_bytes().len()),
@@ -249,8 +249,8 @@ fn is_as_long(alloc: Global, a: &[u8], b: &[u8], length: Option<usize>) -> bool 
     }
 }
 
-/// The same if the second is appended to the first in place. If that fails, the first must be as it
-/// was.
+/// Returns the same if the second is appended to the first in place. If that fails, the first must
+/// be as it was.
 fn grows_as_long(text: &mut Text, first: usize, b: &[u8], length: Option<usize>) -> bool {
     match text.append(b) {
         Ok(()) => length == Some(text.as_bytes().len()),
@@ -259,7 +259,7 @@ fn grows_as_long(text: &mut Text, first: usize, b: &[u8], length: Option<usize>)
     }
 }
 
-/// The same if the first is no string by itself, and then no string joined.
+/// Returns the same if the first is no string by itself, and then no string results.
 fn is_as_long_in_place(alloc: Global, a: &[u8], b: &[u8], length: Option<usize>) -> bool {
     match Text::of(alloc, a) {
         Ok(mut text) => grows_as_long(&mut text, a.len(), b, length),
@@ -267,7 +267,7 @@ fn is_as_long_in_place(alloc: Global, a: &[u8], b: &[u8], length: Option<usize>)
     }
 }
 
-/// Returns whether two strings of spaces have that length when joined, in either order.
+/// Returns whether two strings of spaces have that length when concatenated, in either order.
 fn have_length(alloc: Global, spaces: &[u8], row: &Lengths) -> bool {
     if row.0 > spaces.len() || row.1 > spaces.len() {
         return false;
@@ -302,7 +302,7 @@ fn texts_end_at_their_greatest_length(rt: HostRuntime) -> Result<(), Fail> {
     expect_text(rt.alloc(), b"AB")
 }
 
-/// The number of an error, and its text.
+/// The number of an error, and its message.
 static FAULTS: [(u8, &[u8]); 10] = [
     (0, b""),
     (1, b""),
@@ -316,7 +316,7 @@ static FAULTS: [(u8, &[u8]); 10] = [
     (255, b""),
 ];
 
-/// A halt, and its text.
+/// A halt, and its message.
 static HALTS: [(Halt, &[u8]); 5] = [
     (Halt::NoGosub, b"RETURN without GOSUB"),
     (Halt::TooDeep, b"Nested too deep"),
@@ -347,7 +347,7 @@ fn failures_have_their_words(_rt: HostRuntime) -> Result<(), Fail> {
     expect_halts(&HALTS)
 }
 
-/// The least and the greatest number, a text, and the number that it is.
+/// The least and the largest number, a string, and the number that it is.
 static NUMBERS: [(u32, u32, &[u8], Option<u32>); 17] = [
     (0, 254, b"0", Some(0)),
     (0, 254, b"7", Some(7)),
@@ -382,7 +382,7 @@ fn numbers_stand_in_their_range(_rt: HostRuntime) -> Result<(), Fail> {
     Ok(())
 }
 
-/// A text, the blanks, letters and digits at its front, and the blanks at its end.
+/// A string, the number of its leading blanks, letters and digits, and of its trailing blanks.
 static RUNS: [(&[u8], [usize; 4]); 8] = [
     (b"", [0, 0, 0, 0]),
     (b" \t A", [3, 0, 0, 0]),
@@ -403,8 +403,7 @@ fn runs_of(text: &[u8]) -> [usize; 4] {
     ]
 }
 
-/// Returns how many bytes a text loses without the blanks at its front, and without those at its
-/// end.
+/// Returns how many bytes a string loses without its leading blanks, and without its trailing ones.
 fn cut_off(text: &[u8]) -> (usize, usize) {
     let front = text.len().saturating_sub(without_front_blanks(text).len());
     (

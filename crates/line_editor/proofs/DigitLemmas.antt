@@ -32,7 +32,7 @@ limited_step digits i value digit limit all lt so_far is =
     let range = digit_at digits i all lt in
     omega (arith, digits_value_more 10 digits i lt, digit_value_digit (get_or digits i 0) range, so_far, is)
 
--- the digits that a text begins with
+-- the leading digits
 front_by : (p : ℕ → Bool) (byte : ℕ) (text : List ℕ) (b : Bool) → p byte ≡ b → list_all p (take (prefix_len p text) text) ≡ true → list_all p (take (prefix_len p (byte ∷ text)) (byte ∷ text)) ≡ true
 front_by p byte text true is more = rw (is, one-add) (rw (is, more) refl)
 front_by p byte text false is more = rw is refl

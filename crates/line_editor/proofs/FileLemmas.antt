@@ -56,7 +56,7 @@ digits_plain (byte ∷ ds) all = and_both _ _ (digit_plain byte (digit_at (byte 
 small : (n : ℕ) → n ≤ MOST_NUMBER → n < 2 ^ 64
 small n h = omega arith
 
--- how many digits a text begins with that is digits and something else
+-- the number of leading digits, of digits and something else
 front_step : (p : ℕ → Bool) (byte : ℕ) (front back : List ℕ) → p byte ≡ true → prefix_len p (front ++ back) ≡ length front → prefix_len p ((byte ∷ front) ++ back) ≡ length (byte ∷ front)
 front_step p byte front back is more = rw is (omega (arith, more))
 

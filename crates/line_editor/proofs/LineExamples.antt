@@ -48,7 +48,7 @@ as_listed = refl
 abbrev mark : ℕ → ℕ → ℕ → Mark
 mark number begins count = record { number = number; begins = begins; count = count }
 
--- where the text after each number begins, and how long it is
+-- where the bytes after each number begin, and how many there are
 where_they_stand : marks_of 0 some ≡ mark 5 1 5 ∷ mark 20 10 4 ∷ mark 100 19 0 ∷ []
 unfolding digits
 where_they_stand = refl

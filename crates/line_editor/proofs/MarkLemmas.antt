@@ -37,7 +37,7 @@ length_listed line = length-append (decimal line.0) (line.1 ++ codes "\r\n") ∙
 
 -- ITS MARKS
 
--- the mark of a line whose text begins at this byte
+-- the mark of a line whose bytes begin here
 abbrev pub text_mark : ℕ → ℕ × List ℕ → Mark
 text_mark begins line = record { number = line.0; begins = begins; count = length line.1 }
 

@@ -1,4 +1,4 @@
--- A program's text is still one after a line is stored, and after lines are deleted.
+-- The text of a program is still one after a line is stored, and after lines are deleted.
 use Rattle.std.proofs.Common.{◌≡◌, ℕ, suc, ◌+◌, ◌≤◌, inl, inr, List, [], ◌∷◌, length, Option, Some, None, refl, sym, ap, subst, ◌∙◌, arith}
 use Rattle.std.specs.Prelude.{filter, not, IsSome, if◌then◌else◌, is_some}
 use Rattle.std.specs.BTreeMap.{BTreeMap, insert_entry, is_at}
@@ -24,7 +24,7 @@ as_many (l ∷ ls) (t ∷ ts) beside = ap suc (as_many ls ts beside.2)
 as_many [] (t ∷ ts) beside = absurd beside
 as_many (l ∷ ls) [] beside = absurd beside
 
--- room for a line that has no tree, or has one
+-- space for a line that has no tree, or has one
 room_kept : (number : ℕ) (lines : Lines) (trees : List (ℕ × Line)) (o : Option Line) (new : ℕ) → AreTrees lines trees → o ≡ lookup (is_at (nat_cmp number)) trees → HasRoom number lines → length lines ≤ MOST_LINES → new ≡ length lines + (if is_some o then 0 else 1) → new ≤ MOST_LINES
 room_kept number lines trees (Some tree) new beside same room most is = omega arith
 room_kept number lines trees None new beside same (inl there) most is =

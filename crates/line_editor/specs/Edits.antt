@@ -1,4 +1,4 @@
--- Editing a program's text line by line: what is stored, and what is rejected.
+-- Editing the text of a program line by line: what is stored, and what is rejected.
 use Rattle.std.specs.Prelude.{◌≡◌, ◌⊎◌, ◌<◌, ℕ, List, [], ◌∷◌, length, IsSome, Result, Ok, Err}
 use Rattle.basic_values.specs.declared.failures.Trouble.{Trouble}
 use Rattle.basic_values.specs.declared.failures.Trouble.TheVariants.{Refused, NoMemory}

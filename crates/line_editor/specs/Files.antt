@@ -14,7 +14,7 @@ use Rattle.line_editor.specs.Edits.{IsStorable, RefusesFor}
 
 -- WRITING
 
--- the pages joined are the bytes, and then zeros, fewer than a page has
+-- the pages one after another are the bytes, and then zeros, fewer than a page has
 pub record IsPaged (bytes : List ℕ) (pages : List (List ℕ)) : Type 0 where
   pub zeros : ℕ
   pub few : zeros < BLOCK_BYTES
@@ -23,7 +23,7 @@ pub record IsPaged (bytes : List ℕ) (pages : List (List ℕ)) : Type 0 where
 
 -- READING
 
--- the first of the lines, and the text after it
+-- the first of the lines, and the bytes after it
 abbrev pub CutsLine : List ℕ → Cut → Type 0
 CutsLine text cut =
     (file_lines text ≡ cut.line.now ∷ file_lines cut.left.now) × (length cut.left.now < length text)

@@ -1,4 +1,4 @@
--- The verdict on a line, before it is known whether there is room for it.
+-- The verdict on a line, before it is known whether one more line is allowed.
 use Rattle.std.specs.Prelude.{ℕ, List, Result, Ok, Err}
 use Rattle.basic_values.specs.declared.failures.Trouble.{Trouble}
 use Rattle.basic_values.specs.declared.failures.Trouble.TheVariants.{Refused, NoMemory}

@@ -1,4 +1,4 @@
--- The text of a program as the definitions have it.
+-- The text of a program as a value of the definitions.
 use Rattle.std.specs.Prelude.{ℕ}
 use Rattle.std.specs.BTreeMap.{BTreeMap}
 use Rattle.basic_tree.specs.declared.programs.Line.{Line}

@@ -11,16 +11,16 @@ use itoa::Buffer;
 use std::alloc::Global;
 use std::marker::Model;
 
-/// The bytes of a listed line after its text: CR and LF.
+/// The number of bytes that end a listed line: CR and LF.
 const LINE_END: usize = 2;
 
 /// Where a line is in the buffer.
 #[derive(Clone, Copy)]
 pub(crate) struct Mark {
     pub(crate) number: u16,
-    /// Where the text after the number begins.
+    /// Where the bytes after the number begin.
     pub(crate) begins: usize,
-    /// How many bytes the text has.
+    /// How many bytes follow the number.
     pub(crate) count: usize,
 }
 
@@ -186,7 +186,7 @@ fn put_bytes(bytes: &mut Vec<u8>, start: usize, end: usize, line: Vec<u8>) -> Re
     Ok(())
 }
 
-/// Replaces the mark of a line, or inserts one, in room that was reserved.
+/// Replaces the mark of a line, or inserts one, in memory that was reserved.
 fn put_mark(marks: &mut Vec<Mark>, places: Places, mark: Mark)
     requires rises { places.first ≤ places.behind }
     requires one { places.behind ≤ places.first + 1 }

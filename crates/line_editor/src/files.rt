@@ -16,7 +16,7 @@ use basic_values::{Fault, NoMemory, Trouble};
 use monitor_calls::Page;
 use std::alloc::Global;
 
-/// The first line of a text, and the text after it.
+/// The first line of some bytes, and the bytes after it.
 #[derive(Clone, Copy)]
 struct Cut<'a> {
     line: &'a [u8],
@@ -145,7 +145,7 @@ fn first_line(text: &[u8]) -> Cut<'_>
     }
 }
 
-/// Returns the text without one CR at its end.
+/// Returns the bytes without one CR at their end.
 fn without_return(text: &[u8]) -> &[u8]
     ensures { result.now ≡ without_return text.entry.now }
 {

@@ -4,10 +4,10 @@
 //! number. It keeps them as they are listed, in one buffer, so `list` and `line` borrow parts of it
 //! and take no memory.
 //!
-//! `put_line` and `delete` promise what changes and what is rejected, `list` which bytes are
-//! listed, `program` that the trees are those that the bytes spell, and `to_file` and `from_file`
-//! that a file is read as it was written. The lines are read by `basic_line`; pages are those of
-//! `monitor_calls`.
+//! `put_line` and `delete` promise what changes and what is rejected, and `list` which bytes are
+//! listed. `program` promises that the trees are those that the bytes spell, and `to_file` and
+//! `from_file` that a file is read as it was written. `basic_line` reads the lines; pages are those
+//! of `monitor_calls`.
 #![tactic(auto)]
 
 mod buffer;

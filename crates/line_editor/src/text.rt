@@ -53,7 +53,7 @@ impl Model for ProgramText {
 }
 
 impl ProgramText {
-    /// Returns a text without lines. It takes no memory.
+    /// Returns a program without lines. Takes no memory.
     pub fn new(alloc: Global) -> ProgramText
         ensures { result ≡ [] }
     {
@@ -191,7 +191,7 @@ fn is_within(from: u16, to: u16, number: u16) -> bool
     from <= number && number <= to
 }
 
-/// Returns the tree of a line that can be stored if there is room, or why it can't.
+/// Returns the tree of a line that can be stored if one more line is allowed, or why it can't.
 fn judged(alloc: Global, number: u16, rest: &[u8]) -> Result<Line, Trouble<EditRefusal>>
     ensures { IsEditVerdict number rest.now result }
 {

@@ -1,4 +1,4 @@
--- What is put in front of others, into any sink of instructions.
+-- What is put before others, into any sink of instructions.
 use Rattle.std.specs.Prelude.{ℕ, suc, List}
 use Rattle.basic_tree.specs.Trees.{Tree, Trees, ClauseTree, StatementTree}
 use Rattle.program_model.specs.Program.{Program}

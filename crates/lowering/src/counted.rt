@@ -9,7 +9,7 @@ use polish_code::Item;
 use std::alloc::Global;
 use std::marker::Model;
 
-/// Counts the instructions that are put in front of each other.
+/// Counts the instructions that are put before each other.
 #[derive(Drop)]
 pub struct Counted {
     count: u32,

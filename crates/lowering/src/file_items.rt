@@ -34,7 +34,7 @@ fn emit_operand<K: Sink, L: Lookups>(
     }
 }
 
-/// Emits OPEN, with its operands in the order of the text.
+/// Emits OPEN, with its operands in the order of the source.
 pub fn emit_open<K: Sink, L: Lookups>(
     alloc: Global,
     code: &mut K,

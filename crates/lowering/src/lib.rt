@@ -5,9 +5,9 @@
 //! `lower_now` promises the same for a line of immediate mode.
 //!
 //! `program_soundness` decides whether a program is sound, and lists its text. Like `polish_code`,
-//! this crate puts the instructions of each tree in front of others, so what runs last is emitted
-//! first. Where instructions go is the trait `Sink`: `Emitted` stores them, and `Counted` counts
-//! them. What a statement needs to know of the rest of the program is the trait `Lookups` of
+//! this crate puts the instructions of each tree before others, so what runs last is emitted first.
+//! Where instructions go is the trait `Sink`: `Emitted` stores them, and `Counted` counts them.
+//! What a statement needs to know of the rest of the program is the trait `Lookups` of
 //! `code_places`. Its `Placement` has the tables of a program, and where each statement is in the
 //! code; `places_in` and `loops_in_front` sum that up. The number of instructions does not depend
 //! on it, so counting uses `Nowhere`.

@@ -35,8 +35,8 @@ use program_soundness::named_line;
 use record_fields::Side;
 use std::alloc::Global;
 
-/// Puts the code after the start of the m-th statement in front. The statement has i FORs before
-/// it.
+/// Puts the code after the start of the m-th statement before the code so far. The statement has i
+/// FORs before it.
 pub fn emit_simple<K: Sink, L: Lookups>(
     alloc: Global,
     code: &mut K,

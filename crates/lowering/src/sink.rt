@@ -1,4 +1,4 @@
-//! Where the instructions of code go, one put in front of the other.
+//! Where the instructions of code go, one put before the other.
 //!
 //! The functions that emit code are generic over a sink: `Emitted` stores instructions, and
 //! `Counted` counts them. So the instructions of a statement, and their number, are defined once.
@@ -42,16 +42,16 @@ pub enum Over<'a> {
     Value(&'a Expr),
 }
 
-/// Where items go.
+/// Where instructions go.
 pub trait Sink {
-    /// Its state with one more instruction in front.
+    /// Its state with one more instruction before the others.
     ghost with: { Item → Self → Self };
 
-    /// Puts an instruction in front.
+    /// Puts an instruction before the others.
     fn put(&mut self, item: Item) -> Result<(), NoMemory>
         ensures { OnOk result (self.new ≡ with item self.old) };
 
-    /// Puts a jump in front.
+    /// Puts a jump before the others.
     fn put_jump(&mut self, alloc: Global, jump: Jump<'_>, over: Over<'_>) -> Result<(), NoMemory>
         ensures { OnOk result (self.new
             ≡ with (jump_item jump.entry (items_over over.entry)) self.old) };

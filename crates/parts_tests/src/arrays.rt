@@ -8,7 +8,7 @@ use job_memory::Memory;
 use std::alloc::Global;
 use std::test::Fail;
 
-/// These numbers.
+/// Returns these numbers.
 pub(crate) fn numbers_of(alloc: Global, values: &[i16]) -> Result<Vec<Int>, NoMemory> {
     let mut numbers = Vec::new(alloc);
     for value in values {
@@ -17,12 +17,12 @@ pub(crate) fn numbers_of(alloc: Global, values: &[i16]) -> Result<Vec<Int>, NoMe
     Ok(numbers)
 }
 
-/// Whether the numbers are these.
+/// Returns whether the numbers are these.
 pub(crate) fn are(numbers: &[Int], values: &[i16]) -> bool {
     numbers.len() == values.len() && numbers.iter().zip(values).all(|(n, v)| n.value() == *v)
 }
 
-/// A memory with an array of numbers.
+/// Returns a memory with an array of numbers.
 fn memory_with(alloc: Global, name: Name, first: u16, second: Option<u16>) -> Result<Memory, Fail> {
     let mut memory = Memory::new(alloc);
     match dim(&mut memory, name, first, second) {
@@ -40,8 +40,8 @@ static STORED: [Row; 3] = [
     (1, Some(2), &[1, 2, 3, 4], &[0, 0, 0, 0, 0, 0]),
 ];
 
-/// Whether the array has its bounds, and the numbers are stored to the elements without a subscript
-/// 0 alone.
+/// Returns whether the array has its bounds, and the numbers are stored only to the elements
+/// without a subscript 0.
 fn stores_whole(alloc: Global, row: &Row) -> Result<bool, Fail> {
     let mut memory = memory_with(alloc, number_name(b'A'), row.0, row.1)?;
     is_stored_whole(alloc, &mut memory, row)
@@ -69,7 +69,7 @@ fn set_all(alloc: Global, memory: &mut Memory, name: Name, values: &[i16]) -> Re
     Ok(())
 }
 
-/// Whether the array holds these numbers, those with a subscript 0 too.
+/// Returns whether the array has these numbers, those with a subscript 0 included.
 pub(crate) fn holds(memory: &Memory, name: Name, wanted: &[i16]) -> Result<bool, Fail> {
     Ok(are(&memory.numbers(name)?, wanted))
 }
@@ -79,7 +79,7 @@ fn elements_without_a_subscript_0_are_stored(rt: HostRuntime) -> Result<(), Fail
     expect_none(rt.alloc(), first_wrong(rt.alloc())?)
 }
 
-/// The last two numbers of an array of two rows and three columns.
+/// Returns the last two numbers of an array of two rows and three columns.
 fn last_two(memory: &Memory, name: Name) -> Result<Vec<Int>, Fail> {
     match memory.bounds(name) {
         Some((1, Some(2))) => Ok(memory.numbers_from(name, 4, 2)?),

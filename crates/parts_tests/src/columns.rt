@@ -6,7 +6,7 @@ use std::alloc::Global;
 use std::test::Fail;
 use terminal_line::{Screen, column_from};
 
-/// A screen whose column is this one.
+/// Returns a screen whose column is this one.
 fn screen_at(alloc: Global, column: usize) -> Result<Screen, Fail> {
     let mut screen = Screen::new(alloc);
     let bytes = vec![in alloc; b'X'; column]?;
@@ -14,7 +14,7 @@ fn screen_at(alloc: Global, column: usize) -> Result<Screen, Fail> {
     Ok(screen)
 }
 
-/// Bytes, and the column behind them.
+/// Bytes, and the column after them.
 static BYTES: [(&[u8], u32); 9] = [
     (b"", 0),
     (b" 1  2 ", 6),
@@ -27,7 +27,7 @@ static BYTES: [(&[u8], u32); 9] = [
     (b"\0A\0", 1),
 ];
 
-/// The column behind bytes that are written, and behind a line that is echoed then.
+/// Returns the column after bytes that are written, and after a line that is echoed then.
 fn columns_behind(alloc: Global, bytes: &[u8]) -> Result<(u32, u32), Fail> {
     let mut screen = Screen::new(alloc);
     screen.write(bytes)?;
@@ -51,7 +51,7 @@ fn bytes_have_a_column(rt: HostRuntime) -> Result<(), Fail> {
     expect_none(rt.alloc(), first_wrong_bytes(rt.alloc())?)
 }
 
-/// The column behind so many bytes, behind a TAB to the greatest one, and behind a return.
+/// Returns the column after this many bytes, after a TAB to the largest one, and after a return.
 fn columns_at_the_end(alloc: Global, bytes: usize) -> Result<(u32, u32, u32), Fail> {
     let mut screen = screen_at(alloc, bytes)?;
     let written = screen.column();
@@ -61,7 +61,7 @@ fn columns_at_the_end(alloc: Global, bytes: usize) -> Result<(u32, u32, u32), Fa
     Ok((written, behind, screen.column()))
 }
 
-/// So many bytes, and the column behind them.
+/// A number of bytes, and the column after them.
 static ENDS: [(usize, u32); 4] = [
     (32766, 32766),
     (32767, 32767),

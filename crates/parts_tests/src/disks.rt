@@ -20,7 +20,7 @@ enum Step {
     Remove(Named),
     Size(Named),
     Code(Named),
-    /// Whether the disk tells where a block lies.
+    /// Whether the disk knows the place of a block.
     Place(Named, u16),
 }
 
@@ -30,7 +30,7 @@ enum Named {
     Other,
 }
 
-/// What a step tells.
+/// The answer to a step.
 #[derive(Clone, Copy, PartialEq, Eq)]
 enum Told {
     Done,
@@ -46,7 +46,7 @@ enum Told {
     Is(bool),
 }
 
-/// A step, and what it tells.
+/// A step, and its answer.
 type Row = (Step, Told);
 
 /// A disk, and the names of its files.
@@ -169,7 +169,7 @@ fn shown(page: &Page) -> Told {
     }
 }
 
-/// The place of the first row that tells another thing, over a disk of so many blocks.
+/// Returns the place of the first row with another answer, over a disk of this many blocks.
 fn first_wrong(alloc: Global, blocks: u16, rows: &[Row]) -> Result<Option<usize>, Fail> {
     let mut files = Files::new(alloc, blocks)?;
     Ok(first_told_wrong(&mut files, rows))

@@ -26,7 +26,7 @@ static LAYOUTS: [Widths; 13] = [
     (1536, [32767, 32767, 2], None),
 ];
 
-/// The parts of these widths; none where they are refused with 63.
+/// Returns the parts of these widths; none if they fail with 63.
 fn parts_of(alloc: Global, bytes: u16, widths: [i16; 3]) -> Result<Option<Vec<Part>>, Fail> {
     let [first, second, third] = widths;
     let widths = [Int::new(first), Int::new(second), Int::new(third)];
@@ -75,7 +75,7 @@ fn fields_stand_one_behind_the_other(rt: HostRuntime) -> Result<(), Fail> {
     expect_none(rt.alloc(), first_wrong_layout(rt.alloc())?)
 }
 
-/// A part from this byte on, of so many.
+/// A part from this byte on, of this length.
 #[derive(Clone, Copy)]
 struct At(u16, u16);
 
@@ -86,7 +86,7 @@ fn part(at: At) -> Part {
     }
 }
 
-/// A buffer of ten bytes, the part that is moved, where to, and the buffer behind that.
+/// A buffer of ten bytes, the part that is moved, its target, and the buffer after that.
 type Move = (&'static [u8], At, At, Side, &'static [u8]);
 
 static MOVES: [Move; 16] = [
@@ -162,7 +162,7 @@ static MOVES: [Move; 16] = [
     (b"ABCDEFGHIJ", At(0, 4), At(8, 3), Side::Left, b"ABCDEFGHIJ"),
 ];
 
-/// The place of the first row that leaves another thing.
+/// Returns the place of the first row that leaves another buffer.
 fn first_wrong_move(alloc: Global) -> Result<Option<usize>, Fail> {
     for (place, row) in MOVES.iter().enumerate() {
         if !is_moved(alloc, row)? {
@@ -185,7 +185,7 @@ fn a_field_is_moved_onto_one_that_it_meets(rt: HostRuntime) -> Result<(), Fail> 
     expect_none(rt.alloc(), first_wrong_move(rt.alloc())?)
 }
 
-/// A value, and what a field of four bytes holds behind LSET and behind RSET.
+/// A value, and a field of four bytes after LSET and after RSET.
 type Value = (&'static [u8], &'static [u8], &'static [u8]);
 
 static VALUES: [Value; 4] = [
@@ -217,7 +217,7 @@ enum Act {
     Fill(&'static [u8]),
     /// Bytes from a place on.
     Write(u16, &'static [u8]),
-    /// A part with zeros behind the bytes.
+    /// A part with zeros after the bytes.
     Part(At, &'static [u8]),
     Lset(At, &'static [u8]),
     Rset(At, &'static [u8]),
@@ -225,7 +225,7 @@ enum Act {
     Shift(At, At),
 }
 
-/// An act, how many bytes the buffer has then, and a part of it.
+/// A step, how many bytes the buffer has then, and a part of it.
 type Row = (Act, usize, At, &'static [u8]);
 
 static ROWS: [Row; 20] = [
@@ -296,7 +296,7 @@ static ROWS: [Row; 20] = [
     (Act::Shrink, 512, At(0, 2), b"\0\0"),
 ];
 
-/// Does it; a part that a call cannot take is left out.
+/// Does the step; a part that a call cannot take is left out.
 fn does(alloc: Global, buffers: &mut Buffers, act: Act) -> Result<(), Fail> {
     match act {
         Act::Size(size) => buffers.set_size(alloc, 3, size)?,
@@ -311,7 +311,7 @@ fn does(alloc: Global, buffers: &mut Buffers, act: Act) -> Result<(), Fail> {
     Ok(())
 }
 
-/// The place of the first row behind which the buffer, or another one, is not as it says.
+/// Returns the place of the first row after which the buffer, or another one, is not as it says.
 fn first_wrong_act(alloc: Global) -> Result<Option<usize>, Fail> {
     let mut buffers = Buffers::new(alloc)?;
     first_shown_wrong(alloc, &mut buffers)

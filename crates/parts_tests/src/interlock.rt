@@ -1,4 +1,4 @@
-//! Which channel holds a block.
+//! Which channel has locked a block.
 
 ghost use Rattle.std.specs.Prelude.{◌≡◌};
 ghost use Rattle.monitor_model.specs.Holds.{is_held};
@@ -14,13 +14,13 @@ use std::test::Fail;
 /// of the first file or of the second.
 #[derive(Clone, Copy)]
 enum Step {
-    /// A channel takes a block up, where no other holds it. It is told whether it does.
+    /// A channel locks a block, if no other has it locked. The answer is whether it does.
     Hold(u32, u8, Named, u16),
     Release(u32, u8),
     ReleaseJob(u32),
-    /// Whether a channel holds a block, by the block and by the channel.
+    /// Whether a channel has locked a block, by the block and by the channel.
     Has(u32, u8, Named, u16),
-    /// Whether nobody holds a block.
+    /// Whether no channel has locked a block.
     Free(Named, u16),
 }
 
@@ -57,7 +57,7 @@ impl Two {
         }
     }
 
-    /// What a step tells. It is false of a channel that is not there.
+    /// Returns the answer to a step. It is false for a channel that does not exist.
     fn told(&mut self, step: Step) -> bool {
         match step {
             Step::Hold(job, channel, file, block) => self.hold(job, channel, file, block),
@@ -105,7 +105,7 @@ impl Two {
     }
 }
 
-/// Whether another channel holds the block.
+/// Returns whether another channel has locked the block.
 pub(crate) fn is_held(holds: &Holds, job: u32, channel: u8, name: &FileName, block: u16) -> bool
     ensures { result ≡ is_held holds.now.held job channel name.now block }
 {

@@ -1,7 +1,7 @@
-//! Tests of the parts that wholes are made of, by their public calls alone: of the monitor
-//! accounts, protection, the disk, the message queues, the table of jobs, the interlock, the
-//! printer, and names of files; of a job its memory, record fields, channels, virtual arrays, trap
-//! and terminal line; the texts of SYS, what PRINT USING writes, and MAT.
+//! Tests of the parts of the monitor and of a job, by their public calls alone. Of the monitor they
+//! test accounts, protection, the disk, the message queues, the table of jobs, the interlock, the
+//! printer, and names of files. Of a job they test its memory, record fields, channels, virtual
+//! arrays, trap and terminal line, the strings of SYS, what PRINT USING writes, and MAT.
 #![tactic(auto)]
 
 #[cfg(test)]

@@ -1,4 +1,4 @@
-//! MAT on a memory: rows of assignments, arrays that are made where they are named, and rows that
+//! MAT on a memory: tables of assignments, arrays that are made when they are named, and rows that
 //! are read.
 
 use crate::arrays::{are, holds};
@@ -51,7 +51,7 @@ enum Given {
     Transposed(u8),
 }
 
-/// A target, what is assigned to it, and its numbers then; none where that is error 55.
+/// A target, what is assigned to it, and its numbers then; none for error 55.
 type Row = (u8, Given, &'static [i16]);
 
 static ROWS: [Row; 36] = [
@@ -107,7 +107,7 @@ fn value_of(given: Given) -> MatValue {
     }
 }
 
-/// The numbers of an array are stored one by one.
+/// Stores the numbers of an array one by one.
 fn store(memory: &mut Memory, letter: u8, second: Option<u16>, values: &[i16]) -> Result<(), Fail> {
     let (mut i, mut j) = (0, 0);
     for value in values {
@@ -120,7 +120,7 @@ fn store(memory: &mut Memory, letter: u8, second: Option<u16>, values: &[i16]) -
     Ok(())
 }
 
-/// The subscripts behind these.
+/// Returns the subscripts after these.
 fn next_subscripts(second: Option<u16>, i: i16, j: i16) -> (i16, i16) {
     match second {
         Some(second) if i32::from(j) < i32::from(second) => (i, j.wrapping_add(1)),
@@ -136,7 +136,7 @@ fn make_arrays(memory: &mut Memory) -> Result<(), Fail> {
     Ok(())
 }
 
-/// An array of numbers is made.
+/// Makes an array of numbers.
 fn make(memory: &mut Memory, letter: u8, first: u16, second: Option<u16>) -> Result<(), Fail> {
     match dim(memory, number_name(letter), first, second) {
         Told::Done => Ok(()),
@@ -144,7 +144,7 @@ fn make(memory: &mut Memory, letter: u8, first: u16, second: Option<u16>) -> Res
     }
 }
 
-/// The numbers of a row that is there.
+/// Returns the numbers of a row that exists.
 fn row_of(memory: &Memory, name: Name, place: u16) -> Result<Vec<Int>, Fail> {
     match memory.bounds(name) {
         Some((first, _)) if place <= first => Ok(row(memory, name, place)?),
@@ -152,7 +152,7 @@ fn row_of(memory: &Memory, name: Name, place: u16) -> Result<Vec<Int>, Fail> {
     }
 }
 
-/// Whether the rows of the array hold these numbers.
+/// Returns whether the rows of the array have these numbers.
 fn rows_are(memory: &Memory, name: Name, wanted: &[i16]) -> Result<bool, Fail> {
     let mut left = wanted;
     for place in 1..=memory.bounds(name).map_or(0, |bounds| bounds.0) {
@@ -168,7 +168,7 @@ fn rows_are(memory: &Memory, name: Name, wanted: &[i16]) -> Result<bool, Fail> {
     Ok(left.is_empty())
 }
 
-/// Whether each array but this one is as it was made.
+/// Returns whether each array but this one is as it was made.
 fn others_stay(memory: &Memory, target: Name) -> Result<bool, Fail> {
     for (letter, _, _, values) in &ARRAYS {
         let name = number_name(*letter);
@@ -179,7 +179,7 @@ fn others_stay(memory: &Memory, target: Name) -> Result<bool, Fail> {
     Ok(true)
 }
 
-/// Whether each number with a subscript 0 is 9, as it was stored.
+/// Returns whether each number with a subscript 0 is 9, as it was stored.
 fn zero_subscripts_stay(memory: &Memory, letter: u8) -> bool {
     let nine = Told::Is(9);
     if matches!(memory.bounds(number_name(letter)), Some((_, None))) {
@@ -188,12 +188,12 @@ fn zero_subscripts_stay(memory: &Memory, letter: u8) -> bool {
     number_at(memory, letter, 0, Some(1)) == nine && number_at(memory, letter, 1, Some(0)) == nine
 }
 
-/// What the assignment of a value to an array tells.
+/// Returns the answer to the assignment of a value to an array.
 fn assigned(memory: &mut Memory, letter: u8, given: Given) -> Told {
     stored(assign(memory, number_name(letter), &value_of(given)))
 }
 
-/// An array that is named is there.
+/// Names an array, which makes it if needed.
 fn named(memory: &mut Memory, letter: u8) -> Told {
     match touch(memory, number_name(letter)) {
         Ok(()) => Told::Done,
@@ -202,7 +202,7 @@ fn named(memory: &mut Memory, letter: u8) -> Told {
     }
 }
 
-/// Whether an assignment leaves what the row wants.
+/// Returns whether an assignment leaves what the row expects.
 fn is_assigned(alloc: Global, letter: u8, given: Given, wanted: &[i16]) -> Result<bool, Fail> {
     let mut memory = Memory::new(alloc);
     make_arrays(&mut memory)?;
@@ -213,7 +213,7 @@ fn is_assigned(alloc: Global, letter: u8, given: Given, wanted: &[i16]) -> Resul
     }
 }
 
-/// Whether an array has these numbers, and all else is as it was made.
+/// Returns whether an array has these numbers, and all else is as it was made.
 fn is_changed(memory: &Memory, letter: u8, wanted: &[i16]) -> Result<bool, Fail> {
     let target = number_name(letter);
     let is_right = rows_are(memory, target, wanted)? && zero_subscripts_stay(memory, letter);
@@ -234,7 +234,7 @@ fn each_value_of_mat_is_assigned_or_refused(rt: HostRuntime) -> Result<(), Fail>
     expect_none(rt.alloc(), first_wrong_assignment(rt.alloc())?)
 }
 
-/// The bounds of an array behind its being named, where one with these is there before.
+/// Returns the bounds of an array after it is named, if one with these bounds existed before.
 fn bounds_behind_touch(
     alloc: Global,
     before: Option<(u16, Option<u16>)>,
@@ -260,7 +260,7 @@ fn an_array_that_is_named_is_made(rt: HostRuntime) -> Result<(), Fail> {
     )
 }
 
-/// Whether there is no room for another array where one fills it.
+/// Returns whether there is no space for another array if one fills it.
 fn is_full(alloc: Global) -> Result<bool, Fail> {
     let mut memory = Memory::new(alloc);
     make(&mut memory, B, 65535, Some(1))?;
@@ -273,7 +273,7 @@ fn an_array_without_room_is_not_made(rt: HostRuntime) -> Result<(), Fail> {
     expect(is_full(rt.alloc())?, "an array is made without room")
 }
 
-/// Whether an array that was just made takes CON from 1 to 10.
+/// Returns whether an array that was just made takes CON from 1 to 10.
 fn is_made_of_ones(alloc: Global) -> bool {
     let mut memory = Memory::new(alloc);
     named(&mut memory, A) == Told::Done

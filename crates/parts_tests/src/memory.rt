@@ -25,15 +25,15 @@ pub(crate) fn text_name(letter: u8) -> Name {
 }
 
 /// What is done to a memory, and what is asked of it. Variables are named by their letter, and so
-/// are arrays. A text is so many times one byte.
+/// are arrays. A string is one byte, this many times.
 #[derive(Clone, Copy)]
 pub(crate) enum Step {
     Number(u8),
     SetNumber(u8, i16),
     SetText(u8, u8, usize),
-    /// So many times one byte behind an own text: 1 where there was one, else 0.
+    /// One byte this many times at the end of an own string: 1 if there was one, else 0.
     Append(u8, u8, usize),
-    /// So many bytes behind the first ones are left of an own text: 1 where there was one, else 0.
+    /// This many bytes after the first ones are kept of an own string: 1 if there was one, else 0.
     Cut(u8, usize, usize),
     /// An array of numbers with these bounds.
     Dim(u8, u16, Option<u16>),
@@ -43,22 +43,22 @@ pub(crate) enum Step {
     /// The first byte and the length of an element.
     TextAt(u8, i16, Option<i16>),
     SetTextAt(u8, i16, Option<i16>, u8, usize),
-    /// A text is lent from the whole buffer of channel 1.
+    /// A string is lent from the whole buffer of channel 1.
     Bind(u8),
-    /// A text is lent from this channel's buffer, from this byte on, so many bytes.
+    /// A string is lent from this channel's buffer, from this byte on, with this many bytes.
     Field(u8, u8, u16, u16),
-    /// The channel of a fielded text, and the bytes in front of its part.
+    /// The channel of a fielded string, and the bytes before its part.
     Place(u8),
-    /// How many bytes a text has, where each channel's buffer is one block.
+    /// How many bytes a string has, if each channel's buffer is one block.
     Length(u8),
-    /// How many bytes an own text has.
+    /// How many bytes an own string has.
     OwnLength(u8),
     /// A channel is closed, or all of them.
     Forget(u8),
     ForgetAll,
-    /// A call with one parameter, a text.
+    /// A call with one parameter, a string.
     EnterText(u8),
-    /// A call with two parameters, which are one text.
+    /// A call with two parameters, which are the same string.
     EnterTextTwice(u8),
     /// A call with these numbers as its parameters.
     Enter(&'static [u8]),
@@ -66,17 +66,17 @@ pub(crate) enum Step {
     Clear,
 }
 
-/// What a step tells.
+/// The answer to a step.
 #[derive(Clone, Copy, PartialEq, Eq)]
 pub(crate) enum Told {
     Done,
     Is(i16),
-    /// The first byte and the length of a text.
+    /// The first byte and the length of a string.
     Begins(u8, usize),
-    /// A channel, and how many bytes stand in front of the part, and in it.
+    /// A channel, and how many bytes there are before the part, and in it.
     At(u8, u16, u16),
     Empty,
-    /// The room is full.
+    /// The memory is full.
     Full,
     TooLong,
     Fault(u8),
@@ -92,7 +92,7 @@ fn int_of(subscript: Option<i16>) -> Option<Int> {
     }
 }
 
-/// A text of so many times one byte.
+/// Returns a string of one byte, this many times.
 pub(crate) fn text(alloc: Global, byte: u8, length: usize) -> Result<Text, Fail> {
     let bytes = vec![in alloc; byte; length]?;
     Ok(Text::of(alloc, &bytes).ok().ok_or("no text")?)
@@ -121,7 +121,7 @@ fn stopped(stop: &Stop) -> Told {
     }
 }
 
-/// What a step tells.
+/// Returns the answer to a step.
 fn told_behind(alloc: Global, memory: &mut Memory, step: Step) -> Result<Told, Fail> {
     match step {
         Step::SetText(letter, byte, length) => {
@@ -143,7 +143,7 @@ fn told_behind(alloc: Global, memory: &mut Memory, step: Step) -> Result<Told, F
     }
 }
 
-/// What a step on a whole variable, or on all of them, tells.
+/// Returns the answer to a step on a whole variable, or on all of them.
 fn variable(memory: &mut Memory, step: Step) -> Told {
     match step {
         Step::Number(letter) => Told::Is(memory.number(number_name(letter)).value()),
@@ -216,7 +216,7 @@ fn element(memory: &mut Memory, step: Step) -> Told {
     }
 }
 
-/// What a store to an element tells.
+/// Returns the answer to a store to an element.
 pub(crate) fn set_number_at(
     memory: &mut Memory,
     letter: u8,
@@ -252,7 +252,7 @@ fn set_text_at(
     stored(memory.set_text_at(text_name(letter), Int::new(first), int_of(second), value))
 }
 
-/// What a step on a text that is lent from a buffer tells.
+/// Returns the answer to a step on a string that is lent from a buffer.
 fn lent(memory: &mut Memory, step: Step) -> Told {
     match step {
         Step::Bind(letter) => field(memory, letter, 1, 0, 512),
@@ -315,7 +315,7 @@ fn enter(alloc: Global, memory: &mut Memory, letters: &[u8]) -> Result<Told, Fai
     Ok(made(memory.enter(names.as_slice())))
 }
 
-/// The place of the first row that tells another thing, over a memory that is new.
+/// Returns the place of the first row with another answer, over a new memory.
 pub(crate) fn first_wrong(alloc: Global, rows: &[Row]) -> Result<Option<usize>, Fail> {
     let mut memory = Memory::new(alloc);
     first_told_wrong(alloc, &mut memory, rows)
@@ -351,7 +351,7 @@ static SUBSCRIPTS: [(i16, Option<i16>, bool); 8] = [
     (0, Some(-1), false),
 ];
 
-/// What is told of an element, of a store of 7 to it, and of it behind that.
+/// Returns the answers for an element, for a store of 7 to it, and for it after that.
 fn told_in_turn(is_inside: bool) -> [Told; 3] {
     if is_inside {
         [Told::Is(0), Told::Done, Told::Is(7)]
@@ -367,7 +367,8 @@ fn is_stored(memory: &mut Memory, first: i16, second: Option<i16>, is_inside: bo
         && number_at(memory, b'A', first, second) == behind
 }
 
-/// Whether there is an array with as many subscripts alone; or none, where the element is outside.
+/// Returns whether there is an array with exactly as many subscripts; or none, if the element is
+/// outside.
 fn has_subscripts(memory: &Memory, second: Option<i16>, is_inside: bool) -> bool {
     let (origin, other) = match second {
         Some(_) => (Some(0), None),
@@ -378,8 +379,9 @@ fn has_subscripts(memory: &Memory, second: Option<i16>, is_inside: bool) -> bool
     number_at(memory, b'A', 0, origin) != wrong && has_other == !is_inside
 }
 
-/// Whether a store to the element makes an array, which then has the element, and its first one
-/// with as many subscripts alone; or is refused, and leaves none.
+/// Returns whether a store to the element makes an array, which then has the element, and its first
+/// one with exactly as many subscripts. For an element outside, returns whether the store fails and
+/// leaves no array.
 fn makes_an_array(alloc: Global, first: i16, second: Option<i16>, is_inside: bool) -> bool {
     let mut memory = Memory::new(alloc);
     is_stored(&mut memory, first, second, is_inside) && has_subscripts(&memory, second, is_inside)
@@ -415,8 +417,8 @@ fn own_texts_have_a_length(rt: HostRuntime) -> Result<(), Fail> {
     expect_rows(rt.alloc(), &OWN_TEXTS)
 }
 
-/// Own texts are changed in their place, up to their greatest length and to the room that is left;
-/// a fielded one, and one that is not stored, are not.
+/// Own strings are changed in place, up to their largest length and to the space that is left. A
+/// fielded one, and one that is not stored, are not.
 static CHANGED: [Row; 31] = [
     (Step::Append(b'A', b'x', 2), Told::Is(0)),
     (Step::Cut(b'A', 0, 1), Told::Is(0)),
@@ -444,7 +446,7 @@ static CHANGED: [Row; 31] = [
     (Step::SetText(b'F', b'f', 32767), Told::Done),
     (Step::SetText(b'G', b'g', 32767), Told::Done),
     (Step::SetText(b'H', b'h', 32767), Told::Done),
-    // 7 texts of 32,769 bytes of room and a fielded one leave 32,759.
+    // 7 strings of 32,769 bytes in memory and a fielded one leave 32,759.
     (Step::SetText(b'I', b'i', 32756), Told::Done),
     (Step::Append(b'I', b'i', 2), Told::Full),
     (Step::Append(b'I', b'i', 1), Told::Is(1)),
@@ -504,8 +506,8 @@ fn a_call_puts_its_parameters_back(rt: HostRuntime) -> Result<(), Fail> {
     expect_rows(rt.alloc(), &CALLS)
 }
 
-/// A parameter that was fielded on a channel that is closed meanwhile comes back empty, also where
-/// another text is fielded on that channel again.
+/// A parameter that was fielded on a channel that is closed meanwhile comes back empty, also if
+/// another string is fielded on that channel again.
 static FIELDED: [Row; 27] = [
     (Step::Place(b'A'), Told::Empty),
     (Step::Field(b'A', 1, 4, 6), Told::Done),

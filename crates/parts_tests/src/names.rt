@@ -16,12 +16,12 @@ pub(crate) fn short(text: &[u8]) -> Result<Short, Fail> {
     Ok(Short::of(text).ok_or("no short text")?)
 }
 
-/// A file of account [10,1].
+/// Returns a file of account [10,1].
 pub(crate) fn file(stem: &[u8]) -> Result<FileName, Fail> {
     named(1, stem, b"DAT")
 }
 
-/// A file of an account of project 10.
+/// Returns a file of an account of project 10.
 fn named(programmer: u8, stem: &[u8], extension: &[u8]) -> Result<FileName, Fail> {
     Ok(FileName {
         owner: account(10, programmer),
@@ -57,15 +57,15 @@ fn one_name_is_one_owner_stem_and_extension(rt: HostRuntime) -> Result<(), Fail>
     expect_none(rt.alloc(), first_wrong(&NAMES)?)
 }
 
-/// The byte that a page is full of.
+/// Returns the byte that a page is full of.
 fn full_of(page: &Page) -> Option<u8> {
     let first = page.as_bytes()[0];
     let is_full = page.as_bytes().iter().all(|byte| *byte == first);
     if is_full { Some(first) } else { None }
 }
 
-/// What a page is full of when it is made, when it is filled with 7, and when it is cleared; and
-/// its copy from before that.
+/// Returns what a page is full of when it is made, when it is filled with 7, and when it is
+/// cleared. The last one is its copy from before it was cleared.
 fn page_steps(alloc: Global) -> Result<[Option<u8>; 4], Fail> {
     let mut page = Page::new(alloc)?;
     let made = full_of(&page);

@@ -16,7 +16,7 @@ fn entry(account: Account, password: &[u8], limit: u16, quota: u16) -> Result<Ac
     })
 }
 
-/// [100,5] with the password DEMO, and [1,2] with SYSTEM.
+/// Returns a table with [100,5], whose password is DEMO, and [1,2], whose password is SYSTEM.
 fn table(alloc: Global) -> Result<AccountTable, Fail> {
     let entries = [
         entry(account(100, 5), b"DEMO", 16384, 16384)?,
@@ -25,7 +25,7 @@ fn table(alloc: Global) -> Result<AccountTable, Fail> {
     Ok(AccountTable::new(alloc, &entries)?)
 }
 
-/// An account; a password, where it is to be checked; and the limit that is told.
+/// An account; a password, if it is to be checked; and the limit in the answer.
 type Row = (u8, u8, Option<&'static [u8]>, Option<u16>);
 
 static ROWS: [Row; 6] = [

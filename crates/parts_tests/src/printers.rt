@@ -1,4 +1,4 @@
-//! The printer: who has it, and what is printed.
+//! The printer: who owns it, and what is printed.
 
 ghost use Rattle.std.specs.Prelude.{◌≡◌};
 
@@ -16,13 +16,13 @@ enum Step {
     Assign,
     Deassign,
     Open,
-    /// A text of so many bytes.
+    /// Bytes, this many.
     Print(u32),
     Close,
     End,
 }
 
-/// The number by which a step is refused; 0 where it is done.
+/// Returns the number of the error of a step; 0 if it is done.
 fn refused(printer: &mut Printer, job: u32, step: Step) -> u8 {
     let answer = match step {
         Step::Assign => printer.assign(job),
@@ -95,7 +95,8 @@ fn print_two(alloc: Global, first: &[u8], second: &[u8]) -> Result<(Request, Req
     Ok((first, second))
 }
 
-/// What is printed: two lines of one listing with one that is lost between, and a part of another.
+/// Returns what is printed: two lines of one print job with one that is lost between, and a part of
+/// another.
 fn prints(alloc: Global) -> Result<[Request; 4], Fail> {
     let (begun, lost) = print_two(alloc, b"10 PRINT\r\n", b"LOST")?;
     let (ended, cut) = print_two(alloc, b"20 END\r\n", b"A")?;
@@ -106,7 +107,7 @@ fn terminal(name: &[u8]) -> Result<TerminalName, Fail> {
     Ok(TerminalName::of(name).ok_or("no name")?)
 }
 
-/// An entry of the first job or of the second.
+/// Returns an entry of the first job or of the second.
 fn entry(job: u32, request: Request, reply: Reply) -> Entry
     ensures { result.job ≡ job }
 {
@@ -117,7 +118,7 @@ fn entry(job: u32, request: Request, reply: Reply) -> Entry
     }
 }
 
-/// The listings of two jobs, of which each has the printer in turn.
+/// Returns the print jobs of two jobs, each of which has the printer in turn.
 fn listings(alloc: Global) -> Result<Vec<u8>, Fail> {
     let names = [terminal(b"T1")?, terminal(b"CONSOLE")?];
     let [begun, lost, ended, cut] = prints(alloc)?;

@@ -19,7 +19,7 @@ enum Step {
     Receive(u32),
 }
 
-/// What a step tells.
+/// The answer to a step.
 #[derive(Clone, Copy, PartialEq, Eq)]
 enum Told {
     Done,

@@ -1,4 +1,4 @@
-//! Records of several blocks: which channel holds which, and how many blocks an owner has.
+//! Records of several blocks: which channel has locked which, and how many blocks an owner has.
 
 ghost use Rattle.std.specs.Prelude.{◌≡◌, ◌+◌, ◌<◌, ◌^◌};
 ghost use Rattle.monitor_model.specs.Holds.{any_held};
@@ -16,7 +16,7 @@ use std::test::Fail;
 /// What the channels 1 and 2 of one job do on a file of 4 blocks.
 #[derive(Clone, Copy)]
 enum Step {
-    /// A channel takes so many blocks up from this one on, where no other holds one of them.
+    /// A channel locks this many blocks from this one on, if no other has locked one of them.
     Hold(u8, u16, u8),
     Release(u8),
 }
@@ -36,7 +36,8 @@ impl Desk {
         Ok(Desk { holds, name })
     }
 
-    /// Whether a step is done. It is not of a channel, block or number that is not there.
+    /// Returns whether a step is done. It is not, for a channel, block or number that does not
+    /// exist.
     fn does(&mut self, step: Step) -> bool {
         match step {
             Step::Hold(channel, block, count) => self.hold(channel, block, count),
@@ -64,7 +65,7 @@ impl Desk {
         true
     }
 
-    /// The channel that holds each of the 4 blocks, or 0.
+    /// Returns the channel that has locked each of the 4 blocks, or 0.
     fn holders(&self) -> [u8; 4] {
         let mut found = [0; 4];
         for (place, found) in found.iter_mut().enumerate() {
@@ -75,7 +76,7 @@ impl Desk {
         found
     }
 
-    /// The first block that a channel holds and their number, or zeros.
+    /// Returns the first block that a channel has locked and their number, or zeros.
     fn held(&self, channel: u8) -> (u16, u8) {
         match self.holds.held_by(0, channel) {
             Some(run) => (run.block, run.count),
@@ -84,7 +85,7 @@ impl Desk {
     }
 }
 
-/// Whether another channel holds one of so many blocks.
+/// Returns whether another channel has locked one of this many blocks.
 fn any_held(holds: &Holds, channel: u8, name: &FileName, block: u16, count: u8) -> bool
     requires { block + count < 2 ^ 16 }
     ensures { result ≡ any_held holds.now.held 0 channel name.now block count }
@@ -95,7 +96,8 @@ fn any_held(holds: &Holds, channel: u8, name: &FileName, block: u16, count: u8) 
     is_held(holds, 0, channel, name, block) || any_held(holds, channel, name, block + 1, count - 1)
 }
 
-/// A step, whether it is done, who holds each block then, and what each channel holds.
+/// A step, whether it is done, which channel has locked each block then, and what each channel has
+/// locked.
 type Row = (Step, bool, [u8; 4], (u16, u8), (u16, u8));
 
 static ROWS: [Row; 8] = [
@@ -109,7 +111,7 @@ static ROWS: [Row; 8] = [
     (Step::Hold(1, 3, 1), false, [2, 2, 2, 0], (0, 0), (1, 3)),
 ];
 
-/// Whether a step leaves what its row says.
+/// Returns whether a step leaves what its row says.
 fn is_left(desk: &mut Desk, row: &Row) -> bool {
     let (step, done, holders, first, second) = row;
     let is_done = desk.does(*step) == *done;
@@ -125,7 +127,8 @@ fn first_wrong(desk: &mut Desk) -> Option<usize> {
     None
 }
 
-/// Fails with the place of a row that leaves another thing; channels that are not there hold none.
+/// Fails with the place of a row that leaves another state; channels that do not exist have locked
+/// none.
 fn expect_rows(alloc: Global, desk: &mut Desk) -> Result<(), Fail> {
     expect_none(alloc, first_wrong(desk))?;
     let beyond = (desk.held(13), desk.held(255));
@@ -159,7 +162,7 @@ static OWNED: [(u8, &[u8], u16, (u32, u32)); 5] = [
     (20, b"A", 3, (5, 3)),
 ];
 
-/// The number by which a write is refused; 0 where it is done. A file that is not there is made.
+/// Returns the number of the error of a write; 0 if it is done. A file that does not exist is made.
 fn refused(
     alloc: Global,
     disk: &mut Disk,
@@ -193,7 +196,7 @@ fn first_wrong_write(alloc: Global, disk: &mut Disk) -> Result<Option<usize>, Fa
     Ok(None)
 }
 
-/// What owners have when a file of one has been taken away.
+/// Returns what owners have after a file of one was deleted.
 fn used_behind_removal(disk: &mut Disk) -> Result<(u32, u32), Fail> {
     if disk.remove(&named(10, b"B")?).is_err() {
         return Err("the file is not taken away")?;
@@ -201,7 +204,7 @@ fn used_behind_removal(disk: &mut Disk) -> Result<(u32, u32), Fail> {
     Ok(used(disk))
 }
 
-/// Fails unless each owner has the blocks of its files, behind writes, a refused one and a removal.
+/// Fails unless each owner has the blocks of its files, after writes, one that fails and a removal.
 fn expect_owned(alloc: Global, disk: &mut Disk) -> Result<(), Fail> {
     expect_none(alloc, first_wrong_write(alloc, disk)?)?;
     expect_full(alloc, disk)?;

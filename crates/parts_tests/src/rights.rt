@@ -7,8 +7,8 @@ use monitor_model::Right;
 use protection::allows;
 use std::test::Fail;
 
-/// A protection code, and what it leaves to a caller of the owner's account [10,1], of another
-/// account of its project, and of one of another project: reading and writing, each in turn.
+/// A protection code, and what it allows a caller: reading and writing, in turn. The callers have
+/// the owner's account [10,1], another account of its project, and one of another project.
 type Row = (u8, [bool; 6]);
 
 static ROWS: [Row; 11] = [
@@ -25,7 +25,7 @@ static ROWS: [Row; 11] = [
     (64, [true, true, true, true, true, true]),
 ];
 
-/// Whether a caller may read and write a file of [10,1] with this code.
+/// Returns whether a caller may read and write a file of [10,1] with this code.
 fn rights(caller: Account, code: u8) -> (bool, bool) {
     let owner = account(10, 1);
     let read = allows(caller, owner, code, Right::Read);
@@ -60,7 +60,7 @@ fn each_bit_refuses_one_right_of_one_kind_of_caller(rt: HostRuntime) -> Result<(
     expect_none(rt.alloc(), first_wrong(&ROWS))
 }
 
-/// Whether project 1 may read and write another's file with this code, and write its own.
+/// Returns whether project 1 may read and write another's file with this code, and write its own.
 fn passes(code: u8) -> bool {
     let own = account(1, 2);
     rights(own, code) == (true, true) && allows(own, own, code, Right::Write)

@@ -1,4 +1,4 @@
-//! Room to the last byte.
+//! Memory to the last byte.
 
 use crate::expects::expect_none;
 use crate::memory::{Row, Step, Told, expect_rows, first_wrong};
@@ -7,7 +7,8 @@ use std::test::Fail;
 
 const X: u8 = b'X';
 
-/// Seven texts of 32,767 bytes and one of 32,759 fill the room. A text that is lent takes none.
+/// Seven strings of 32,767 bytes and one of 32,759 fill the memory. A string that is lent takes
+/// none.
 static TEXTS: [Row; 14] = [
     (Step::SetText(b'A', X, 32767), Told::Done),
     (Step::SetText(b'B', X, 32767), Told::Done),
@@ -30,7 +31,7 @@ fn texts_fill_the_room(rt: HostRuntime) -> Result<(), Fail> {
     expect_rows(rt.alloc(), &TEXTS)
 }
 
-/// The bounds of an array, and whether it finds room.
+/// The bounds of an array, and whether there is space for it.
 static ARRAYS: [(u16, Option<u16>, Told); 6] = [
     (255, Some(511), Told::Done),
     (255, Some(512), Told::Full),
@@ -40,7 +41,7 @@ static ARRAYS: [(u16, Option<u16>, Told); 6] = [
     (65535, None, Told::Done),
 ];
 
-/// The same is told of an array in the place of the first.
+/// Returns the first row with another answer, for an array in the place of the first.
 fn first_wrong_array(alloc: Global) -> Result<Option<usize>, Fail> {
     for (place, (first, second, told)) in ARRAYS.iter().enumerate() {
         let step = Step::Dim(b'A', *first, *second);

@@ -1,11 +1,11 @@
-//! What a screen keeps.
+//! The bytes that a screen keeps.
 
 use crate::expects::{expect, expect_bytes};
 use std::alloc::Global;
 use std::test::Fail;
 use terminal_line::Screen;
 
-/// What is echoed and written.
+/// The bytes that are echoed and written.
 static KEPT: &[u8] = b"\xFF\x00\r\nReady\r\n";
 
 fn write_lines(screen: &mut Screen) -> Result<(), Fail> {

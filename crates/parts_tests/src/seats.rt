@@ -21,9 +21,9 @@ enum Step {
     /// Nothing.
     Look(u32),
     LogIn(u32),
-    /// A call is counted, where the job has an account.
+    /// A call is counted, if the job has an account.
     Count(u32),
-    /// A channel is opened on the file, where the job has an account.
+    /// A channel is opened on the file, if the job has an account.
     Open(u32, u8),
     Close(u32, u8),
     End(u32),
@@ -47,7 +47,7 @@ impl Three {
         Ok(Three { jobs, name })
     }
 
-    /// What the table tells of a job behind a step on it; none of a job that is not there.
+    /// Returns what the table says of a job after a step on it; none for a job that does not exist.
     fn told_behind(&mut self, step: Step) -> Option<Told> {
         let (Step::Look(job)
         | Step::LogIn(job)

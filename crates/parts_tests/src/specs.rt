@@ -7,7 +7,7 @@ use file_names::{Spec, parse_spec, print};
 use monitor_calls::{FileName, Short};
 use std::test::Fail;
 
-/// The parts of a specification that is typed by [100,5], with the default extension BAS.
+/// Returns the parts of a specification that is typed by [100,5], with the default extension BAS.
 fn read(text: &[u8]) -> Result<Spec, Fault> {
     match Short::of(b"BAS") {
         Some(default) => parse_spec(text, account(100, 5), &default),
@@ -15,7 +15,7 @@ fn read(text: &[u8]) -> Result<Spec, Fault> {
     }
 }
 
-/// A text, and the parts that it names: the owner, the stem, the extension and the code.
+/// Bytes, and the parts that they name: the owner, the stem, the extension and the code.
 type Parts = (
     &'static [u8],
     (u8, u8),
@@ -93,7 +93,7 @@ static REFUSED: [(&[u8], u8); 22] = [
     (b"ALONGDEVICENAMEOFMORETHANTHIRTYTWOLETTERS:DEMO", 8),
 ];
 
-/// The number of the fault of a text; none where it is read.
+/// Returns the number of the fault of these bytes; none if they are read.
 fn fault_of(text: &[u8]) -> Option<u8> {
     match read(text) {
         Ok(_) => None,
@@ -134,7 +134,8 @@ fn prints(name: &FileName, want: &[u8]) -> bool {
     print(name).as_slice() == want
 }
 
-/// Whether a text is read as this name, by another account and without an extension of its own.
+/// Returns whether the bytes are read as this name, by another account and without an extension of
+/// its own.
 fn reads(text: &[u8], name: &FileName) -> Result<bool, Fail> {
     match parse_spec(text, account(1, 1), &short(b"")?) {
         Ok(spec) => Ok(spec.name.is_same(name)),

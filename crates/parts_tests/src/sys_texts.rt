@@ -1,4 +1,4 @@
-//! The texts of SYS.
+//! The strings of SYS.
 
 use crate::expects::expect_none;
 use crate::names::account;
@@ -8,7 +8,7 @@ use std::alloc::Global;
 use std::test::Fail;
 use sys_calls::{SysCall, decode, encode};
 
-/// What a text asks.
+/// What a string asks for.
 #[derive(Clone, Copy)]
 enum Asked {
     ReadCommon,
@@ -117,7 +117,7 @@ fn any_other_text_is_18(rt: HostRuntime) -> Result<(), Fail> {
     expect_none(rt.alloc(), first_wrong_call(rt.alloc(), &REFUSED))
 }
 
-/// Some bytes, and so many times the letter x.
+/// Returns some bytes, and then the letter x, this many times.
 fn with_letters(alloc: Global, front: &[u8], count: usize) -> Result<Vec<u8>, Fail> {
     let letters = vec![in alloc; b'x'; count]?;
     let mut text = Vec::from_slice(alloc, front)?;
@@ -125,7 +125,7 @@ fn with_letters(alloc: Global, front: &[u8], count: usize) -> Result<Vec<u8>, Fa
     Ok(text)
 }
 
-/// How many bytes a text hands over; none where it is refused.
+/// Returns how many bytes a string passes on; none if it fails.
 fn handed_over(alloc: Global, text: &[u8]) -> Option<usize> {
     match decode(alloc, text) {
         Ok(SysCall::WriteCommon(common)) => Some(common.as_bytes().len()),
@@ -135,7 +135,7 @@ fn handed_over(alloc: Global, text: &[u8]) -> Option<usize> {
     }
 }
 
-/// What stands in front, how many letters behind it, and how many are handed over.
+/// The first bytes, how many letters come after them, and how many are passed on.
 static LONG: [(&[u8], usize, Option<usize>); 4] = [
     (b"\x08", 127, Some(127)),
     (b"\x08", 128, None),
@@ -161,7 +161,7 @@ fn a_common_has_127_bytes_and_a_message_512(rt: HostRuntime) -> Result<(), Fail>
     expect_none(rt.alloc(), first_wrong_length(rt.alloc(), &LONG)?)
 }
 
-/// What the monitor replied, to a job of [100,5].
+/// The replies of the monitor, to a job of [100,5].
 #[derive(Clone, Copy)]
 enum Replied {
     Done,

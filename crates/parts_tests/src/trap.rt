@@ -16,15 +16,15 @@ enum Step {
     Last,
 }
 
-/// What a step tells.
+/// The answer to a step.
 #[derive(Clone, Copy, PartialEq, Eq)]
 enum Told {
-    /// There is no error to go back from.
+    /// There is no error to resume from.
     NoError,
     Back(u32),
     Report,
     Handle(u16),
-    /// No error goes to its handler any more.
+    /// The handler gets no more errors.
     Nothing,
     /// The error that was handled, and its line.
     Left(u8, u16),

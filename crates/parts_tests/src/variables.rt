@@ -9,7 +9,7 @@ use record_fields::Buffers;
 use std::alloc::Global;
 use std::test::Fail;
 
-/// A letter, perhaps a digit, and whether it is a text.
+/// A letter, perhaps a digit, and whether it is a string.
 type Spelling = (u8, Option<u8>, bool);
 
 fn named(spelling: Spelling) -> Name {
@@ -49,7 +49,7 @@ static NEVER_STORED: [Spelling; 8] = [
     (b'Z', Some(b'8'), true),
 ];
 
-/// Stores a number, or a text of so many bytes.
+/// Stores a number, or a string of this many bytes.
 fn stores(alloc: Global, memory: &mut Memory, name: Name, count: u8) -> Result<bool, Fail> {
     if name.text {
         let value = text(alloc, b'X', usize::from(count))?;
@@ -58,7 +58,7 @@ fn stores(alloc: Global, memory: &mut Memory, name: Name, count: u8) -> Result<b
     Ok(memory.set_number(name, Int::new(i16::from(count))).is_ok())
 }
 
-/// Whether a variable is that number, or a text of so many bytes.
+/// Returns whether a variable is that number, or a string of this many bytes.
 fn is(memory: &Memory, buffers: &Buffers, name: Name, count: u8) -> bool {
     if name.text {
         memory.text(name, buffers).len() == usize::from(count)
@@ -67,7 +67,7 @@ fn is(memory: &Memory, buffers: &Buffers, name: Name, count: u8) -> bool {
     }
 }
 
-/// What is stored under the name at a place.
+/// Returns what is stored under the name at a place.
 fn count_of(place: usize) -> u8 {
     u8::try_from(place % 100).unwrap_or(0) + 1
 }
@@ -86,7 +86,7 @@ fn store_all(alloc: Global, memory: &mut Memory, from_last: bool) -> Result<(), 
     Ok(())
 }
 
-/// Whether each name has what was stored under it.
+/// Returns whether each name has what was stored under it.
 fn has_all(memory: &Memory, buffers: &Buffers) -> bool {
     STORED.iter().enumerate().all(|(place, name)| is(
         memory,
@@ -96,14 +96,14 @@ fn has_all(memory: &Memory, buffers: &Buffers) -> bool {
     ))
 }
 
-/// Whether nothing stands under the names that nothing was stored under.
+/// Returns whether nothing is stored under the names that were never stored to.
 fn has_no_other(memory: &Memory, buffers: &Buffers) -> bool {
     NEVER_STORED
         .iter()
         .all(|name| is(memory, buffers, named(*name), 0))
 }
 
-/// Fails unless each name has what was stored under it alone.
+/// Fails unless each name has what was stored under it, and no other name has anything.
 fn expect_own_values(memory: &Memory, buffers: &Buffers) -> Result<(), Fail> {
     expect(has_all(memory, buffers), "a name has another value")?;
     expect(

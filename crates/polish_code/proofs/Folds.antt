@@ -1,5 +1,5 @@
--- Code is a list of instructions that are put one by one in front of what follows; and how many
--- there are.
+-- Code is a list of instructions that are put one by one before what follows; and how many there
+-- are.
 use Rattle.std.proofs.Common.{◌≡◌, ℕ, suc, ◌+◌, List, [], ◌∷◌, ◌++◌, length, None, refl, ap, ◌∙◌, subst, arith, length-append}
 use Rattle.std.specs.Prelude.{true, false}
 use Rattle.basic_tree.specs.Trees.{Tree, Literal, Quoted, Variable, Element, FunctionOf, Call, Parenthesized, Negative, Positive, Not, Operation, Comparison, Trees, NoTrees, AndTrees, ModifierTree, If, ForModifier, ClauseTree, LineClause, StatementClause, ElseTree, NoElse, Else, StatementTree, IfThen, IfGoto, Modified, For, Def, Print, Input, InputLine}
@@ -16,7 +16,7 @@ folded_both : {S : Type 0} (put : Item → S → S) (xs ys : List Item) (s : S) 
 folded_both put [] ys s = refl
 folded_both put (x ∷ xs) ys s = ap (put x) (folded_both put xs ys s)
 
--- this many instructions are put in front
+-- this many instructions are put before others
 pub record Folds {S : Type 0} (put : Item → S → S) (f : S → S) (n : ℕ) : Type 0 where
   pub front : List Item
   pub stands : (s : S) → f s ≡ folded put front s
@@ -28,7 +28,7 @@ none = record { front = []; stands = λ s. refl; sized = refl }
 abbrev next : {S : Type 0} {put : Item → S → S} (i : Item) (f : S → S) (n : ℕ) → Folds put f n → Folds put (λ s. put i (f s)) (suc n)
 next {put = put} i f n h = record { front = i ∷ h.front; stands = λ s. ap (put i) (h.stands s); sized = ap suc h.sized }
 
--- one in front of the other
+-- one before the other
 both : {S : Type 0} {put : Item → S → S} (f g : S → S) (n k : ℕ) → Folds put f n → Folds put g k → Folds put (λ s. f (g s)) (n + k)
 both {put = put} f g n k h e = record {
   front = h.front ++ e.front;

@@ -1,5 +1,5 @@
--- A tree of the meaning as one of the code: the laws of this, and that each interaction tree is the
--- same in both.
+-- A tree of the program as one of the code: the laws of this mapping, and that each interaction
+-- tree is the same in both.
 use Rattle.std.proofs.Common.{◌≡◌, ℕ, zero, suc, ◌-◌, List, [], ◌∷◌, ◌++◌, length, drop, Option, Some, None, Ok, Err, refl, sym, ap, ◌∙◌}
 use Rattle.std.specs.Prelude.{Bool, true, false, if◌then◌else◌, map, nat_lt, nat_le, Result, ℤ, bytes_eq, ◌+ℤ◌, codes}
 use Rattle.std.proofs.lemmas.List.{length-map}
@@ -89,7 +89,7 @@ module _ (program : Program) where
   pub follow : {A B C : Type 0} (m' : Walked A) (m : Deed Position A) (f' : A → Job Spot → Walked C) (f : A → Job Position → Deed Position B) (g : B → Job Position → Walked C) → Same m' m → ((a : A) (j : Job Position) → f' a (low j) ≡ lowers program (f a j) g) → m' then f' ≡ lowers program (m then f) g
   follow m' m f' f g same next = ap (λ n. n then f') same ∙ then_lowers m keeps f' ∙ alike m next ∙ sym (lowers_then m f g)
 
-  -- ACTS
+  -- INTERACTION TREES
 
   if_same : {A : Type 0} (b : Bool) (m' n' : Walked A) (m n : Deed Position A) → Same m' m → Same n' n → Same (if b then m' else n') (if b then m else n)
   if_same true m' n' m n s t = s
@@ -247,7 +247,7 @@ module _ (program : Program) where
   pub enough_same : (n : ℕ) (items : List (List ℕ)) (j : Job Position) → Same (enough n items (low j)) (enough n items j)
   enough_same n items j = if_same (nat_lt (length items) n) _ _ _ _ refl refl
 
-  -- what runs at main level
+  -- what runs at top level
   pub low_after : (frames : List Frame) (new old : Home) → low_home program (home_after frames new old) ≡ home_after frames (low_home program new) (low_home program old)
   low_after [] new old = refl
   low_after (f ∷ fs) new old = refl

@@ -1,5 +1,5 @@
--- The state of the meaning as that of the code, and what it means that code keeps the meaning of a
--- program.
+-- The state of the program as that of the code, and the simulation: what it means that code does
+-- what a program means.
 use Rattle.std.specs.Prelude.{◌≡◌, ℕ, map, Option, Some, None}
 use Rattle.job_model.specs.Act.{Gives, Breaks, Asks, Types, Takes, break_over}
 use Rattle.program_model.specs.Program.{Program, Position, items_of, line_start}
@@ -37,7 +37,7 @@ low_leaving program (Stopped q) = Stopped (spot_of program q)
 low_leaving program (StoppedInside home) = StoppedInside (low_home program home)
 low_leaving program Chained = Chained
 
--- a tree of the meaning as one of the code, with another continuation at its end
+-- a tree of the program as one of the code, with another continuation at its end
 abbrev pub lowers : {A B : Type 0} → Program → Deed Position A → (A → Job Position → Walked B) → Walked B
 lowers program (Gives value j) next = next value j
 lowers program (Breaks why j) next = Breaks (break_over (low_leaving program) why) (lowered program j)

@@ -49,7 +49,7 @@ impl Code {
         &self.items
     }
 
-    /// Returns the DATA items, in the order of the text.
+    /// Returns the DATA items, in the order of the source.
     pub fn words(&self) -> &[Text]
         ensures { result.now ≡ self.entry.now.words }
     {

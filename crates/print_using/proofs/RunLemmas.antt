@@ -1,10 +1,10 @@
--- Equal bytes at the front of a text, and the byte at a place.
+-- Equal bytes at the beginning of a string, and the byte at a place.
 use Rattle.std.proofs.Common.{◌≡◌, ℕ, zero, suc, ◌+◌, Bool, true, false, cond, eqb, List, [], ◌∷◌, ◌++◌, drop, refl, sym, ap, ◌∙◌, arith, eq-eqb}
 use Rattle.std.specs.Prelude.{replicate}
 use Rattle.std.proofs.lemmas.Bool.{eqb-true}
 use Rattle.print_using.specs.FormatFronts.{run_of, has_at}
 
--- ---- equal bytes at the front
+-- ---- equal bytes at the beginning
 
 -- one more than after the first byte
 run_more : (byte x : ℕ) (xs : List ℕ) → eqb x byte ≡ true → run_of byte (x ∷ xs) ≡ suc (run_of byte xs)
@@ -13,7 +13,7 @@ run_more byte x xs e = ap (λ b. cond b (1 + run_of byte xs) 0) e ∙ omega arit
 run_none : (byte x : ℕ) (xs : List ℕ) → eqb x byte ≡ false → run_of byte (x ∷ xs) ≡ 0
 run_none byte x xs e = ap (λ b. cond b (1 + run_of byte xs) 0) e
 
--- the text is its equal bytes and what follows them
+-- the string is its equal bytes and what follows them
 abbrev split_at : ℕ → ℕ → List ℕ → List ℕ
 split_at n byte text = replicate n byte ++ drop n text
 
@@ -26,7 +26,7 @@ pub run_split : (byte : ℕ) (text : List ℕ) → text ≡ replicate (run_of by
 run_split byte [] = refl
 run_split byte (x ∷ xs) = run_split_by byte x xs (eqb x byte) refl (run_split byte xs)
 
--- with n more of the byte in front there are n more of them
+-- with n more of the byte before it there are n more of them
 pub run_behind : (byte n : ℕ) (text : List ℕ) → run_of byte (replicate n byte ++ text) ≡ n + run_of byte text
 run_behind byte zero text = omega arith
 run_behind byte (suc n) text =

@@ -1,4 +1,4 @@
--- Rows of PRINT USING, computed.
+-- Examples of PRINT USING.
 use Rattle.std.proofs.Common.{◌≡◌, [], ◌∷◌, Ok, Err, refl}
 use Rattle.std.specs.Prelude.{codes, pos, negsuc}
 use Rattle.std.specs.Fmt.{digits}

@@ -48,8 +48,8 @@ over_front : (P : List ℕ → Type 0) → IsHere P → Passes P → (byte : ℕ
 over_front P here passes byte rest true e again = here (byte ∷ rest) e
 over_front P here passes byte rest false e again = passes byte rest e again
 
--- What holds for the empty text and for one that begins with a field, and still holds with one more
--- byte in front, holds for every text.
+-- A fact is true of every string, if it is true of the empty string and of each one that begins
+-- with a field, and stays true with one more byte before it.
 over_bytes : (P : List ℕ → Type 0) → P [] → IsHere P → Passes P → (text : List ℕ) → P text
 over_bytes P empty here passes [] = empty
 over_bytes P empty here passes (byte ∷ rest) =
@@ -124,7 +124,7 @@ behind_both : (a b : List ℕ) (one : OneWritten) → behind_bytes a (behind_byt
 behind_both a b (Ok one) = ap (λ t. Ok (t, one.1)) (sym (append_assoc a b one.0))
 behind_both a b (Err fault) = refl
 
--- whatever parts follow those of the text
+-- whatever parts follow those of the string
 abbrev IsBehind : List ℕ → Type 0
 IsBehind text = (parts : List FormatPart) (value : PrintedValue) →
     by_next_field (format_parts text ++ parts) value
@@ -155,7 +155,7 @@ is_behind_alone text value =
     ∙ is_behind text [] value
     ∙ ap (λ ps. behind_bytes (before_field text) (by_next_field ps value)) (append-nil (format_parts (from_field text)))
 
--- ---- whether a text is empty
+-- ---- whether a string is empty
 
 false_true : false ≡ true → ⊥
 false_true e = absurd cc

@@ -34,8 +34,8 @@ has_place (Digits starred signs trailing) = starred || nat_le 1 signs
 abbrev pub cut_to : ℕ → List ℕ → List ℕ
 cut_to width text = padded width (take width text)
 
--- right-aligned in this many places, filled in front; or `%` and all digits, if there are too few
--- places
+-- right-aligned in this many places, filled on the left; or `%` and all digits, if there are too
+-- few places
 abbrev pub placed_right : ℕ → ℕ → List ℕ → List ℕ
 placed_right places filler digits =
     if nat_le (length digits) places

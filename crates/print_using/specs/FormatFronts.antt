@@ -7,9 +7,9 @@ use Rattle.print_using.specs.declared.fields.Field.TheVariants.{Initial, Column,
 use Rattle.print_using.specs.Fields.{field_spelling}
 use Rattle.print_using.specs.Formats.{FormatPart, OfByte, OfField}
 
--- THE LONGEST FIELD IN FRONT
+-- THE LONGEST FIELD AT THE BEGINNING
 
--- how many of this byte the text begins with, and whether that byte follows them
+-- how many of this byte the string begins with, and whether that byte follows them
 abbrev pub run_of : ℕ → List ℕ → ℕ
 run_of byte text = prefix_len (λ b. b == byte) text
 
@@ -44,7 +44,7 @@ bytes_before_field [] = 0
 bytes_before_field (byte ∷ rest) =
     if is_some (front_field (byte ∷ rest)) then 0 else 1 + bytes_before_field rest
 
--- what is before it, and the text from there on
+-- what is before it, and the string from there on
 abbrev pub before_field : List ℕ → List ℕ
 before_field text = take (bytes_before_field text) text
 

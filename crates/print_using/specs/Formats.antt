@@ -7,7 +7,7 @@ pub data FormatPart : Type 0 where
   OfByte : ℕ → FormatPart
   OfField : Field → FormatPart
 
--- the format is the field, followed by the rest
+-- the format is the field, and then the rest
 pub record StandsInFront (field : Field) (rest format : List ℕ) : Type 0 where
   pub is : format ≡ field_spelling field ++ rest
   pub placed : has_place field ≡ true

@@ -1,4 +1,4 @@
--- What holds of all formats.
+-- Laws of all formats.
 use Rattle.std.specs.Prelude.{◌≡◌, ◌↔◌, ℕ, List}
 use Rattle.print_using.specs.Formats.{FormatPart, IsFormatOf}
 use Rattle.print_using.specs.FormatFronts.{format_parts}

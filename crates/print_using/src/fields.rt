@@ -21,8 +21,8 @@ pub enum Field {
     Column {
         spaces: usize,
     },
-    /// One or more `#`, one place each, for a number, right-aligned. With `**` in front it has two
-    /// more places and is filled with `*`. With `-` at the end, the minus is written there.
+    /// One or more `#`, one place each, for a number, right-aligned. With `**` before them it has
+    /// two more places and is filled with `*`. With `-` at the end, the minus is written there.
     Digits {
         starred: bool,
         signs: usize,

@@ -70,7 +70,7 @@ fn digits_front(starred: bool, text: &[u8]) -> Field
     }
 }
 
-/// Returns how many of this byte the text begins with.
+/// Returns how many of this byte the string begins with.
 fn run_of(byte: u8, text: &[u8]) -> usize
     ensures { result ≡ run_of byte text.now }
 {

@@ -2,8 +2,8 @@
 
 ghost use Rattle.print_using.specs.Laws.{FormatIsReadOneWay};
 
-/// The parts of a format, fields and bytes, are those that reading it from the left finds, and no
-/// others.
+/// States that the parts of a format, fields and bytes, are those that reading it from the left
+/// finds, and no others.
 #[tactic(auto, using(crate::proofs::FormatLaws::format_is_read_one_way))]
 pub fn format_is_read_one_way()
     ensures { FormatIsReadOneWay }

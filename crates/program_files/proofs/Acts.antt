@@ -1,4 +1,4 @@
--- How requests on files are joined, and what is done at the ends of a tree.
+-- How requests on files are put together, and what is done at the ends of a tree.
 use Rattle.std.proofs.Common.{◌≡◌, ◌⊎◌, inl, inr, ℕ, List, [], ◌∷◌, Option, Some, Result, Ok, Err, refl, sym, ap, subst}
 use Rattle.std.specs.Option.{option_map}
 use Rattle.std.specs.Result.{IsErrAnd}

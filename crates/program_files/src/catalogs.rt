@@ -108,7 +108,7 @@ fn push_blocks(line: &mut Vec<u8>, blocks: Option<u16>) -> Result<(), NoMemory>
     }
 }
 
-/// Appends a text, with spaces after it up to the width.
+/// Appends a string, with spaces after it up to the width.
 fn push_at_left(line: &mut Vec<u8>, text: &[u8], width: usize) -> Result<(), NoMemory>
     requires { width ≤ WIDE }
     ensures { OnOk result (line.new.items ≡ line.old.items ++ at_left width text.now) }
@@ -117,7 +117,7 @@ fn push_at_left(line: &mut Vec<u8>, text: &[u8], width: usize) -> Result<(), NoM
     push_spaces(line, width.saturating_sub(text.len()))
 }
 
-/// Appends a text, with spaces before it up to the width of a number of blocks.
+/// Appends a string, with spaces before it up to the width of a number of blocks.
 fn push_at_right(line: &mut Vec<u8>, text: &[u8]) -> Result<(), NoMemory>
     ensures { OnOk result (line.new.items ≡ line.old.items ++ at_right 6 text.now) }
 {

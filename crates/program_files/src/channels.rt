@@ -1,4 +1,4 @@
-//! Single requests on the command level's channel, with the meaning of their replies; and how the
+//! Single requests on the command level's channel, with what their replies lead to; and how the
 //! channel and the printer are closed after their use.
 
 ghost use Rattle.std.specs.Prelude.{◌≡◌, true, Err, OnOk};
@@ -88,7 +88,7 @@ pub(crate) fn close_behind<P: Port, T: Drop>(
     opened: Opened,
     outcome: Result<T, Stop>,
 ) -> Result<T, Stop>
-    // For every tree with this outcome, this is the outcome of that tree followed by the closing.
+    // For every tree with this outcome, this is the outcome of that tree with the closing after it.
     ensures { (start : P) (clock : play.Clock) (act : FileAct T)
         → Follows P.who P.log start port.old clock clock act (answered_by outcome tt)
         → Follows P.who P.log start port.new clock clock (closed_behind opened act)

@@ -53,7 +53,7 @@ module _ {L S A : Type 0} where
   and_then n m m' f f' spent h = spent
   and_then n m m' f f' (takes {n = i} {s = s} {m = k} {m' = k'} e) h = takes (and_then i k k' f f' e (λ l a s le. h l a s (omega (arith, le))))
 
-  -- the same, where more comes behind it
+  -- the same, if more comes after it
   and_more : {B C : Type 0} (n : ℕ) (m m' : Act L S A) (f f' : A → S → Act L S B) (g g' : B → S → Act L S C) → Alike n m m' → ((k : ℕ) (a : A) (s : S) → k ≤ n → Alike k (f a s then g) (f' a s then g')) → Alike n ((m then f) then g) ((m' then f') then g')
   and_more n m m' f f' g g' (gives {n = i} {a = a} {s = s}) h = h n a s (omega arith)
   and_more n m m' f f' g g' breaks h = breaks
@@ -256,7 +256,7 @@ module _ (program : Program) (n : ℕ) (call call' : Name → List Value → Job
   one_line_alike k le m (Some (Def f xs (Some e))) j = and_then k _ _ _ _ (value_alike k le e (runs_at (home_of program m) j)) (λ l v j less. gives)
   one_line_alike k le m (Some _) j = gives
 
-  -- a statement takes a unit: what comes behind it has one less
+  -- a statement takes a unit: what comes after it has one less
   begun_alike : (k : ℕ) → k ≤ n → (q : Position) (o : Option StatementTree) (j : Job Position) (f f' : Coming → Job Position → Deed Position Coming) → ((l : ℕ) (coming : Coming) (j : Job Position) → l < k → Alike l (f coming j) (f' coming j)) → Alike k (trapped (handler program) (begun c program q o j) then f) (trapped (handler program) (begun c' program q o j) then f')
   begun_alike k le q None j f f' h = same k _
   begun_alike zero le q (Some s) j f f' h = spent
@@ -272,7 +272,7 @@ out_alike program (suc i) i' n j = out_alike program i i' n j
 calls_alike : (program : Program) (i i' n : ℕ) → ((l : ℕ) (coming : Coming) (j : Job Position) → l < n → Alike l (runs program i coming j) (runs program i' coming j)) → (k : ℕ) → k ≤ n → (f : Name) (vs : List Value) (j : Job Position) → Alike k ((calls_of program (runs program i)).calls f vs j) ((calls_of program (runs program i')).calls f vs j)
 calls_alike program i i' n h k le f vs j = called_alike k f (parameters_of program f) _ _ vs j (λ l j less. h l (body_at_def program (def_of program f)) j (omega (arith, le, less)))
 
--- the value of a function of one line takes no unit, but a handler behind it does
+-- the value of a function of one line takes no unit, but a handler after it does
 value_turn : (program : Program) (i i' n m : ℕ) (j : Job Position) → ((l : ℕ) (coming : Coming) (j : Job Position) → l < n → Alike l (runs program i coming j) (runs program i' coming j)) → Alike n (runs program (suc i) (Value_of m) j) (runs program (suc i') (Value_of m) j)
 value_turn program i i' n m j h =
     and_more n _ _ (out_or_at around program) (out_or_at around' program) (λ coming j. runs program i coming j) (λ coming j. runs program i' coming j) (trapped_alike n Some _ _ (one_line_alike program n (around.calls) (around'.calls) calls n (omega arith) m (statement_at program m) j)) behind
@@ -302,7 +302,7 @@ pub bounds_enough_from : BoundsAreEnoughFrom
 bounds_enough_from program i i' n o j lt lt' =
     and_then n _ _ _ _ (trapped_alike n (handler program) _ _ (reached_alike program n _ _ (calls_alike program i i' n (λ l coming j less. bounds_enough program i i' l coming j (omega (arith, lt, less)) (omega (arith, lt', less)))) n (omega arith) o j)) (λ k coming j le. bounds_enough program i i' k coming j (omega (arith, lt, le)) (omega (arith, lt', le)))
 
--- a program that begins, and one that goes on with an error
+-- a program that begins, and one that continues with an error
 pub cleared_enough : (program : Program) (i i' n : ℕ) (line : Option ℕ) (j : Job Position) → n < i → n < i' → Alike n (runs_cleared program i line j) (runs_cleared program i' line j)
 cleared_enough program i i' n line j lt lt' =
     ends_closed_alike n (runs_open program i line j) (runs_open program i' line j)

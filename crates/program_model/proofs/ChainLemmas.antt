@@ -1,4 +1,5 @@
--- No program chains before it takes a unit: one that begins at a statement, and one that goes on with an error.
+-- No program chains before it takes a unit: one that begins at a statement, and one that continues
+-- with an error.
 use Rattle.std.proofs.Common.{ℕ, zero, suc, List, [], ◌∷◌, Option, Some, None}
 use Rattle.std.specs.Prelude.{nat_le, Bool, true, false, if◌then◌else◌}
 use Rattle.basic_values.specs.declared.failures.Halt.TheVariants.{RoomFull}
@@ -22,7 +23,7 @@ use Rattle.program_model.specs.Traps.{handled, caught, trapped}
 use Rattle.program_model.specs.Control.{At, at_line}
 use Rattle.program_model.specs.Running.{Begin, begun, calls_of, handler, runs, runs_from, ends_closed, dimension_all, dimension_in, dimension_program, begins_with, runs_open, runs_cleared, raises_open, raises}
 
--- no chain stands before a unit
+-- no chain comes before a unit
 abbrev pub SpendsFirst : {R A : Type 0} → Deed R A → Type 0
 SpendsFirst (Gives value j) = Unit {0}
 SpendsFirst (Breaks (Left Chained) j) = ⊥
@@ -42,7 +43,7 @@ module _ {R : Type 0} where
   spends_then (Types by) next h f = λ key. spends_then (by key) next (h key) f
   spends_then (Takes j rest) next h f = tt
 
-  -- a part that leaves in no way of its own
+  -- a part with no way of its own to leave
   part_spends : {P A : Type 0} (put : P → Job R) (m : Act ⊥ P A) → SpendsFirst (over no_way put m)
   part_spends put (Gives a p) = tt
   part_spends put (Breaks (Faulted fault) p) = tt

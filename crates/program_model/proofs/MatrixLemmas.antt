@@ -1,4 +1,5 @@
--- What holds of a job whose memory, screen and DATA item change holds wherever a statement of MAT ends.
+-- What is true of a job whose memory, screen and DATA item change is true at each end of a
+-- statement of MAT.
 use Rattle.std.proofs.Common.{ℕ, suc, List, [], ◌∷◌, Option, Some, None, Ok, Err}
 use Rattle.std.specs.Prelude.{Bool, true, false, if◌then◌else◌, Result, ℤ, slice_get, nat_le, ◌++◌}
 use Rattle.std.specs.List.{range_with_len}

@@ -6,11 +6,11 @@ use Rattle.job_model.specs.Act.{Breaks, Left}
 use Rattle.program_model.specs.Job.{Value, number, text, Job, Chained, Deed}
 use Rattle.program_model.specs.FileStatements.{or_zero}
 
--- the number of the line is 0 where it is left out
+-- the number of the line is 0 if it is left out
 abbrev pub line_operand : Option ChainLineTree → Tree
 line_operand line = or_zero (option_map (λ line. line.number) line)
 
--- 0 and what is below are no line
+-- 0 and negative numbers are no line
 abbrev pub line_wanted : ℤ → Option ℕ
 line_wanted (pos zero) = None
 line_wanted (pos (suc n)) = Some (suc n)

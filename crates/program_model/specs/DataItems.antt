@@ -9,7 +9,7 @@ use Rattle.program_model.specs.Expressions.{Around}
 use Rattle.program_model.specs.Targets.{stored_to, wants_text}
 use Rattle.program_model.specs.Items.{item_value}
 
--- The item is taken, also where it is refused then.
+-- The item is taken, also if it is then rejected.
 abbrev pub item_taken : {R : Type 0} → Option (List ℕ) → Job R → Deed R (List ℕ)
 item_taken None j = Breaks (Faulted OUT_OF_DATA) j
 item_taken (Some item) j = Gives (without_blanks item) (record j { item = suc j.item })

@@ -1,4 +1,4 @@
--- Elements of arrays: of one in memory, or of one in a file where a DIM # of the program has its name.
+-- Elements of arrays: in a file if a DIM # of the program has the name, else in memory.
 use Rattle.std.specs.Prelude.{List, Option, Some, None}
 use Rattle.basic_tree.specs.declared.names.Name.{Name}
 use Rattle.job_model.specs.Act.{Gives, ◌then◌, on}

@@ -27,15 +27,15 @@ use Rattle.program_model.specs.Job.{Value, number}
 use Rattle.program_model.specs.Functions.{number_at, text_at}
 use Rattle.program_model.specs.Storage.{Storage, StorageAct, in_files}
 
--- what is tested before anything is asked
+-- what is tested before any request
 abbrev pub is_tested : {A : Type 0} → Result A ℕ → StorageAct A
 is_tested result s = on in_files (tested result) s
 
--- a request that is done, or refused
+-- a request that is either done or refused
 abbrev pub asks_done : Request → StorageAct Unit
 asks_done request s = on no_part (λ _. asks_for done_by request) s
 
--- the file that a text names, where nothing stands for its extension
+-- the file that a string names; a name without an extension has none
 abbrev pub file_said : List ℕ → Storage → Result Spec ℕ
 file_said text s = spec_said s.account [] text
 
@@ -50,7 +50,7 @@ record_size (Some bytes) =
     else None
 record_size None = None
 
--- MODE: with 1 a block that was got is held
+-- MODE: with 1 a block that GET reads is locked
 abbrev pub is_update : Option ℕ → Option Bool
 is_update (Some mode) = if mode == 0 then Some false else if mode == 1 then Some true else None
 is_update None = None
@@ -70,7 +70,8 @@ opens_on kind c how spec s = on in_files (opens_file c spec.name kind how.1 spec
 abbrev pub opens_said : OpenKind → List ℕ → ℕ → RecordSize × Bool → StorageAct Unit
 opens_said kind text c how s = is_tested (file_said text s) s then λ spec. opens_on kind c how spec
 
--- a channel outside 1 to 12, one that is open, a size or mode that is none, and a text that names no file are refused, in this order
+-- these are errors, in this order: a channel outside 1 to 12, a channel that is open, a size or
+-- mode that does not exist, and a string that names no file
 abbrev pub open_act : OpenKind → List ℕ → ℤ → ℤ → ℤ → StorageAct Unit
 open_act kind text channel bytes mode s =
     is_tested (channel_to_open channel s.files.channels) s then λ c s.
@@ -86,7 +87,7 @@ without_fields (Some c) s = record s { memory = forget c s.memory }
 abbrev pub close_act : ℤ → StorageAct Unit
 close_act channel s = on in_files (closes_file channel) s then λ closed s. Gives tt (without_fields closed s)
 
--- the quiet closing of all channels
+-- all channels are closed implicitly
 abbrev pub shut_act : StorageAct Unit
 shut_act s = on in_files closes_all s then λ _ s. Gives tt (record s { memory = forget_all s.memory })
 
@@ -101,7 +102,8 @@ put_act channel block s = on in_files (puts_record channel block) s
 abbrev pub unlock_act : ℤ → StorageAct Unit
 unlock_act channel s = on in_files (unlocks channel) s
 
--- FIELD: a width that is refused binds nothing; then the variables are bound from left to right, where there is room
+-- FIELD: an illegal width binds nothing; otherwise the variables are bound from left to right, as
+-- long as there is memory
 
 abbrev pub bound : Memory → StorageAct Unit
 bound m s = if nat_le (room_of m) MOST_ROOM then Gives tt (record s { memory = m }) else Breaks (Halted RoomFull) s
@@ -119,7 +121,7 @@ abbrev pub field_act : List Name → ℤ → List ℤ → StorageAct Unit
 field_act names channel widths s =
     is_tested (channel_opened channel s.files.channels) s then λ c. fields_laid names widths c
 
--- KILL AND NAME: the code that stands with the file to be killed or renamed is not looked at
+-- KILL AND NAME: the code of the file that is killed or renamed is ignored
 
 abbrev pub kill_act : List ℕ → StorageAct Unit
 kill_act text s = is_tested (file_said text s) s then λ spec. asks_done (request.Kill spec.name)
@@ -129,7 +131,7 @@ rename_act old new s =
     is_tested (file_said old s) s then λ old s.
     is_tested (file_said new s) s then λ new. asks_done (request.Rename old.name new.name new.code)
 
--- SLEEP: so many seconds, and none for a negative number
+-- SLEEP: this many seconds, and none for a negative number
 
 abbrev pub seconds_of : ℤ → ℕ
 seconds_of number = unwrap_or (natural number) 0
@@ -137,7 +139,7 @@ seconds_of number = unwrap_or (natural number) 0
 abbrev pub sleep_act : ℤ → StorageAct Unit
 sleep_act number = asks_done (request.Sleep (seconds_of number))
 
--- EACH WITH THE VALUES OF ITS OPERANDS, in the order of the text. CLUSTERSIZE changes nothing.
+-- EACH WITH THE VALUES OF ITS OPERANDS, in the order of the source. CLUSTERSIZE changes nothing.
 
 abbrev pub act_by : FileAct → List Value → StorageAct Unit
 act_by (file.Open kind) vs = open_act kind (text_at 0 vs) (number_at 1 vs) (number_at 2 vs) (number_at 4 vs)

@@ -13,16 +13,16 @@ use Rattle.virtual_arrays.specs.declared.places.VirtualShape.{VirtualShape}
 use Rattle.program_model.specs.Program.{Program, statements_of}
 use Rattle.program_model.specs.declared.file_arrays.TheConstants.{NUMBER_BYTES, TEXT_BYTES}
 
--- the bytes of an element: of a number 2, of a text as many as stand there, or 16
+-- the bytes of an element: 2 of a number; of a string as many as are declared, or 16
 abbrev pub element_size : FileShape → ℕ
 element_size array = if array.shape.name.text then unwrap_or array.size TEXT_BYTES else NUMBER_BYTES
 
--- the greatest file
+-- the largest file
 abbrev pub most_file_bytes : ℕ
 most_file_bytes = MOST_BLOCKS * BLOCK_BYTES
 
--- The next multiple of an element's size, behind the arrays before it. One that would begin past the greatest file has no element in any
--- file, wherever it begins.
+-- The next multiple of an element's size, after the arrays before it. An array that would begin
+-- past the largest file has no element in any file, wherever it begins.
 abbrev pub begins_at : ℕ → ℕ → ℕ
 begins_at size behind = min most_file_bytes ((behind + (size - 1)) / size * size)
 
@@ -37,11 +37,11 @@ array_from channel behind array = record {
   size = element_size array;
 }
 
--- how many bytes of the file stand up to its end
+-- how many bytes of the file there are up to its end
 abbrev pub end_of : VirtualShape → ℕ
 end_of array = array.start + count array.first array.second * array.size
 
--- of one statement, each array behind those before it
+-- of one statement, each array after those before it
 abbrev pub arrays_from : ℕ → ℕ → List FileShape → List VirtualShape
 arrays_from channel behind [] = []
 arrays_from channel behind (array ∷ arrays) =

@@ -1,4 +1,4 @@
--- The statements on files: their operands, and how the act follows.
+-- The statements on files: first their operands, then what they do.
 use Rattle.std.specs.Prelude.{List, [], ◌∷◌, Option, Some, None}
 use Rattle.basic_tree.specs.declared.parts.OpenFor.{OpenFor}
 use Rattle.basic_tree.specs.declared.parts.OpenFor.TheVariants as purpose
@@ -22,7 +22,7 @@ abbrev pub in_order : List Tree → Trees
 in_order [] = NoTrees
 in_order (e ∷ others) = AndTrees e (in_order others)
 
--- all operands are evaluated, from left to right, and then it acts
+-- all operands are evaluated, from left to right, and then the statement is done
 abbrev pub acts_by : {R : Type 0} → Around R → FileAct → List Tree → Job R → Deed R Unit
 acts_by around act operands j = values_of around (in_order operands) j then λ values. stores_by (act_by act values)
 

@@ -1,4 +1,4 @@
--- What a job keeps while its program runs, and what a statement leads to.
+-- The state of a job while its program runs, and what a statement leads to.
 use Rattle.std.specs.Prelude.{ℕ, List, [], ℤ, pos, if◌then◌else◌, nat_le, None, Result, Ok, Err, length}
 use Rattle.basic_values.specs.declared.texts.TheConstants.{MOST_BYTES}
 use Rattle.basic_values.specs.declared.failures.Halt.TheVariants.{TooLong}
@@ -13,7 +13,7 @@ use Rattle.error_trap.specs.declared.trap.Trap.{Trap}
 use Rattle.job_memory.specs.Memory.{Memory}
 use Rattle.job_model.specs.Act.{Act, Gives, Breaks, Faulted, Halted}
 
--- a value that is known to be a number, and one that is known to be a text
+-- a value that is known to be a number, and one that is known to be a string
 abbrev pub number : Value → ℤ
 number (Number n) = n
 number (Text t) = pos 0
@@ -28,7 +28,7 @@ no_destination = record { name = []; line = None }
 
 -- R is how the place of a statement is kept.
 pub record Job (R : Type 0) : Type 0 where
-  -- for whom it acts
+  -- the account that the job acts for
   pub account : Account
   pub memory : Memory
   -- channels 1 to 12, RECOUNT, and the channels' buffers
@@ -41,7 +41,7 @@ pub record Job (R : Type 0) : Type 0 where
   pub screen : List ℕ
   -- its place is the number of a statement
   pub trap : Trap
-  -- the statements behind which RETURN goes on, the newest first
+  -- the statements after which RETURN continues, the newest first
   pub returns : List R
   -- limit and step of each FOR
   pub limits : List (ℤ × ℤ)
@@ -49,14 +49,16 @@ pub record Job (R : Type 0) : Type 0 where
   pub item : ℕ
   -- the line of the statement that runs, in a body too; 0 in immediate mode
   pub line : ℕ
-  -- the statement of a line that runs at main level
+  -- the statement of a line that runs at top level
   pub home : Home
   -- the running calls, the innermost first
   pub frames : List Frame
-  -- where the last CHAIN leads
+  -- the program that the last CHAIN leads to
   pub destination : Destination
 
--- The ways to leave a program that are no error: its end, a STOP, and a CHAIN, which leads where the job's destination tells. CONT goes on behind the STOP, or where that stands in a body behind the statement that runs at main level.
+-- The ways to leave a program that are no error: its end, a STOP, and a CHAIN, which leads to the
+-- job's destination. CONT continues after the STOP. If the STOP is in a body, CONT continues after
+-- the statement that runs at top level.
 pub data Leaving (R : Type 0) : Type 0 where
   Ended : Leaving R
   Stopped : R → Leaving R
@@ -67,7 +69,7 @@ pub data Leaving (R : Type 0) : Type 0 where
 abbrev pub Deed : Type 0 → Type 0 → Type 0
 Deed R A = Act (Leaving R) (Job R) A
 
--- A text is made, where it is not too long.
+-- A string is made, if it is not too long.
 abbrev pub text_made : {R : Type 0} → List ℕ → Job R → Deed R Value
 text_made bytes j = if nat_le (length bytes) MOST_BYTES then Gives (Text bytes) j else Breaks (Halted TooLong) j
 

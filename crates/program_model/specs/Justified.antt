@@ -1,4 +1,4 @@
--- LSET and RSET: a text takes the width that a variable has.
+-- LSET and RSET: a string takes the width that a variable has.
 use Rattle.std.specs.Prelude.{List, ℕ, Option, Some, None, length}
 use Rattle.basic_tree.specs.declared.names.Name.{Name}
 use Rattle.job_memory.specs.declared.contents.Content.{Content}
@@ -13,7 +13,8 @@ use Rattle.program_model.specs.Expressions.{Around, value_of}
 use Rattle.program_model.specs.Variables.{stored}
 use Rattle.basic_tree.specs.Trees.{Tree}
 
--- a field changes in its buffer, and an own text keeps its length; where nothing is stored, nothing is
+-- a field changes in its buffer, and an own string keeps its length; if nothing is stored, nothing
+-- changes
 abbrev pub justified_in : {R : Type 0} → Side → Name → List ℕ → Option Content → Job R → Deed R (Unit {0})
 justified_in side x t (Some (content.Fielded c part)) j =
     Gives tt (record j { buffers = with_buffer c (set_part side part t (buffer_of c j.buffers)) j.buffers })

@@ -1,4 +1,4 @@
--- MAT: what its statements do with whole arrays, of which the elements with a subscript 0 are no part.
+-- MAT: what its statements do with whole arrays, whose elements with a subscript 0 do not count.
 use Rattle.std.specs.Prelude.{ℕ, List, [], ◌∷◌, slice_get, Option, Some, None, ℤ, pos, false}
 use Rattle.std.specs.List.{range_with_len}
 use Rattle.basic_values.specs.Numbers.{printed, wrap}
@@ -32,7 +32,7 @@ abbrev pub one_by_one : {R A : Type 0} → (A → Job R → Deed R (Unit {0})) �
 one_by_one act [] j = Gives tt j
 one_by_one act (a ∷ others) j = act a j then λ _ j. one_by_one act others j
 
--- THE ARRAYS OF A STATEMENT, in the order of the text
+-- THE ARRAYS OF A STATEMENT, in the order of the source
 
 abbrev pub matrices_in : MatrixForm → List Name
 matrices_in form.Zero = []
@@ -89,7 +89,8 @@ read_matrices items matrices j = one_by_one (λ matrix j. read_matrix items matr
 
 -- MAT PRINT: numbers as PRINT writes them
 
--- what stands behind a number that others of its row follow; without a separator each number is a line
+-- what comes after a number that others of its row follow; without a separator each number is a
+-- line
 abbrev pub behind_number : {R : Type 0} → Option Separator → List ℤ → Job R → Job R
 behind_number None others j = written line_end j
 behind_number (Some separator) [] j = j
@@ -100,7 +101,7 @@ numbers_written separator [] j = j
 numbers_written separator (n ∷ others) j =
     numbers_written separator others (behind_number separator others (written (printed n) j))
 
--- a row is a line where a separator stands behind the name, also one without elements
+-- a row is a line if a separator follows the name, also a row without elements
 abbrev pub row_ended : {R : Type 0} → Option Separator → Job R → Job R
 row_ended None j = j
 row_ended (Some separator) j = written line_end j

@@ -11,7 +11,8 @@ is_terminal (pos zero) = true
 is_terminal (pos (suc n)) = false
 is_terminal (negsuc n) = false
 
--- the column in which the next byte stands, or the number of the error where the channel is none or not open
+-- the column of the next byte, or the number of the error if the channel does not exist or is not
+-- open
 abbrev pub column_on : {R : Type 0} → ℤ → Job R → Result ℤ ℕ
 column_on channel j =
     if is_terminal channel then Ok (shown_count (column_of j.screen)) else channel_column channel j.channels

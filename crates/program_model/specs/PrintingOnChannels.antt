@@ -1,4 +1,5 @@
--- PRINT and PRINT USING write to a channel. Channel 0 is the terminal, and is meant if none is named.
+-- PRINT and PRINT USING write to a channel. Channel 0 is the terminal, and is meant if none is
+-- named.
 use Rattle.std.specs.Prelude.{ℕ, Bool, if◌then◌else◌, List, [], ◌∷◌, map, Option, Some, None, Result, ℤ, is_some}
 use Rattle.basic_tree.specs.declared.parts.Separator.{Separator}
 use Rattle.basic_tree.specs.declared.parts.Separator.TheVariants.{Comma, Semicolon}
@@ -40,7 +41,7 @@ output_tested channel j = or_fault (column_on channel j) j then λ _ j. Gives tt
 
 -- PRINT
 
--- Without a channel it is the terminal's.
+-- Without a channel, PRINT writes to the terminal.
 abbrev pub printed_to : Option PrintChannelTree → Tree
 printed_to None = Literal 0
 printed_to (Some channel) = channel.number
@@ -62,7 +63,7 @@ print_items_on around channel (item ∷ items) j =
     then λ _ j. separated_on channel item.separator j
     then λ _ j. print_items_on around channel items j
 
--- the line is ended, but where a separator stands at its end
+-- the line is ended, unless a separator is at its end
 abbrev pub print_end_on : {R : Type 0} → Around R → ℤ → List PrintItemTree → Option PrintedTree → Job R → Deed R (Unit {0})
 print_end_on around channel items (Some last) j =
     print_one_on around channel last j then λ _ j. writes_on channel line_end j
@@ -87,12 +88,12 @@ abbrev pub used_value : job.Value → PrintedValue
 used_value (Number n) = PrintedNumber n
 used_value (Text t) = PrintedText t
 
--- the values in the order of the text
+-- the values in the order of the source
 abbrev pub used_values : List UsingItemTree → Option Tree → List Tree
 used_values [] last = given last
 used_values (item ∷ items) last = item.value ∷ used_values items last
 
--- what is written; the line is ended, but where a separator stands at its end
+-- what is written; the line is ended, unless a separator is at its end
 abbrev pub used_bytes : Bool → List ℕ → List job.Value → Result (List ℕ) ℕ
 used_bytes ends_line format vs =
     if ends_line then with_line_end (using_bytes format (map used_value vs)) else using_bytes format (map used_value vs)

@@ -1,4 +1,4 @@
--- What each statement does at its position, and to what it leads.
+-- What each statement does at its position, and what it leads to.
 use Rattle.std.specs.Prelude.{ℕ, Bool, true, false, if◌then◌else◌, List, [], ◌∷◌, map, Option, Some, None}
 use Rattle.basic_tree.specs.Trees.{Tree, ModifierTree, If, Unless, While, Until, ForModifier, StatementTree, IfThen, IfGoto, Modified, For, Next, FnEnd, Data, Dim, DimFile, Def, Let, Result as ResultOf, Print, PrintUsing, Input, InputLine, Read, Restore, Goto, Gosub, Return, OnGoto, OnGosub, OnErrorGoto, Resume, Stop, End, Chain, Sleep, Open, Close, Get, Put, Unlock, Field, Lset, Rset, Kill, Rename, MatRead, MatPrint, MatLet}
 use Rattle.job_model.specs.Act.{Gives, Breaks, ◌then◌}
@@ -31,7 +31,7 @@ use Rattle.program_model.specs.Parts.{matrix_expressions}
 abbrev pub goes_to : Onward → Job Position → Doing Onward
 goes_to o j = Gives o j
 
--- one way where it is true, and another
+-- one way if it is true, and another if not
 abbrev pub either_way : Onward → Onward → Bool → Onward
 either_way o other true = o
 either_way o other false = other
@@ -42,7 +42,7 @@ by_truth o other v j = Gives (either_way o other (is_true v)) j
 abbrev pub by_turn : Onward → Onward → Bool → Job Position → Doing Onward
 by_turn o other has_turn j = Gives (either_way o other has_turn) j
 
--- the FOR that a NEXT closes, by its place; and the statement behind a FOR or NEXT
+-- the FOR that a NEXT closes, by its place; and the statement after a FOR or NEXT
 abbrev pub place_of_for : Program → Option ℕ → ℕ
 place_of_for program (Some m) = loop_place program (whole m)
 place_of_for program None = 0
@@ -50,7 +50,7 @@ place_of_for program None = 0
 abbrev pub behind_pair : Program → Option ℕ → Onward
 behind_pair program m = At (whole (behind_statement program m))
 
--- a DEF is passed over, with its body where it has one
+-- a DEF is skipped, with its body if it has one
 abbrev pub past_def : Program → Position → Option Tree → Onward
 past_def program q (Some value) = Behind q
 past_def program q None = At (whole (behind_body program q.statement))
@@ -64,7 +64,7 @@ modified around program q (Until e) j = value_of around e j then by_truth (Behin
 modified around program q (ForModifier variable from to step) j =
     begins_loop around variable (loop_place program q) from to step j then by_turn (At (inside q true)) (Behind q)
 
--- a statement on files acts by the values of its operands, and leads on
+-- a statement on files, by the values of its operands, and the statement after it
 abbrev pub file_act : Around Position → Position → FileAct → List Tree → Job Position → Doing Onward
 file_act around q act operands j = acts_by around act operands j then λ _. goes_on q
 
@@ -72,7 +72,7 @@ file_act around q act operands j = acts_by around act operands j then λ _. goes
 abbrev pub on_matrices : Around Position → Program → Position → MatrixAct → List Tree → Job Position → Doing Onward
 on_matrices around program q act operands j = matrix_acts_by around (items_of program) act operands j then λ _. goes_on q
 
--- each form has its row
+-- each form has its equation
 abbrev pub does : Around Position → Program → Position → StatementTree → Job Position → Doing Onward
 does around program q (IfThen e clause otherwise) j = value_of around e j then by_truth (At (inside q true)) (at_else q otherwise)
 does around program q (IfGoto e n otherwise) j = value_of around e j then by_truth (at_line program n) (at_else q otherwise)

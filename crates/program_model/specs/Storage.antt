@@ -1,4 +1,4 @@
--- What a job keeps of its variables and files, and core common, on which the statements on files and SYS act.
+-- A job's variables and files, and core common: the state of the statements on files and of SYS.
 use Rattle.std.specs.Prelude.{ℕ, List}
 use Rattle.monitor_calls.specs.declared.names.Account.{Account}
 use Rattle.channels.specs.Files.{Files}
@@ -7,7 +7,7 @@ use Rattle.job_model.specs.Act.{Act, Place, on}
 use Rattle.program_model.specs.Job.{Job, Deed}
 
 pub record Storage : Type 0 where
-  -- for whom the job acts
+  -- the account that the job acts for
   pub account : Account
   pub memory : Memory
   -- the channels with RECOUNT, and the buffers
@@ -15,11 +15,11 @@ pub record Storage : Type 0 where
   -- core common, which one program leaves to the next
   pub common : List ℕ
 
--- it is left in no way of its own
+-- it has no way of its own to leave
 abbrev pub StorageAct : Type 0 → Type 0
 StorageAct A = Storage → Act ⊥ Storage A
 
--- where the files and core common stand in it, and where it stands in a job
+-- the files and core common as parts of it, and it as a part of a job
 abbrev pub in_files : Place Storage Files
 in_files = record { part = λ s. s.files; with_part = λ s files. record s { files = files } }
 

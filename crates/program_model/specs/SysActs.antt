@@ -1,4 +1,4 @@
--- SYS: what a text asks is done, and a text is given.
+-- SYS: what a string asks for is done, and a string is returned.
 use Rattle.std.specs.Prelude.{ℕ, List, [], Option, Some, None}
 use Rattle.basic_values.specs.Messages.{fault_text}
 use Rattle.basic_values.specs.declared.errors.TheConstants.{ILLEGAL_SYS}
@@ -12,13 +12,13 @@ use Rattle.sys_calls.specs.declared.calls.SysCall.{SysCall}
 use Rattle.sys_calls.specs.declared.calls.SysCall.TheVariants.{ReadCommon, WriteCommon, ErrorText, Ask}
 use Rattle.program_model.specs.Storage.{StorageAct}
 
--- a refusal is a fault, an answer is told as a text
+-- a refusal is a fault, an answer becomes a string
 abbrev pub text_by : Reply → ReplyAct (List ℕ)
 text_by (Failed number) = Breaks (Faulted number) tt
 text_by Expired = Breaks Gone tt
 text_by reply = Gives (told_by_sys reply) tt
 
--- a text of no row is refused
+-- a string that is in no entry of the table is an error
 abbrev pub sys_does : Option SysCall → StorageAct (List ℕ)
 sys_does None s = Breaks (Faulted ILLEGAL_SYS) s
 sys_does (Some ReadCommon) s = Gives s.common s

@@ -1,8 +1,8 @@
-//! Where a CHAIN leads.
+//! The target of a CHAIN.
 
 use basic_values::Text;
 
-/// The name of the program that is wanted, and the line at which it begins where one is wanted.
+/// The name of the program to run, and the line at which it begins, if one is given.
 #[derive(Drop)]
 pub struct Destination {
     pub name: Text,

@@ -3,5 +3,5 @@
 /// The bytes of a number.
 pub const NUMBER_BYTES: u16 = 2;
 
-/// The bytes of a text, where DIM # tells none.
+/// The bytes of a string, if DIM # does not say.
 pub const TEXT_BYTES: u16 = 16;

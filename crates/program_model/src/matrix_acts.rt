@@ -9,7 +9,7 @@ pub enum MatrixForm {
     Zero,
     /// CON, 1 everywhere.
     One,
-    /// IDN, 1 where both subscripts are equal, else 0.
+    /// IDN, 1 if both subscripts are equal, else 0.
     Identity,
     Copy(Name),
     Sum(Name, Name),
@@ -26,7 +26,7 @@ pub enum MatrixForm {
 pub enum MatrixAct {
     /// The elements take the next items of DATA.
     Read(Series<Name>),
-    /// The separator stands behind the name.
+    /// The separator follows the name.
     Print {
         matrix: Name,
         separator: Option<Separator>,

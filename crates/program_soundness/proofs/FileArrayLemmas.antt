@@ -1,4 +1,5 @@
--- The table of arrays in files, filled from the last array to the first: the first of a name is found.
+-- The table of arrays in files, filled from the last array to the first: the first of a name is
+-- found.
 use Rattle.std.proofs.Common.{◌≡◌, ℕ, suc, ◌-◌, ◌+◌, ◌<◌, ◌≤◌, List, [], ◌∷◌, ◌++◌, length, get_or, drop, drop-cons, cond, Some, sym, ap, ◌∙◌, append_assoc, arith}
 use Rattle.std.specs.Prelude.{find}
 use Rattle.std.specs.BTreeMap.{insert_entry}

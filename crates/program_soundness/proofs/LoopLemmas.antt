@@ -52,7 +52,7 @@ pub some_added : {A : Type 0} (f : A → Name) (xs : List A) (i : ℕ) (old name
 some_added f xs i old names new same is =
     (map f (drop i xs), ap (λ (t : List Name). t ++ map f (drop i xs)) same ∙ is, omega (arith, ap length same, ap length is, length-append names (map f (drop i xs)), length-append old (map f xs), length-map (drop i xs) f, length-map xs f, length-drop i xs))
 
--- what holds in any case holds if there is no result
+-- what is true in any case is true if there is no result
 pub on_err : {A E P : Type 0} (result : Result A E) → P → OnErr result P
 on_err (Ok value) holds = tt
 on_err (Err error) holds = holds

@@ -1,7 +1,7 @@
 //! The arrays in files of a program: the manual's DIM #.
 //!
-//! `arrays_in` returns them in the order of the text, each with its place in its file, after those
-//! of its statement before it. `by_name` is the table in which one is found by its name.
+//! `arrays_in` returns them in the order of the source, each with its place in its file, after
+//! those of its statement before it. `by_name` is the table in which one is found by its name.
 
 ghost use Rattle.std.specs.Prelude.{◌≡◌, ◌≤◌, ◌++◌, ◌^◌, map, find, pos, IfOk, OnOk};
 ghost use Rattle.std.specs.List.{flat_map};
@@ -123,7 +123,7 @@ fn end_of(array: &VirtualShape) -> u64
     array.start + count(array.first, array.second) as u64 * u64::from(array.size)
 }
 
-/// Returns, for each name, the first of these arrays that has it.
+/// Returns the first of these arrays for each name.
 pub fn by_name(
     alloc: Global,
     arrays: &[VirtualShape],

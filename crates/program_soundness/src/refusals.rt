@@ -172,7 +172,7 @@ fn has_line(program: &Program, number: u16) -> bool
 }
 
 /// Returns whether a program can begin at this line, if one is given: the line exists, and begins
-/// at main level.
+/// at top level.
 pub fn can_begin(alloc: Global, program: &Program, line: Option<u16>) -> Result<bool, NoMemory>
     ensures { IfOk result (λ can. can
         ≡ can_begin (program_of program.now.lines.entries) line) }
@@ -186,7 +186,7 @@ pub fn can_begin(alloc: Global, program: &Program, line: Option<u16>) -> Result<
     }
 }
 
-/// Returns whether the statement at which a line begins is at main level.
+/// Returns whether the statement at which a line begins is at top level.
 fn stands_outside(alloc: Global, program: &Program, number: u16) -> Result<bool, NoMemory>
     ensures { IfOk result (λ outside. outside
         ≡ is_in_body (program_of program.now.lines.entries) None number) }

@@ -56,7 +56,7 @@ static TEXTS: [&str; 18] = [
 
 const FUNCTIONS: &str = "DEF FNN%(X%)=X%\nDEF FNT%(X$)=1%\nDEF FNN$(X%)='A'\n";
 
-/// Whether this is told of a program whose line 40 gives a function that argument.
+/// Returns whether a program whose line 40 gives a function that argument has this verdict.
 fn is_told(alloc: Global, function: &str, argument: &str, wanted: Verdict) -> Result<bool, Fail> {
     is_judged(
         alloc,
@@ -67,7 +67,7 @@ fn is_told(alloc: Global, function: &str, argument: &str, wanted: Verdict) -> Re
 
 const UNFIT: Verdict = Some((40, LowerCause::Arguments));
 
-/// The first argument that does not fit its own function alone.
+/// Returns the first argument that does not fit its own function, or fits the other.
 fn first_misfit(
     alloc: Global,
     arguments: &[&str],

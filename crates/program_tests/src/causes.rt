@@ -6,11 +6,11 @@ use program_model::LowerCause;
 use std::alloc::Global;
 use std::test::Fail;
 
-/// A cause, and a line that is refused for it.
+/// A cause, and a line that is rejected for it.
 type Row = (LowerCause, &'static str);
 
-/// A line for each cause, in the order in which those of one line are told. None of them takes a
-/// cause from another.
+/// A line for each cause, in the order in which those of one line are reported. None of them takes
+/// a cause from another.
 static ROWS: [Row; 12] = [
     (LowerCause::NoLine, "GOTO 5"),
     (LowerCause::OpenFor, "FOR I%=1% TO 2%"),
@@ -44,7 +44,8 @@ fn each_cause_is_told_at_its_line(rt: HostRuntime) -> Result<(), Fail> {
     expect_none(rt.alloc(), first_wrong_by_itself(rt.alloc())?)
 }
 
-/// The first other row with whose line behind it this row's line is told otherwise, on one line.
+/// Returns the first other row for which one line, made of this row's line and that one, has
+/// another verdict than expected.
 fn wrong_on_one_line(alloc: Global, row: usize, first: &Row) -> Result<Option<usize>, Fail> {
     for (place, (other, behind)) in rows().iter().enumerate() {
         let wanted = if row < place { first.0 } else { *other };
@@ -55,7 +56,7 @@ fn wrong_on_one_line(alloc: Global, row: usize, first: &Row) -> Result<Option<us
     Ok(None)
 }
 
-/// Fails with two rows of which the one is told otherwise with the other behind it.
+/// Fails with two rows, if the first one has another verdict with the second after it.
 fn expect_none_behind(alloc: Global, row: usize, wrong: Option<usize>) -> Result<(), Fail> {
     match wrong {
         None => Ok(()),
@@ -73,7 +74,8 @@ fn the_first_cause_of_a_line_is_told(rt: HostRuntime) -> Result<(), Fail> {
     Ok(())
 }
 
-/// The first row whose line is told behind this row's, where that stands one line before.
+/// Returns the first other row whose line, put after this row's line, changes the verdict from this
+/// row's cause.
 fn wrong_on_two_lines(alloc: Global, row: usize, first: &Row) -> Result<Option<usize>, Fail> {
     for (place, (_, behind)) in rows().iter().enumerate() {
         if place != row && !is_judged(alloc, &[first.1, "\n", behind], Some((10, first.0)))? {

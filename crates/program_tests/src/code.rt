@@ -1,4 +1,4 @@
-//! How many items code has, where its lines begin, and how many FORs there are.
+//! How many instructions code has, at which its lines begin, and how many FORs there are.
 
 use crate::expects::{expect, expect_none};
 use crate::read::program_of;
@@ -10,8 +10,8 @@ use program_model::LowerRefusal;
 use std::alloc::Global;
 use std::test::Fail;
 
-/// The lines of a program, numbered 10 and 20; how many items it has, where line 20 begins, how
-/// many DATA items it has, and how many FORs.
+/// The lines of a program, numbered 10 and 20; how many instructions it has, at which line 20
+/// begins, how many DATA items it has, and how many FORs.
 type Row = (&'static str, (usize, usize, usize, usize));
 
 static ROWS: [Row; 14] = [
@@ -33,7 +33,8 @@ static ROWS: [Row; 14] = [
 
 type Answer = Result<Code, Trouble<LowerRefusal>>;
 
-/// Whether there is code of so many items, whose line 20 begins there, with so many DATA items.
+/// Returns whether there is code of this many instructions, whose line 20 begins there, with this
+/// many DATA items.
 fn has_counts(answer: &Answer, items: usize, second: usize, words: usize) -> bool {
     match answer {
         Ok(code) => {
@@ -46,7 +47,8 @@ fn has_counts(answer: &Answer, items: usize, second: usize, words: usize) -> boo
     }
 }
 
-/// Whether line 10 begins at the first item, and a line behind the last one at the end.
+/// Returns whether line 10 begins at the first instruction, and a line after the last one at the
+/// end.
 fn has_ends(code: &Code) -> bool {
     code.place_of(10) == 0 && code.place_of(30) == code.items().len()
 }
@@ -79,8 +81,7 @@ fn code_has_its_items(rt: HostRuntime) -> Result<(), Fail> {
     expect_none(rt.alloc(), first_wrong(rt.alloc())?)
 }
 
-/// Whether these are the bytes of their files at which the arrays begin from which elements are
-/// loaded.
+/// Returns whether the arrays from which elements are loaded begin at these bytes of their files.
 fn has_starts(code: &Code, starts: &[u64]) -> bool {
     let mut wanted = starts.iter();
     for item in code.items() {
@@ -93,7 +94,7 @@ fn has_starts(code: &Code, starts: &[u64]) -> bool {
     wanted.next().is_none()
 }
 
-/// The same of the code of a program of these lines.
+/// Does the same for the code of a program of these lines.
 fn are_loaded(alloc: Global, lines: &str, starts: &[u64]) -> Result<bool, Fail> {
     let text = program_of(alloc, lines)?;
     match lower(alloc, text.program()) {

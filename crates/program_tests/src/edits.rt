@@ -1,4 +1,4 @@
-//! Lines that are stored, replaced, deleted, listed and refused.
+//! Lines that are stored, replaced, deleted, listed and rejected.
 
 use crate::expects::{expect, expect_none};
 use basic_tree::{Cause, Refusal};
@@ -7,15 +7,15 @@ use line_editor::{EditRefusal, ProgramText};
 use std::alloc::Global;
 use std::test::Fail;
 
-/// The answer to a line that is put into a text.
+/// The answer to a line that is put into a program.
 #[derive(Clone, Copy, PartialEq, Eq)]
 enum Put {
     Done,
-    /// The line's number is none.
+    /// The line's number is not a line number.
     Number,
     TooLong,
     TooMany,
-    /// The line is refused at this place.
+    /// The line is rejected at this place.
     Line(u16, Cause),
     NoMemory,
 }
@@ -41,7 +41,7 @@ fn lists(text: &ProgramText, from: u16, to: u16, listing: &[u8]) -> bool {
     text.list(from, to) == listing
 }
 
-/// Whether a line is lent as these bytes behind its number, or is not there.
+/// Returns whether a line is lent as these bytes after its number, or does not exist.
 fn lends(text: &ProgramText, number: u16, rest: Option<&[u8]>) -> bool {
     match (text.line(number), rest) {
         (Some(lent), Some(rest)) => lent == rest,
@@ -50,7 +50,7 @@ fn lends(text: &ProgramText, number: u16, rest: Option<&[u8]>) -> bool {
     }
 }
 
-/// The number of a line, the rest of it, and the listing when it has been put.
+/// The number of a line, the rest of it, and what LIST shows when it has been put.
 static STORED: [(u16, &[u8], &[u8]); 7] = [
     (20, b" PRINT 2%", b"20 PRINT 2%\r\n"),
     (5, b" A%=1%", b"5 A%=1%\r\n20 PRINT 2%\r\n"),
@@ -74,7 +74,7 @@ fn first_wrong_store(text: &mut ProgramText, rows: &[(u16, &[u8], &[u8])]) -> Op
     None
 }
 
-/// How many lines a program has.
+/// Returns how many lines a program has.
 fn count(text: &ProgramText) -> usize {
     text.program().lines.len()
 }
@@ -96,7 +96,7 @@ static RANGES: [(u16, u16, &[u8], &[u8]); 6] = [
     (0, 65535, b"10!\r\n20!\r\n30!\r\n", b""),
 ];
 
-/// Puts three lines out of their order into a text; not where one is refused.
+/// Puts three lines out of their order into a program; returns false if one is rejected.
 fn puts_three(text: &mut ProgramText) -> bool {
     line_put(text, 30, b"!") == Put::Done
         && line_put(text, 10, b"!") == Put::Done
@@ -175,7 +175,7 @@ fn a_line_is_lent_where_it_is_there(rt: HostRuntime) -> Result<(), Fail> {
     expect_none(rt.alloc(), first_wrong_line(&text))
 }
 
-/// The number of a line, the rest of it, and its answer; none stands for 300 bytes.
+/// The number of a line, the rest of it, and its answer; none means 300 bytes.
 static REFUSED: [(u16, Option<&[u8]>, Put); 10] = [
     (0, Some(b""), Put::Number),
     (0, None, Put::Number),
@@ -189,7 +189,7 @@ static REFUSED: [(u16, Option<&[u8]>, Put); 10] = [
     (10, Some(b" MAT READ A$"), Put::Line(2, Cause::Syntax)),
 ];
 
-/// Whether a text of one line is answered so, and keeps its line.
+/// Returns whether a program of one line gives this answer, and keeps its line.
 fn is_refused(alloc: Global, number: u16, rest: &[u8], answer: Put) -> bool {
     let mut text = ProgramText::new(alloc);
     let is_put = line_put(&mut text, 10, b" STOP") == Put::Done;
@@ -217,14 +217,14 @@ fn refused_lines_change_nothing(rt: HostRuntime) -> Result<(), Fail> {
     expect_none(rt.alloc(), wrong)
 }
 
-/// The answer to a comment of so many bytes.
+/// Returns the answer to a comment of this many bytes.
 fn comment(alloc: Global, number: u16, length: usize) -> Result<Put, Fail> {
     let rest = vec![in alloc; b'!'; length]?;
     let mut text = ProgramText::new(alloc);
     Ok(line_put(&mut text, number, &rest))
 }
 
-/// A number, the length of a comment behind it, and its answer.
+/// A number, the length of a comment after it, and its answer.
 static COMMENTS: [(u16, usize, Put); 6] = [
     (1, 254, Put::Done),
     (1, 255, Put::TooLong),
@@ -248,7 +248,7 @@ fn a_line_has_255_bytes_with_its_number(rt: HostRuntime) -> Result<(), Fail> {
     expect_none(rt.alloc(), first_wrong_comment(rt.alloc())?)
 }
 
-/// Puts so many lines into a text, from a number on; not where one is refused.
+/// Puts this many lines into a program, from a number on; returns false if one is rejected.
 fn puts(text: &mut ProgramText, first: u16, count: u16, rest: &[u8]) -> bool {
     for number in first..first.saturating_add(count) {
         if line_put(text, number, rest) != Put::Done {
@@ -258,7 +258,7 @@ fn puts(text: &mut ProgramText, first: u16, count: u16, rest: &[u8]) -> bool {
     true
 }
 
-/// Puts 1,000 lines into a text in falling order.
+/// Puts 1,000 lines into a program in decreasing order.
 fn puts_falling(text: &mut ProgramText) -> bool {
     for entered in 0..1000 {
         if line_put(text, 1000 - entered, b"!") != Put::Done {
@@ -268,7 +268,7 @@ fn puts_falling(text: &mut ProgramText) -> bool {
     true
 }
 
-/// Fails unless a text of falling lines has those of a text of rising ones.
+/// Fails unless a program of decreasing lines has those of one of increasing lines.
 fn expect_same(risen: &ProgramText, fallen: &ProgramText) -> Result<(), Fail> {
     let middle = b"499!\r\n500!\r\n501!\r\n";
     expect(lists(fallen, 1, 32767, risen.list(1, 32767)), "all lines")?;
@@ -303,7 +303,7 @@ fn long_lines_are_listed_whole(rt: HostRuntime) -> Result<(), Fail> {
     expect_long(&mut text, &rest)
 }
 
-/// Lines that are put into a text of 1,000 lines one after another, and their answers.
+/// Lines that are put into a program of 1,000 lines one after another, and their answers.
 static BEYOND: [(u16, &[u8], Put); 7] = [
     (1001, b"!", Put::TooMany),
     (1001, b" A=1", Put::Line(1, Cause::FloatingName)),
@@ -323,7 +323,7 @@ fn first_wrong_beyond(text: &mut ProgramText) -> Option<usize> {
     None
 }
 
-/// Fails with the first row whose line is answered otherwise by a text of 1,000 lines.
+/// Fails with the first row whose line a program of 1,000 lines answers otherwise.
 fn expect_full(alloc: Global, text: &mut ProgramText) -> Result<(), Fail> {
     expect(puts(text, 1, 1000, b"!"), "all lines are put")?;
     expect_none(alloc, first_wrong_beyond(text))?;

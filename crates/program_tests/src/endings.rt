@@ -1,4 +1,4 @@
-//! What a program finds that begins, and what is written where one ends.
+//! The state in which a program begins, and what is written when one ends.
 
 use crate::expects::{expect, expect_none};
 use crate::jobs::at_rest;
@@ -15,7 +15,7 @@ const HOME: Home = Home {
     line: 10,
 };
 
-/// Puts a job at an item of line 10, and shows this on its screen.
+/// Puts a job at an instruction of line 10, and shows this on its screen.
 fn set(state: &mut Running, shown: &[u8]) -> Result<(), Fail> {
     state.screen.write(shown)?;
     state.item = 5;
@@ -69,7 +69,7 @@ fn shows(state: &Running, wanted: &[u8]) -> bool {
     state.screen.bytes() == wanted
 }
 
-/// Whether the end of a job is told so.
+/// Returns whether the end of a job is reported in this way.
 fn is_told(state: &mut Running, ending: &Ending) -> Result<bool, Fail> {
     set(state, ending.0)?;
     state.line = ending.2;
@@ -113,7 +113,7 @@ fn keep(state: &mut Running) -> Result<(), Fail> {
     Ok(())
 }
 
-/// Whether nothing is kept but the screen, and limits that let a FOR take no turn.
+/// Returns whether nothing is kept but the screen, and limits that let a FOR take no turn.
 fn is_cleared(state: &Running) -> bool {
     state.storage.number(A) == Int::new(0)
         && state.trap.handler == None

@@ -1,9 +1,9 @@
-//! What fails a test.
+//! Functions that fail a test.
 
 use std::alloc::Global;
 use std::test::Fail;
 
-/// Fails with the place of a row that is answered otherwise.
+/// Fails with the place of a table entry with another answer.
 pub(crate) fn expect_none(alloc: Global, wrong: Option<usize>) -> Result<(), Fail> {
     match wrong {
         None => Ok(()),
@@ -11,7 +11,7 @@ pub(crate) fn expect_none(alloc: Global, wrong: Option<usize>) -> Result<(), Fai
     }
 }
 
-/// The same where a test goes over more than one table.
+/// Does the same for a test of more than one table.
 pub(crate) fn expect_none_of(alloc: Global, table: &str, wrong: Option<usize>) -> Result<(), Fail> {
     match wrong {
         None => Ok(()),
@@ -21,7 +21,7 @@ pub(crate) fn expect_none_of(alloc: Global, table: &str, wrong: Option<usize>) -
     }
 }
 
-/// Fails with what is otherwise, unless it is so.
+/// Fails with what is wrong, unless the condition is true.
 pub(crate) fn expect(is_so: bool, what: &'static str) -> Result<(), Fail> {
     if is_so { Ok(()) } else { Err(what)? }
 }

@@ -8,7 +8,7 @@ use std::alloc::Global;
 use std::slice;
 use std::test::Fail;
 
-/// One page that begins with these bytes.
+/// Returns one page that begins with these bytes.
 fn page_of(alloc: Global, bytes: &[u8]) -> Result<Page, Fail> {
     let mut whole = [0u8; 512];
     let count = bytes.len().min(512);
@@ -18,7 +18,7 @@ fn page_of(alloc: Global, bytes: &[u8]) -> Result<Page, Fail> {
     Ok(page)
 }
 
-/// The bytes of a file, and the listing of its program; none where it is refused with 50.
+/// The bytes of a file, and its program as LIST shows it; none if it is rejected with 50.
 static FILES: [(&[u8], Option<&[u8]>); 18] = [
     (b"", Some(b"")),
     (b"10 STOP\r\n20 END\r\n", Some(b"10 STOP\r\n20 END\r\n")),
@@ -50,7 +50,7 @@ fn has_listing(text: &ProgramText, wanted: Option<&[u8]>) -> bool {
     }
 }
 
-/// Whether the program of a file has this listing; for none, whether it is refused with 50.
+/// Returns whether LIST shows the program of a file so; for none, whether it is rejected with 50.
 fn is_listed(alloc: Global, pages: &[Page], wanted: Option<&[u8]>) -> bool {
     match ProgramText::from_file(alloc, pages) {
         Ok(text) => has_listing(&text, wanted),
@@ -78,7 +78,7 @@ fn a_file_is_read(rt: HostRuntime) -> Result<(), Fail> {
     expect_none(rt.alloc(), first_wrong(rt.alloc())?)
 }
 
-/// Puts so many lines into a text.
+/// Puts this many lines into a program.
 fn put_lines(text: &mut ProgramText, count: u16) -> Result<(), Fail> {
     for number in 100..100u16.saturating_add(count) {
         if text.put_line(number, b"!!").is_err() {
@@ -88,13 +88,13 @@ fn put_lines(text: &mut ProgramText, count: u16) -> Result<(), Fail> {
     Ok(())
 }
 
-/// Whether the file of a text has so many pages, and is read as that text.
+/// Returns whether the file of a program has this many pages, and is read as that program.
 fn is_kept(alloc: Global, text: &ProgramText, pages: usize) -> Result<bool, Fail> {
     let file = text.to_file()?;
     Ok(file.len() == pages && is_listed(alloc, file.as_slice(), Some(text.list(1, 32767))))
 }
 
-/// The same of a text of so many lines.
+/// Does the same for a program of this many lines.
 fn is_written(alloc: Global, count: u16, pages: usize) -> Result<bool, Fail> {
     let mut text = ProgramText::new(alloc);
     put_lines(&mut text, count)?;

@@ -10,13 +10,13 @@ use std::alloc::Global;
 use std::test::Fail;
 use terminal_line::Screen;
 
-/// Whose files a job names where it names no account.
+/// The account whose files a job names if it names no account.
 const ACCOUNT: Account = Account {
     project: 1,
     programmer: 2,
 };
 
-/// The state of a job before its program runs.
+/// Returns the state of a job before its program runs.
 pub(crate) fn at_rest(alloc: Global) -> Result<Running, Fail> {
     let buffers = Buffers::new(alloc)?;
     Ok(resting(alloc, buffers))

@@ -1,6 +1,6 @@
-//! Tests of programs by public calls alone: their text and its file, how lowering refuses a program
-//! and what code it makes, the run of items by hand over a port that plays a script, and the ways
-//! into a program.
+//! Tests of programs by public calls alone. They test the text of a program and its file, and how
+//! the compiler rejects a program and what code it makes. They also test the run of instructions by
+//! hand over a port that plays a script, and the ways into a program.
 #![tactic(auto)]
 
 #[cfg(test)]

@@ -9,10 +9,10 @@ use program_model::{LowerCause, LowerRefusal};
 use std::alloc::Global;
 use std::test::Fail;
 
-/// A refusal by its line and its cause; none where there is code.
+/// A rejection by its line and its cause; none if there is code.
 pub(crate) type Verdict = Option<(u16, LowerCause)>;
 
-/// A program of these lines, which are numbered 10, 20 and so on.
+/// Returns a program of these lines, which are numbered 10, 20 and so on.
 pub(crate) fn program_of(alloc: Global, lines: &str) -> Result<ProgramText, Fail> {
     let mut text = ProgramText::new(alloc);
     put_lines(&mut text, lines)?;
@@ -44,13 +44,13 @@ fn verdict_of(answer: Result<Code, Trouble<LowerRefusal>>) -> Result<Verdict, Fa
     }
 }
 
-/// What a program of these lines is answered.
+/// Returns the verdict on a program of these lines.
 fn judged(alloc: Global, lines: &str) -> Result<Verdict, Fail> {
     let text = program_of(alloc, lines)?;
     verdict_of(lower(alloc, text.program()))
 }
 
-/// These pieces one behind another.
+/// Returns these pieces one after another.
 fn joined(alloc: Global, pieces: &[&str]) -> Result<String, Fail> {
     let mut text = String::new(alloc);
     for piece in pieces {
@@ -59,13 +59,13 @@ fn joined(alloc: Global, pieces: &[&str]) -> Result<String, Fail> {
     Ok(text)
 }
 
-/// Whether a program is answered so, whose lines are told in these pieces.
+/// Returns whether a program whose lines are these pieces has this verdict.
 pub(crate) fn is_judged(alloc: Global, pieces: &[&str], wanted: Verdict) -> Result<bool, Fail> {
     let lines = joined(alloc, pieces)?;
     Ok(judged(alloc, lines.as_str())? == wanted)
 }
 
-/// What a line is answered in immediate mode.
+/// Returns the verdict on a line in immediate mode.
 fn judged_now(alloc: Global, line: &str) -> Result<Verdict, Fail> {
     let text = program_of(alloc, line)?;
     match text.program().lines.get(&10) {
@@ -74,7 +74,7 @@ fn judged_now(alloc: Global, line: &str) -> Result<Verdict, Fail> {
     }
 }
 
-/// Whether a line is answered so in immediate mode.
+/// Returns whether a line has this verdict in immediate mode.
 pub(crate) fn is_judged_now(alloc: Global, line: &str, wanted: Verdict) -> Result<bool, Fail> {
     Ok(judged_now(alloc, line)? == wanted)
 }

@@ -6,7 +6,7 @@ use program_model::LowerCause;
 use std::alloc::Global;
 use std::test::Fail;
 
-/// The lines of a program, numbered 10, 20 and so on, and what it is answered.
+/// The lines of a program, numbered 10, 20 and so on, and the verdict on it.
 type Row = (&'static str, Verdict);
 
 const ACROSS: LowerCause = LowerCause::AcrossBody;
@@ -24,9 +24,9 @@ static BODIES: [Row; 14] = [
     // into the body, to its result and to its FNEND
     ("DEF FNA%(X%)\nFNA%=X%\nFNEND\nGOTO 20", Some((40, ACROSS))),
     ("DEF FNA%(X%)\nFNA%=X%\nFNEND\nGOTO 30", Some((40, ACROSS))),
-    // to its DEF, which stands outside
+    // to its DEF, which is outside
     ("DEF FNA%(X%)\nFNA%=X%\nFNEND\nGOTO 10", None),
-    // out of it, to what is behind and to its own DEF
+    // out of it, to what comes after it and to its own DEF
     ("DEF FNA%(X%)\nGOTO 40\nFNEND\nEND", Some((20, ACROSS))),
     ("DEF FNA%(X%)\nGOTO 10\nFNEND\nEND", Some((20, ACROSS))),
     // within it
@@ -35,7 +35,7 @@ static BODIES: [Row; 14] = [
     // beside it
     ("GOTO 50\nDEF FNA%(X%)\nFNA%=X%\nFNEND\nEND", None),
     ("GOSUB 50\nDEF FNA%(X%)\nFNA%=X%\nFNEND\nRETURN", None),
-    // a line without statements stands for the next one that has some
+    // a line without statements means the next one that has some
     (
         "GOTO 30\nDEF FNA%(X%)\n!\nFNA%=X%\nFNEND\nEND",
         Some((10, ACROSS)),
@@ -67,7 +67,7 @@ static LINES: [Row; 19] = [
     ("IF A%=1% THEN 10 ELSE 11", Some((10, LowerCause::NoLine))),
     ("IF A%=1% GOTO 11", Some((10, LowerCause::NoLine))),
     ("GOTO 11 IF A%=1%", Some((10, LowerCause::NoLine))),
-    // line 0 is none
+    // line 0 is no line
     ("ON ERROR GOTO 0\nRESUME 0\nEND", None),
     ("ON ERROR GOTO\nRESUME\nEND", None),
     ("ON ERROR GOTO 11\nEND", Some((10, LowerCause::NoLine))),
@@ -83,7 +83,7 @@ static LINES: [Row; 19] = [
         Some((30, LowerCause::DoubleDim)),
     ),
     ("DIM A%(3%),A%(3%)", Some((10, LowerCause::DoubleDim))),
-    // a function that is defined behind its call, and calls within arguments
+    // a function that is defined after its call, and calls within arguments
     ("A%=FNA%(FNA%(1%))\nDEF FNA%(X%)=X%", None),
     (
         "A%=FNA%(FNB%(1%))\nDEF FNA%(X%)=X%",
@@ -108,7 +108,7 @@ fn lines_arrays_and_functions_are_found(rt: HostRuntime) -> Result<(), Fail> {
 static LOOPS: [Row; 10] = [
     ("FOR I%=1% TO 3%\nFOR J%=1% TO 3%\nNEXT J%\nNEXT I%", None),
     ("FOR I%=1% TO 3%:NEXT I%", None),
-    // a NEXT closes the nearest FOR alone
+    // a NEXT closes only the innermost FOR
     (
         "FOR I%=1% TO 3%\nFOR J%=1% TO 3%\nNEXT I%\nNEXT J%",
         Some((10, LowerCause::OpenFor)),

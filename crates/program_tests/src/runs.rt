@@ -1,4 +1,4 @@
-//! What a run writes and asks, and how it ends.
+//! What a run writes, its requests, and how it ends.
 
 use crate::jobs::{at_rest, home};
 use basic_interpreter::{Clock, Exit, Running, run};
@@ -17,7 +17,7 @@ fn name(letter: u8) -> Name {
     }
 }
 
-/// How a run ended.
+/// Returns how a run ended.
 fn ending(answer: Result<(), Trouble<Exit>>) -> &'static str {
     match answer {
         Ok(()) => "left a body",
@@ -39,12 +39,12 @@ fn word_of(exit: Exit) -> &'static str {
     }
 }
 
-/// An item, in few words.
+/// An instruction, in few words.
 #[derive(Clone, Copy)]
 enum Small {
-    /// The first item of the statement, what is behind it, and its line.
+    /// The first instruction of the statement, the one after it, and its line.
     Start(u32, u32, u16),
-    /// The same where a body begins.
+    /// The same, at the beginning of a body.
     Arrive(u32, u32, u16),
     Stop(u32, u32, u16),
     Number(u16),
@@ -58,7 +58,7 @@ enum Small {
     WriteOn,
     Discard,
     AskLine,
-    /// The text of SYS that ends a receiver.
+    /// The string of SYS that ends a receiver.
     Remove,
     Sys,
     End,
@@ -86,7 +86,7 @@ fn quoted(alloc: Global, bytes: &[u8]) -> Result<Item, Fail> {
     }
 }
 
-/// An item without a place of its own.
+/// Returns an instruction without a place of its own.
 fn plain(small: Small) -> Item {
     match small {
         Small::Number(number) => Item::Number(number),
@@ -137,7 +137,7 @@ fn code_of(alloc: Global, row: &[Small]) -> Result<Code, Fail> {
     Ok(Code::new(items, Vec::new(alloc), Vec::new(alloc)))
 }
 
-/// A port with so many replies that let a job go on.
+/// Returns a port with this many replies that let a job continue.
 fn port_of(alloc: Global, count: usize) -> Result<ScriptPort, Fail> {
     let mut replies = Vec::new(alloc);
     for _ in 0..count {
@@ -146,8 +146,8 @@ fn port_of(alloc: Global, count: usize) -> Result<ScriptPort, Fail> {
     Ok(ScriptPort::new(alloc, replies))
 }
 
-/// Items, how many replies there are, how the run ends, what it writes, how often it asks, and in
-/// which line it is then.
+/// Instructions, how many replies there are, how the run ends, what it writes, how many requests it
+/// makes, and in which line it is then.
 type Row = (
     &'static [Small],
     usize,
@@ -157,13 +157,13 @@ type Row = (
     u16,
 );
 
-/// Runs a code from its first item on, and tells how that ended.
+/// Runs code from its first instruction on, and returns how that ended.
 fn ran(code: &Code, state: &mut Running, port: &mut ScriptPort) -> &'static str {
     let mut clock = Clock::new();
     ending(run(code, 0, state, &mut clock, port))
 }
 
-/// Whether a job is left so, outside every body, and has asked so often.
+/// Returns whether a job is left in this way, outside every body, and has made this many requests.
 fn is_left(state: &Running, port: &ScriptPort, row: &Row) -> bool {
     state.screen.bytes() == row.3
         && port.log().len() == row.4
@@ -171,7 +171,7 @@ fn is_left(state: &Running, port: &ScriptPort, row: &Row) -> bool {
         && state.frames.len() == 0
 }
 
-/// Fails with how a run over this port ended, unless it comes to this.
+/// Fails with how a run over this port ended, unless it is as the row says.
 fn expect_over(alloc: Global, port: &mut ScriptPort, code: &Code, row: &Row) -> Result<(), Fail> {
     let mut state = at_rest(alloc)?;
     let ended = ran(code, &mut state, port);
@@ -182,7 +182,7 @@ fn expect_over(alloc: Global, port: &mut ScriptPort, code: &Code, row: &Row) -> 
     }
 }
 
-/// The same with a port and a code of its own.
+/// Does the same with a port and code of its own.
 fn expect(alloc: Global, row: &Row) -> Result<(), Fail> {
     let mut port = port_of(alloc, row.1)?;
     let code = code_of(alloc, row.0)?;
@@ -310,7 +310,7 @@ fn ticks_end_a_run(rt: HostRuntime) -> Result<(), Fail> {
     expect(rt.alloc(), &TICKS)
 }
 
-/// PRINT #0%, 7%; writes on the terminal.
+/// PRINT #0%, 7%; writes to the terminal.
 static ON_THE_TERMINAL: Row = (
     &[
         Small::Start(0, 6, 10),
@@ -327,7 +327,7 @@ static ON_THE_TERMINAL: Row = (
     10,
 );
 
-/// PRINT #1% on a channel that is not open asks nothing.
+/// PRINT #1% on a channel that is not open makes no request.
 static NOT_OPEN: Row = (
     &[
         Small::Start(0, 5, 10),
@@ -343,7 +343,7 @@ static NOT_OPEN: Row = (
     10,
 );
 
-/// SYS gives no byte for what was done.
+/// SYS returns no byte for a request that was done.
 static SYS_DONE: Row = (
     &[
         Small::Start(0, 5, 10),

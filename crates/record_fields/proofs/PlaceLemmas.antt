@@ -7,7 +7,7 @@ use Rattle.std.proofs.Math.Nat.{mul_comm}
 use Rattle.record_fields.specs.Bounds.{within, up_to, in_rows}
 use Rattle.record_fields.specs.Laws.{ElementsAreApart}
 
--- a row and a column lie in the table
+-- a row and a column are in the table
 pub in_table : (a b i j : ℕ) → i ≤ a → j ≤ b → i * (b + 1) + j < (a + 1) * (b + 1)
 in_table a b i j low high =
     let P : ℕ → Type 0 = λ n. i * (b + 1) + j < n in

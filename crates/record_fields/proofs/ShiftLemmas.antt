@@ -20,7 +20,7 @@ in_front_of a k n xs s ys inside =
     let back : drop k (drop a (take (a + k) xs ++ rest)) ≡ rest = drop-drop k a (take (a + k) xs ++ rest) ∙ drop_at (take (a + k) xs) rest (a + k) long in
     ap (λ (l : List ℕ). put_mid a k l ys) (append_assoc (take (a + k) xs) run last) ∙ (λ i. front i ++ (ys ++ back i)) ∙ ap (λ (l : List ℕ). take a xs ++ l) (sym (append_assoc ys run last)) ∙ sym (append_assoc (take a xs) (ys ++ run) last)
 
--- the last bytes that a part holds
+-- the last bytes of a part
 last_bytes : (from : Part) (cut kept : ℕ) (buffer : List ℕ) → from.length ≡ cut + kept → drop cut (part_of from buffer) ≡ take kept (drop (from.offset + cut) buffer)
 last_bytes from cut kept buffer parted =
     ap (λ (n : ℕ). drop cut (take n (drop from.offset buffer))) parted ∙ drop-take cut kept (drop from.offset buffer) ∙ ap (take kept) (drop-drop cut from.offset buffer)

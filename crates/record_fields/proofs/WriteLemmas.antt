@@ -4,7 +4,7 @@ use Rattle.std.proofs.lemmas.List.{append_assoc, length-take-le, take-append-le,
 use Rattle.std.proofs.lemmas.Slice.{drop-append-drop}
 use Rattle.record_fields.specs.Laws.{OthersStay}
 
--- bytes within the front do not depend on what follows it
+-- bytes of the prefix do not depend on what follows it
 within_front : (front rest : List ℕ) (from count : ℕ) → from + count ≤ length front → take count (drop from (front ++ rest)) ≡ take count (drop from front)
 within_front front rest from count within =
     let left : count ≤ length (drop from front) = omega (arith, length-drop from front, within) in

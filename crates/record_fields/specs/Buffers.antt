@@ -27,11 +27,11 @@ blank size = replicate (bytes_of size) 0
 abbrev pub zero_filled : ℕ → List ℕ → List ℕ
 zero_filled width bytes = take width bytes ++ replicate (width - length bytes) 0
 
--- a buffer with these bytes at its front and zeros after them; it keeps its size
+-- a buffer that begins with these bytes, with zeros after them; it keeps its size
 abbrev pub filled : List ℕ → List ℕ → List ℕ
 filled bytes buffer = zero_filled (length buffer) bytes
 
--- a buffer in which a part has these bytes at its front and zeros after them; a part that is not in
+-- a buffer in which a part begins with these bytes, with zeros after them; a part that is not in
 -- the buffer is ignored
 abbrev pub fill_part : Part → List ℕ → List ℕ → List ℕ
 fill_part part bytes buffer = if lies_in (length buffer) part then with_part part (zero_filled part.length bytes) buffer else buffer

@@ -65,7 +65,7 @@ impl Buffer {
         self.bytes.fill(0);
     }
 
-    /// Writes these bytes at the front, with zeros after them.
+    /// Writes these bytes at the beginning, with zeros after them.
     fn fill(&mut self, bytes: &[u8])
         ensures { self.new ≡ filled bytes.now self.old }
     {

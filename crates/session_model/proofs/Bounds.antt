@@ -1,4 +1,4 @@
--- A bound on statements changes nothing of a session, as long as units do not reach it.
+-- A bound on statements changes nothing of a session, as long as the units are fewer.
 use Rattle.std.proofs.Common.{◌≡◌, ℕ, zero, suc, ◌<◌, ◌≤◌, List, [], ◌∷◌, ◌++◌, Option, Some, None, refl, sym, ap, subst, arith}
 use Rattle.std.specs.Prelude.{Bool, true, false, if◌then◌else◌, Result, Ok, Err}
 use Rattle.monitor_calls.specs.declared.calls.Request.TheVariants.{Tick}
@@ -40,7 +40,7 @@ in_session_alike n ended other s m m' f (types {n = i} {k = k} {k' = k'} e) = ty
 in_session_alike n ended other s m m' f spent = spent
 in_session_alike n ended other s m m' f (takes {n = i} {s = j} {m = k} {m' = k'} e) = takes (in_session_alike i ended other s k k' (λ l why j le. f l why j (omega (arith, le))) e)
 
--- where no chain stands before a unit, what is done at a chain has one less
+-- if no chain comes before a unit, what is done at a chain has one less
 abbrev IsChain : {R : Type 0} → Break (program.Leaving R) → Type 0
 IsChain (Left program.Chained) = Unit {0}
 IsChain why = ⊥
@@ -68,7 +68,7 @@ over_alike n ways put m m' (types {n = i} {k = k} {k' = k'} e) = types (λ key. 
 over_alike n ways put m m' spent = spent
 over_alike n ways put m m' (takes {n = i} {s = j} {m = k} {m' = k'} e) = takes (over_alike i ways put k k' e)
 
--- what goes on alike behind an act on files
+-- what comes next, after an interaction tree on files, if it is alike
 tried_alike : {R P A : Type 0} (n : ℕ) (whole : P → Session R) (next next' : A → Session R → Step R) (act : Act ⊥ P A) → ((k : ℕ) (a : A) (s : Session R) → k ≤ n → Alike k (next a s) (next' a s)) → Alike n (tried whole next act) (tried whole next' act)
 tried_alike n whole next next' (Gives a p) f = f n a (whole p) (omega arith)
 tried_alike n whole next next' (Breaks why p) f = same n _
@@ -89,7 +89,7 @@ at_ends_alike (suc n) put given given' broken broken' (Takes p rest) f g = takes
 
 -- CHAINS
 
--- how a program begins, and what a chain leads to, where runs are alike
+-- how a program begins, and what a chain leads to, if runs are alike
 module _ (n most more : ℕ) (run other : Runner)
     (run_alike : (k : ℕ) (p : Program) (line : Option ℕ) (s : Session Position) → k ≤ n → Alike k (run p s (runs_cleared p most line s.job)) (other p s (runs_cleared p more line s.job))) where
   there_alike : (k : ℕ) (p : Program) (line : Option ℕ) (b : Bool) (s : Session Position) → k ≤ n → Alike k (runs_there run p most line b s) (runs_there other p more line b s)

@@ -1,4 +1,5 @@
--- What is worked out of CHAIN and of the closing at RUN: what a refused one leaves, at which line the next program begins, and what it finds.
+-- Examples of CHAIN and of the closing at RUN: what a CHAIN that fails leaves, at which line the
+-- next program begins, and in which state.
 use Rattle.std.proofs.Common.{◌≡◌, List, [], ◌∷◌, refl}
 use Rattle.std.specs.Prelude.{ℕ, codes, ◌++◌, true, false, None}
 use Rattle.std.specs.Fmt.{digits}
@@ -24,7 +25,7 @@ use Rattle.session_model.specs.Talk.{talk}
 use Rattle.session_model.proofs.FileRows.{demo, own}
 use Rattle.session_model.proofs.StatementRows as statement
 
--- behind the login these lines ask this with these replies, and show that
+-- after the login these lines make these requests with these replies, and show that
 abbrev asks : List (List ℕ) → List Reply → List Request → List ℕ → Type 0
 asks lines replies requests shown =
     talk judge_of (all_typed (codes "HELLO 100,5;DEMO" ∷ lines)) (Done ∷ replies)
@@ -34,21 +35,21 @@ asks lines replies requests shown =
 abbrev the_page : List ℕ
 the_page = first_page (codes "10 PRINT 1%\r\n20 PRINT 2%\r\n")
 
--- a refused CHAIN has closed nothing
+-- a CHAIN that fails has closed nothing
 refused_chain : asks (codes "OPEN 'D' AS FILE 3%" ∷ codes "CHAIN 'B'" ∷ codes "CLOSE 3%" ∷ []) (Opened 0 true true ∷ Failed 5 ∷ Done ∷ Done ∷ [])
     (OpenFile 3 (statement.own (codes "D")) Either false None ∷ OpenFile 0 (own (codes "B")) Input false None ∷ CloseFile 3 ∷ Logout ∷ [])
     (codes "OPEN 'D' AS FILE 3%\r\nReady\r\nCHAIN 'B'\r\n?Can't find file or account\r\nReady\r\nCLOSE 3%\r\nReady\r\n")
 unfolding digits fault_text repeated_product place_of value_read item_read keywords signs letter_front digit_front quote_front sign_front front_of items_from tokens_from run verdict_of spec_in bracketed_in closed_code
 refused_chain = refl
 
--- one that comes off has closed all channels
+-- one that succeeds has closed all channels
 closing_chain : asks (codes "OPEN 'D' AS FILE 3%" ∷ codes "CHAIN 'B'" ∷ []) (Opened 0 true true ∷ Opened 1 true true ∷ Block the_page ∷ Done ∷ Done ∷ Done ∷ [])
     (OpenFile 3 (statement.own (codes "D")) Either false None ∷ OpenFile 0 (own (codes "B")) Input false None ∷ Get 0 1 ∷ CloseFile 0 ∷ CloseFile 3 ∷ Logout ∷ [])
     (codes "OPEN 'D' AS FILE 3%\r\nReady\r\nCHAIN 'B'\r\n 1 \r\n 2 \r\nReady\r\n")
 unfolding digits fault_text repeated_product place_of value_read item_read keywords signs letter_front digit_front quote_front sign_front front_of items_from tokens_from run verdict_of spec_in bracketed_in closed_code
 closing_chain = refl
 
--- the wanted line is one of the new program, whatever the old one has
+-- the given line is one of the new program, whatever lines the old one has
 wanted_line : asks (codes "15 STOP" ∷ codes "CHAIN 'B' LINE 20%" ∷ codes "15 STOP" ∷ codes "CHAIN 'B' LINE -1%" ∷ codes "25 STOP" ∷ codes "CHAIN 'B' 25%" ∷ [])
     (Opened 1 true true ∷ Block the_page ∷ Done ∷ Opened 1 true true ∷ Block the_page ∷ Done ∷ Opened 1 true true ∷ Block the_page ∷ Done ∷ Done ∷ [])
     (OpenFile 0 (own (codes "B")) Input false None ∷ Get 0 1 ∷ CloseFile 0 ∷ OpenFile 0 (own (codes "B")) Input false None ∷ Get 0 1 ∷ CloseFile 0 ∷ OpenFile 0 (own (codes "B")) Input false None ∷ Get 0 1 ∷ CloseFile 0 ∷ Logout ∷ [])
@@ -72,14 +73,14 @@ closed_at_run = refl
 
 -- REPORTS AFTER A CHAIN: each begins at the start of a line
 
--- the program is rejected, where a program chains to it
+-- the program is rejected, if a program chains to it
 rejected_chain : asks (codes "10 PRINT 'Z'; : CHAIN 'B'" ∷ codes "RUNNH" ∷ []) (Opened 1 true true ∷ Block (first_page (codes "10 GOTO 20\r\n")) ∷ Done ∷ Done ∷ [])
     (OpenFile 0 (own (codes "B")) Input false None ∷ Get 0 1 ∷ CloseFile 0 ∷ Logout ∷ [])
     (codes "10 PRINT 'Z'; : CHAIN 'B'\r\nRUNNH\r\nZ\r\n?Undefined line at line 10\r\nReady\r\n")
 unfolding digits fault_text repeated_product place_of value_read item_read keywords signs letter_front digit_front quote_front sign_front front_of items_from tokens_from run verdict_of spec_in bracketed_in closed_code
 rejected_chain = refl
 
--- it has no line of that number
+-- it does not have a line of that number
 chain_to_no_line : asks (codes "10 PRINT 'Z'; : CHAIN 'B' 77%" ∷ codes "RUNNH" ∷ []) (Opened 1 true true ∷ Block the_page ∷ Done ∷ Done ∷ [])
     (OpenFile 0 (own (codes "B")) Input false None ∷ Get 0 1 ∷ CloseFile 0 ∷ Logout ∷ [])
     (codes "10 PRINT 'Z'; : CHAIN 'B' 77%\r\nRUNNH\r\nZ\r\n?Undefined line at line 77\r\nReady\r\n")

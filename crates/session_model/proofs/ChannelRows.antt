@@ -1,4 +1,4 @@
--- What is worked out of fields, of text on channels, of arrays in files, of PRINT USING and of SYS.
+-- Examples of fields, text on channels, arrays in files, PRINT USING and SYS.
 use Rattle.std.proofs.Common.{◌≡◌, ◌++◌, true, false, [], ◌∷◌, refl}
 use Rattle.std.specs.Prelude.{codes, replicate, None}
 use Rattle.std.specs.Fmt.{digits}
@@ -38,13 +38,13 @@ field_of_513 : left_open ((10, codes "OPEN 'A' AS FILE 1%") ∷ (20, codes "FIEL
 unfolding digits fault_text repeated_product place_of value_read item_read keywords signs letter_front digit_front quote_front sign_front front_of items_from tokens_from run verdict_of spec_in bracketed_in closed_code
 field_of_513 = refl
 
--- an own text keeps its length, and a variable that was not stored stays so
+-- an own string keeps its length, and a variable that was not stored stays so
 own_texts_keep_their_length : shows ((10, codes "A$='12345' : LSET A$='AB' : PRINT A$;'/'") ∷ (20, codes "RSET A$='ABCDEFG' : PRINT A$") ∷ (30, codes "LSET B$='X' : PRINT LEN(B$)") ∷ []) []
     ≡ codes "AB   /\r\nCDEFG\r\n 0 \r\n"
 unfolding digits fault_text repeated_product place_of value_read item_read keywords signs letter_front digit_front quote_front sign_front front_of items_from tokens_from run verdict_of spec_in bracketed_in closed_code
 own_texts_keep_their_length = refl
 
--- what PRINT # gathers is put with zeros behind it
+-- what PRINT # collects is written with zeros after it
 text_is_put_at_close : asked ((10, codes "OPEN 'A' FOR OUTPUT AS FILE 1%") ∷ (20, codes "PRINT #1%,'AB'") ∷ (30, codes "CLOSE 1%") ∷ []) (Opened 0 true true ∷ Done ∷ Done ∷ [])
     ≡ (OpenFile 1 (own (codes "A")) Output false None ∷ Put 1 1 (codes "AB\r\n" ++ replicate 508 0) ∷ CloseFile 1 ∷ [])
 unfolding digits fault_text repeated_product place_of value_read item_read keywords signs letter_front digit_front quote_front sign_front front_of items_from tokens_from run verdict_of spec_in bracketed_in closed_code
@@ -68,19 +68,19 @@ channel_before_items : left_open ((10, codes "PRINT #13%,1%/0%") ∷ []) []
 unfolding digits fault_text repeated_product place_of value_read item_read keywords signs letter_front digit_front quote_front sign_front front_of items_from tokens_from run verdict_of spec_in bracketed_in closed_code
 channel_before_items = refl
 
--- an element that is written stands in its block, the low byte first
+-- an element that is written is in its block, the low byte first
 numbers_in_a_file : asked ((10, codes "DIM #1%,A%(300%)") ∷ (20, codes "OPEN 'A' AS FILE 1%") ∷ (30, codes "A%(256%)=7%") ∷ (40, codes "CLOSE 1%") ∷ []) (Opened 0 true true ∷ Failed 11 ∷ Done ∷ Done ∷ [])
     ≡ (OpenFile 1 (own (codes "A")) Either false None ∷ Get 1 2 ∷ Put 1 2 (7 ∷ replicate 511 0) ∷ CloseFile 1 ∷ [])
 unfolding digits fault_text repeated_product place_of value_read item_read keywords signs letter_front digit_front quote_front sign_front front_of items_from tokens_from run verdict_of spec_in bracketed_in closed_code
 numbers_in_a_file = refl
 
--- the second array of a statement begins behind the first, at a multiple of its size
+-- the second array of a statement begins after the first, at a multiple of its size
 second_array : asked ((10, codes "DIM #1%,A%(1%),B$(3%)") ∷ (20, codes "OPEN 'A' AS FILE 1%") ∷ (30, codes "B$(0%)='XY' : A%(1%)=258%") ∷ (40, codes "CLOSE 1%") ∷ []) (Opened 0 true true ∷ Failed 11 ∷ Done ∷ Done ∷ [])
     ≡ (OpenFile 1 (own (codes "A")) Either false None ∷ Get 1 1 ∷ Put 1 1 (0 ∷ 0 ∷ 2 ∷ 1 ∷ replicate 12 0 ++ 88 ∷ 89 ∷ replicate 494 0) ∷ CloseFile 1 ∷ [])
 unfolding digits fault_text repeated_product place_of value_read item_read keywords signs letter_front digit_front quote_front sign_front front_of items_from tokens_from run verdict_of spec_in bracketed_in closed_code
 second_array = refl
 
--- an element in the midst of an expression is asked there
+-- an element in the middle of an expression makes its request there
 element_in_an_expression : left_open ((10, codes "DIM #1%,A%(3%)") ∷ (20, codes "OPEN 'A' AS FILE 1%") ∷ (30, codes "PRINT A%(0%)+A%(1%)") ∷ (40, codes "PRINT A%(4%)") ∷ []) (Opened 1 true true ∷ Block (1 ∷ 0 ∷ 2 ∷ 0 ∷ replicate 508 0) ∷ [])
     ≡ (1, codes " 3 \r\n?Subscript out of range at line 40\r\n")
 unfolding digits fault_text repeated_product place_of value_read item_read keywords signs letter_front digit_front quote_front sign_front front_of items_from tokens_from run verdict_of spec_in bracketed_in closed_code
@@ -92,7 +92,7 @@ texts_of_sys : shows ((10, codes "PRINT SYS(CHR$(6%)+CHR$(9%)+CHR$(19%))") ∷ (
 unfolding digits fault_text repeated_product place_of value_read item_read keywords signs letter_front digit_front quote_front sign_front front_of items_from tokens_from run verdict_of spec_in bracketed_in closed_code call_of monitor_call_of message_call_of
 texts_of_sys = refl
 
--- PRINT USING is one writing
+-- PRINT USING writes once
 used_formats : shows ((10, codes "PRINT USING '###-',-42%") ∷ (20, codes "PRINT USING '**##',7% : PRINT USING '##',123%") ∷ (30, codes "PRINT USING '##','A'") ∷ []) []
     ≡ codes " 42-\r\n***7\r\n%123\r\n?Data format error at line 30\r\n"
 unfolding digits fault_text repeated_product place_of value_read item_read keywords signs letter_front digit_front quote_front sign_front front_of items_from tokens_from run verdict_of spec_in bracketed_in closed_code front_by

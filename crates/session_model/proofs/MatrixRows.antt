@@ -1,4 +1,5 @@
--- What is worked out of MAT: values, their bounds, what is read and written, and arrays in files, which are refused.
+-- Examples of MAT: values, their bounds, what is read and written, and arrays in files, which are
+-- rejected.
 use Rattle.std.proofs.Common.{◌≡◌, [], ◌∷◌, Some, None, refl}
 use Rattle.std.specs.Prelude.{codes}
 use Rattle.std.specs.Fmt.{digits}
@@ -14,7 +15,7 @@ use Rattle.program_model.specs.declared.refusals.LowerCause.TheVariants.{MatFile
 use Rattle.program_model.specs.Soundness.{refusal_of, refusal_now}
 use Rattle.session_model.proofs.ProgramRows.{shows, program_read, statements_read}
 
--- the value is formed before anything is stored, also where the target is among its arrays
+-- the value is computed before anything is stored, also if the target is among its arrays
 product : shows ((10, codes "DIM A%(2%,2%),B%(2%,2%)") ∷ (20, codes "MAT READ A%") ∷ (30, codes "MAT B%=A%*A%") ∷ (40, codes "MAT PRINT B%;") ∷ (50, codes "DATA 1,2,3,4") ∷ []) []
     ≡ codes " 7  10 \r\n 15  22 \r\n"
 unfolding digits fault_text repeated_product place_of value_read item_read keywords signs letter_front digit_front quote_front sign_front front_of items_from tokens_from run verdict_of
@@ -91,7 +92,7 @@ not_made : shows ((10, codes "MAT A%=IDN") ∷ (20, codes "PRINT A%(10%,10%);A%(
 unfolding digits fault_text repeated_product place_of value_read item_read keywords signs letter_front digit_front quote_front sign_front front_of items_from tokens_from run verdict_of
 not_made = refl
 
--- an array in a file, alone and among others; its elements stand in a factor
+-- an array in a file, alone and among others; its elements may be in a factor
 virtual_target : refusal_of (program_read ((10, codes "DIM #1%,A%(2%,2%)") ∷ (20, codes "MAT A%=ZER") ∷ [])) ≡ Some (record { line = 20; cause = MatFile })
 unfolding keywords signs letter_front digit_front quote_front sign_front front_of items_from tokens_from run verdict_of
 virtual_target = refl

@@ -1,4 +1,5 @@
--- What is worked out of the commands on the printer: who keeps it, a file that is printed, what is asked behind the first fault, texts that are no commands.
+-- Examples of the commands on the printer: who owns it, a file that is printed, what is requested
+-- after the first fault, and lines that are no commands.
 use Rattle.std.proofs.Common.{◌≡◌, ℕ, List, [], ◌∷◌, refl}
 use Rattle.std.specs.Prelude.{codes, true, false, None, Some, replicate}
 use Rattle.std.specs.Fmt.{digits}
@@ -23,20 +24,20 @@ list_file project programmer stem = record { owner = account project programmer;
 abbrev opened_first : List ℕ → Request
 opened_first stem = OpenFile 0 (own stem) Input false None
 
--- the printer is kept and given back; another job has it, and nobody does
+-- the printer is assigned and released; another job has it, and nobody has it
 kept : asks (codes "ASSIGN LP:" ∷ codes "deassign l p :" ∷ codes "ASSIGN LP:" ∷ codes "DEASSIGN LP:" ∷ []) (Done ∷ Done ∷ Failed 8 ∷ Failed 9 ∷ Done ∷ [])
     (Assign ∷ Deassign ∷ Assign ∷ Deassign ∷ Logout ∷ [])
     (codes "ASSIGN LP:\r\nReady\r\ndeassign l p :\r\nReady\r\nASSIGN LP:\r\n?Device not available\r\nReady\r\nDEASSIGN LP:\r\n?I/O channel not open\r\nReady\r\n")
 unfolding digits fault_text
 kept = refl
 
--- what has another tail asks nothing
+-- a command with another tail makes no request
 other_tails : asks (codes "ASSIGN" ∷ codes "ASSIGN LP" ∷ codes "ASSIGN LP: X" ∷ codes "DEASSIGN KB:" ∷ codes "QUE" ∷ codes "QUE  " ∷ codes "QUE DK:A" ∷ codes "QUE TOOLONG" ∷ []) (Done ∷ []) (Logout ∷ [])
     (codes "ASSIGN\r\n?Illegal command\r\nReady\r\nASSIGN LP\r\n?Illegal command\r\nReady\r\nASSIGN LP: X\r\n?Illegal command\r\nReady\r\nDEASSIGN KB:\r\n?Illegal command\r\nReady\r\nQUE\r\n?Illegal command\r\nReady\r\nQUE  \r\n?Illegal command\r\nReady\r\nQUE DK:A\r\n?Illegal command\r\nReady\r\nQUE TOOLONG\r\n?Illegal command\r\nReady\r\n")
 unfolding digits spec_in bracketed_in closed_code
 other_tails = refl
 
--- a file of one block, one of two of which the second has zeros alone, and one without blocks
+-- a file of one block, one of two blocks of which the second has only zeros, and one without blocks
 printed : asks (codes "QUE DEMO.BAS" ∷ codes "que [100,6] a <42>" ∷ codes "QUE $A" ∷ [])
     (Opened 1 true true ∷ Done ∷ Block the_page ∷ Done ∷ Done ∷ Done ∷ Opened 2 true false ∷ Done ∷ Block the_page ∷ Done ∷ Block (replicate 512 0) ∷ Done ∷ Done ∷ Done ∷ Opened 0 true true ∷ Done ∷ Done ∷ Done ∷ Done ∷ [])
     (opened_first (codes "DEMO") ∷ OpenPrinter ∷ Get 0 1 ∷ Print hi ∷ ClosePrinter ∷ CloseFile 0
@@ -46,21 +47,22 @@ printed : asks (codes "QUE DEMO.BAS" ∷ codes "que [100,6] a <42>" ∷ codes "Q
 unfolding digits spec_in bracketed_in closed_code
 printed = refl
 
--- a file that is not there, and one while another job has the printer: only what was opened is closed
+-- a file that does not exist, and one while another job has the printer: only what was opened is
+-- closed
 refused : asks (codes "QUE A.BAS" ∷ codes "QUE A.BAS" ∷ []) (Failed 5 ∷ Opened 1 true true ∷ Failed 8 ∷ Done ∷ Done ∷ [])
     (opened_first (codes "A") ∷ opened_first (codes "A") ∷ OpenPrinter ∷ CloseFile 0 ∷ Logout ∷ [])
     (codes "QUE A.BAS\r\n?Can't find file or account\r\nReady\r\nQUE A.BAS\r\n?Device not available\r\nReady\r\n")
 unfolding digits fault_text spec_in bracketed_in closed_code
 refused = refl
 
--- a block that is refused, and a text that is: both are closed, and the first fault is shown
+-- reading a block fails, and printing its text fails: both are closed, and the first fault is shown
 broken : asks (codes "QUE A.BAS" ∷ codes "QUE A.BAS" ∷ []) (Opened 3 true true ∷ Done ∷ Block the_page ∷ Done ∷ Failed 11 ∷ Failed 9 ∷ Failed 9 ∷ Opened 1 true true ∷ Done ∷ Block the_page ∷ Failed 31 ∷ Done ∷ Done ∷ Done ∷ [])
     (opened_first (codes "A") ∷ OpenPrinter ∷ Get 0 1 ∷ Print hi ∷ Get 0 2 ∷ ClosePrinter ∷ CloseFile 0 ∷ opened_first (codes "A") ∷ OpenPrinter ∷ Get 0 1 ∷ Print hi ∷ ClosePrinter ∷ CloseFile 0 ∷ Logout ∷ [])
     (codes "QUE A.BAS\r\n?End of file on device\r\nReady\r\nQUE A.BAS\r\n?Illegal byte count for I/O\r\nReady\r\n")
 unfolding digits fault_text spec_in bracketed_in closed_code
 broken = refl
 
--- a closing that is refused is asked once, and the file is closed behind that of the printer
+-- a close that fails is requested once, and the file is closed after the printer
 unclosed : asks (codes "QUE A.BAS" ∷ codes "QUE A.BAS" ∷ []) (Opened 0 true true ∷ Done ∷ Failed 9 ∷ Done ∷ Opened 0 true true ∷ Done ∷ Done ∷ Failed 9 ∷ Done ∷ [])
     (opened_first (codes "A") ∷ OpenPrinter ∷ ClosePrinter ∷ CloseFile 0 ∷ opened_first (codes "A") ∷ OpenPrinter ∷ ClosePrinter ∷ CloseFile 0 ∷ Logout ∷ [])
     (codes "QUE A.BAS\r\n?I/O channel not open\r\nReady\r\nQUE A.BAS\r\n?I/O channel not open\r\nReady\r\n")

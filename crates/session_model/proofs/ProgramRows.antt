@@ -1,4 +1,4 @@
--- What is worked out: programs and immediate lines from their bytes to the screen.
+-- Examples of programs and immediate lines, from their bytes to the screen.
 use Rattle.std.proofs.Common.{◌≡◌, ℕ, suc, List, [], ◌∷◌, refl}
 use Rattle.std.specs.Prelude.{codes, fold, map, replicate}
 use Rattle.std.specs.Fmt.{digits}
@@ -72,7 +72,7 @@ shows lines keys = shown_at (play (runs_whole (program_read lines) 500 new_job) 
 abbrev pub shows_now : List ℕ → List ℕ
 shows_now line = shown_at (play (runs_line (statements_read line) 500 new_job) at_start 900 Over []).1
 
--- where it ended, or the job as it was
+-- the job where it ended, or as it was
 abbrev job_at : Job Position → Outcome (End (Leaving Position) (Job Position) Coming) → Job Position
 job_at before (Finished (Broke why j)) = record j { screen = ended_screen why j }
 job_at before (Finished (Gave coming j)) = j
@@ -121,7 +121,7 @@ handler_and_resume : shows ((10, codes "ON ERROR GOTO 100") ∷ (20, codes "PRIN
 unfolding digits fault_text repeated_product place_of value_read item_read keywords signs letter_front digit_front quote_front sign_front front_of items_from tokens_from run verdict_of
 handler_and_resume = refl
 
--- the statement is begun again as a whole, and its first item is written twice
+-- the statement runs again as a whole, and its first item is written twice
 resume_as_a_whole : shows ((10, codes "ON ERROR GOTO 100") ∷ (20, codes "PRINT 1%; 6%/D%; 2%") ∷ (30, codes "END") ∷ (100, codes "D%=2% : RESUME") ∷ []) ([])
     ≡ codes " 1  1  3  2 \r\n"
 unfolding digits fault_text repeated_product place_of value_read item_read keywords signs letter_front digit_front quote_front sign_front front_of items_from tokens_from run verdict_of
@@ -213,13 +213,13 @@ data_in_order : shows ((10, codes "DATA 1, 'x,y' ,z") ∷ (20, codes "READ A%,B$
 unfolding digits fault_text repeated_product place_of value_read item_read keywords signs letter_front digit_front quote_front sign_front front_of items_from tokens_from run verdict_of
 data_in_order = refl
 
--- DATA with nothing behind is one empty item, which is no number
+-- DATA with nothing after it is one empty item, which is no number
 out_of_data : shows ((10, codes "READ A%") ∷ (20, codes "DATA") ∷ []) ([])
     ≡ codes "?Data format error at line 10\r\n"
 unfolding digits fault_text repeated_product place_of value_read item_read keywords signs letter_front digit_front quote_front sign_front front_of items_from tokens_from run verdict_of
 out_of_data = refl
 
--- the item is wanted before the subscript is judged
+-- the item is taken before the subscript is tested
 no_data : shows ((10, codes "READ A%(20%)") ∷ []) ([])
     ≡ codes "?Out of data at line 10\r\n"
 unfolding digits fault_text repeated_product place_of value_read item_read keywords signs letter_front digit_front quote_front sign_front front_of items_from tokens_from run verdict_of
@@ -277,7 +277,7 @@ no_trap_in_an_immediate_line = refl
 
 -- STOP AND CONT
 
--- CONT behind a STOP
+-- CONT after a STOP
 abbrev continued : Program → Outcome (End (Leaving Position) (Job Position) Coming) → List ℕ
 continued program (Finished (Broke (Left stop) j)) =
     shown_at (play (continues program 500 stop (record j { screen = ended_screen (Left stop) j })) at_start 900 Over []).1
@@ -295,7 +295,7 @@ a_stop_among_modifiers : shows_with_cont ((10, codes "I%=I%+1% : STOP IF I%=1%")
 unfolding digits fault_text repeated_product place_of value_read item_read keywords signs letter_front digit_front quote_front sign_front front_of items_from tokens_from run verdict_of
 a_stop_among_modifiers = refl
 
--- it is left with its parameters put back, and CONT goes on behind the whole statement
+-- it is left with its parameters put back, and CONT continues after the whole statement
 a_stop_in_a_body : shows_with_cont ((10, codes "DEF FNA%(X%)") ∷ (20, codes "STOP : FNA%=X%") ∷ (30, codes "FNEND") ∷ (40, codes "X%=5% : PRINT 'A'; FNA%(1%)") ∷ (50, codes "PRINT X%") ∷ []) ≡ codes "A\r\nStop at line 20\r\n 5 \r\n"
 unfolding digits fault_text repeated_product place_of value_read item_read keywords signs letter_front digit_front quote_front sign_front front_of items_from tokens_from run verdict_of
 a_stop_in_a_body = refl
@@ -329,12 +329,12 @@ a_call_is_a_unit : units_of ((10, codes "DEF FNA%(X%)=X%") ∷ (20, codes "I%=FN
 unfolding digits fault_text repeated_product place_of value_read item_read keywords signs letter_front digit_front quote_front sign_front front_of items_from tokens_from run verdict_of
 a_call_is_a_unit = refl
 
--- the DEF that is passed over, the LET, the call, the result and the FNEND
+-- the DEF that is skipped, the LET, the call, the result and the FNEND
 a_body_is_statements : units_of ((10, codes "DEF FNA%(X%)") ∷ (20, codes "FNA%=X% : FNEND") ∷ (30, codes "I%=FNA%(1%)") ∷ []) ≡ 5
 unfolding digits fault_text repeated_product place_of value_read item_read keywords signs letter_front digit_front quote_front sign_front front_of items_from tokens_from run verdict_of
 a_body_is_statements = refl
 
--- a program that runs on, and its Tick is answered Expired
+-- a program that loops, and its Tick is answered Expired
 expired_in_a_loop :
     (play (runs_whole (program_read ((10, codes "GOTO 10") ∷ [])) 1500 new_job) at_start 1200 Over (Expired ∷ [])).0 ≡ Tick ∷ []
 unfolding digits fault_text repeated_product place_of value_read item_read keywords signs letter_front digit_front quote_front sign_front front_of items_from tokens_from run verdict_of

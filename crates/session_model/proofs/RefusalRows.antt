@@ -1,4 +1,5 @@
--- Programs that are refused, from their bytes: each cause at its line, the first of two on a line, and the least line.
+-- Programs that are rejected, from their bytes: each cause at its line, the first of two on a line,
+-- and the first line.
 use Rattle.std.proofs.Common.{◌≡◌, ℕ, List, [], ◌∷◌, Option, Some, None, refl}
 use Rattle.std.specs.Prelude.{codes}
 use Rattle.basic_tree.specs.Words.{keywords, signs}
@@ -41,7 +42,7 @@ stray_next : refusal ((10, codes "NEXT I%") ∷ []) ≡ at 10 StrayNext
 unfolding keywords signs letter_front digit_front quote_front sign_front front_of items_from tokens_from run verdict_of
 stray_next = refl
 
--- the NEXT names another variable than the nearest open FOR, and closes none
+-- the NEXT names another variable than the innermost open FOR, and closes none
 next_of_an_outer_for : refusal ((10, codes "FOR I%=1% TO 2%") ∷ (20, codes "FOR J%=1% TO 2%") ∷ (30, codes "NEXT I% : NEXT J%") ∷ []) ≡ at 10 OpenFor
 unfolding keywords signs letter_front digit_front quote_front sign_front front_of items_from tokens_from run verdict_of
 next_of_an_outer_for = refl
@@ -75,12 +76,12 @@ out_of_a_body : refusal ((10, codes "DEF FNA%(X%)") ∷ (20, codes "GOTO 40") �
 unfolding keywords signs letter_front digit_front quote_front sign_front front_of items_from tokens_from run verdict_of
 out_of_a_body = refl
 
--- the FNEND stands in the body
+-- the FNEND is in the body
 into_a_body : refusal ((10, codes "GOTO 30") ∷ (20, codes "DEF FNA%(X%)") ∷ (30, codes "FNEND") ∷ []) ≡ at 10 AcrossBody
 unfolding keywords signs letter_front digit_front quote_front sign_front front_of items_from tokens_from run verdict_of
 into_a_body = refl
 
--- the DEF stands outside
+-- the DEF is outside
 to_the_def_itself : refusal ((10, codes "GOTO 20") ∷ (20, codes "DEF FNA%(X%)") ∷ (30, codes "FNEND") ∷ []) ≡ None
 unfolding keywords signs letter_front digit_front quote_front sign_front front_of items_from tokens_from run verdict_of
 to_the_def_itself = refl
@@ -89,7 +90,7 @@ within_a_body : refusal ((10, codes "DEF FNA%(X%)") ∷ (20, codes "GOTO 30") �
 unfolding keywords signs letter_front digit_front quote_front sign_front front_of items_from tokens_from run verdict_of
 within_a_body = refl
 
--- a line without statements stands for the next
+-- a line without statements means the next one
 through_an_empty_line : refusal ((10, codes "GOTO 15") ∷ (15, codes "") ∷ (20, codes "DEF FNA%(X%) : FNA%=1%") ∷ (30, codes "FNEND") ∷ []) ≡ None
 unfolding keywords signs letter_front digit_front quote_front sign_front front_of items_from tokens_from run verdict_of
 through_an_empty_line = refl
@@ -141,7 +142,7 @@ kind_of_a_call : refusal ((10, codes "DEF FNA$(X%)='T'") ∷ (20, codes "DEF FNB
 unfolding keywords signs letter_front digit_front quote_front sign_front front_of items_from tokens_from run verdict_of
 kind_of_a_call = refl
 
--- the calls fit: what is told is a later cause of their line
+-- the calls fit: what is reported is a later cause of their line
 right_kinds : refusal ((10, codes "DEF FNA$(X%,Y$)=Y$") ∷ (20, codes "DEF FNB%(X%)=X%") ∷ (30, codes "PRINT FNB%(FNA$(A%,B$)<'T'),FNA$(FNB%(1%),FNA$(2%,A$(3%)+'T')) : FNC%=1%") ∷ []) ≡ at 30 StrayResult
 unfolding keywords signs letter_front digit_front quote_front sign_front front_of items_from tokens_from run verdict_of
 right_kinds = refl
@@ -166,12 +167,12 @@ result_of_another : refusal ((10, codes "DEF FNA%(X%)") ∷ (20, codes "FNB%=1%"
 unfolding keywords signs letter_front digit_front quote_front sign_front front_of items_from tokens_from run verdict_of
 result_of_another = refl
 
--- the first cause is told, wherever it stands in the line
+-- the first cause is reported, wherever it is in the line
 two_causes_of_a_line : refusal ((10, codes "FNEND : NEXT I% : GOTO 20") ∷ []) ≡ at 10 NoLine
 unfolding keywords signs letter_front digit_front quote_front sign_front front_of items_from tokens_from run verdict_of
 two_causes_of_a_line = refl
 
--- the least line is told, whatever the causes are
+-- the first line is reported, whatever the causes are
 causes_of_two_lines : refusal ((10, codes "FNEND") ∷ (20, codes "GOTO 30") ∷ []) ≡ at 10 StrayFnend
 unfolding keywords signs letter_front digit_front quote_front sign_front front_of items_from tokens_from run verdict_of
 causes_of_two_lines = refl
@@ -188,7 +189,7 @@ immediate_for : refusal_now (statements_read (codes "FOR I%=1% TO 2%")) ≡ at 0
 unfolding keywords signs letter_front digit_front quote_front sign_front front_of items_from tokens_from run verdict_of
 immediate_for = refl
 
--- a FOR as a modifier may stand there
+-- a FOR as a modifier may be there
 immediate_modifier : refusal_now (statements_read (codes "PRINT I% FOR I%=1% TO 2%")) ≡ None
 unfolding keywords signs letter_front digit_front quote_front sign_front front_of items_from tokens_from run verdict_of
 immediate_modifier = refl

@@ -1,4 +1,4 @@
--- What is worked out of the statements on files: what programs ask, and what they leave open.
+-- Examples of the statements on files: what programs request, and what they leave open.
 use Rattle.std.proofs.Common.{◌≡◌, ℕ, suc, true, false, List, [], ◌∷◌, refl}
 use Rattle.std.specs.Prelude.{codes, replicate, if◌then◌else◌, Some, None}
 use Rattle.std.specs.Fmt.{digits}
@@ -27,7 +27,7 @@ use Rattle.program_model.specs.Running.{Coming, runs_whole}
 use Rattle.program_model.specs.Reports.{ended_screen}
 use Rattle.session_model.proofs.ProgramRows.{program_read, new_job}
 
--- what a program asks with these replies
+-- what a program requests with these replies
 abbrev pub asked : List (ℕ × List ℕ) → List Reply → List Request
 asked lines replies = (play (runs_whole (program_read lines) 500 new_job) at_start 900 Over replies).0
 
@@ -55,7 +55,8 @@ account project programmer = record { project = project; programmer = programmer
 abbrev pub own : List ℕ → FileName
 own stem = record { owner = account 100 5; stem = stem; extension = [] }
 
--- OPEN makes the file or takes the one that is there; GET without a block takes the next one, and the end of the text closes
+-- OPEN makes the file or takes the one that exists; GET without a block takes the next one, and the
+-- end of the program closes it
 get_of_the_next : asked ((10, codes "OPEN 'A' AS FILE 1%") ∷ (20, codes "GET #1% : GET #1%") ∷ []) (Opened 2 true true ∷ Block zeros ∷ Block zeros ∷ Done ∷ []) ≡ (OpenFile 1 (own (codes "A")) Either false None ∷ Get 1 1 ∷ Get 1 2 ∷ CloseFile 1 ∷ [])
 unfolding digits fault_text repeated_product place_of value_read item_read keywords signs letter_front digit_front quote_front sign_front front_of items_from tokens_from run verdict_of spec_in bracketed_in closed_code
 get_of_the_next = refl
@@ -65,12 +66,12 @@ opened_for : asked ((10, codes "OPEN 'a.b<40>' FOR OUTPUT AS FILE #2%, CLUSTERSI
 unfolding digits fault_text repeated_product place_of value_read item_read keywords signs letter_front digit_front quote_front sign_front front_of items_from tokens_from run verdict_of spec_in bracketed_in closed_code
 opened_for = refl
 
--- behind a GET the next block is the one behind it
+-- after a GET the next block is the one after it
 put_behind_get : asked ((10, codes "OPEN 'A' AS FILE 1%") ∷ (20, codes "GET #1%, RECORD 5%") ∷ (30, codes "PUT #1%") ∷ (40, codes "END") ∷ []) (Opened 2 true true ∷ Block zeros ∷ Done ∷ Done ∷ []) ≡ (OpenFile 1 (own (codes "A")) Either false None ∷ Get 1 5 ∷ Put 1 6 zeros ∷ CloseFile 1 ∷ [])
 unfolding digits fault_text repeated_product place_of value_read item_read keywords signs letter_front digit_front quote_front sign_front front_of items_from tokens_from run verdict_of spec_in bracketed_in closed_code
 put_behind_get = refl
 
--- a refused GET is a fault, which leaves the channel open
+-- a GET that fails is a fault, which leaves the channel open
 refused_get : left_open ((10, codes "OPEN 'A' AS FILE 1%") ∷ (20, codes "GET #1%") ∷ []) (Opened 2 true true ∷ Failed 19 ∷ []) ≡ (1, codes "?Disk block is interlocked at line 20\r\n")
 unfolding digits fault_text repeated_product place_of value_read item_read keywords signs letter_front digit_front quote_front sign_front front_of items_from tokens_from run verdict_of spec_in bracketed_in closed_code
 refused_get = refl
@@ -85,12 +86,12 @@ stop_leaves_open : left_open ((10, codes "OPEN 'A' AS FILE 1%") ∷ (20, codes "
 unfolding digits fault_text repeated_product place_of value_read item_read keywords signs letter_front digit_front quote_front sign_front front_of items_from tokens_from run verdict_of spec_in bracketed_in closed_code
 stop_leaves_open = refl
 
--- the end of the text ignores that a closing is refused, and goes on with the next channel
+-- the end of the program ignores that a close fails, and continues with the next channel
 quiet_end : left_open ((10, codes "OPEN 'A' AS FILE 1%") ∷ (20, codes "OPEN 'B' AS FILE 12%") ∷ []) (Opened 2 true true ∷ Opened 2 true true ∷ Failed 5 ∷ Done ∷ []) ≡ (0, [])
 unfolding digits fault_text repeated_product place_of value_read item_read keywords signs letter_front digit_front quote_front sign_front front_of items_from tokens_from run verdict_of spec_in bracketed_in closed_code
 quiet_end = refl
 
--- the operands of an OPEN are evaluated before it refuses
+-- the operands of an OPEN are evaluated before its other tests
 operands_first : left_open ((10, codes "OPEN 'A' AS FILE 13%, MODE 1%/0%") ∷ []) [] ≡ (0, codes "?Division by 0 at line 10\r\n")
 unfolding digits fault_text repeated_product place_of value_read item_read keywords signs letter_front digit_front quote_front sign_front front_of items_from tokens_from run verdict_of spec_in bracketed_in closed_code
 operands_first = refl
@@ -150,12 +151,12 @@ slept_and_unlocked : asked ((10, codes "SLEEP 7% : SLEEP -7%") ∷ (20, codes "O
 unfolding digits fault_text repeated_product place_of value_read item_read keywords signs letter_front digit_front quote_front sign_front front_of items_from tokens_from run verdict_of spec_in bracketed_in closed_code
 slept_and_unlocked = refl
 
--- a record of two blocks is asked as a record
+-- a record of two blocks is requested as a record
 record_of_two_blocks : asked ((10, codes "OPEN 'A' AS FILE 1%, RECORDSIZE 1024%") ∷ (20, codes "GET #1% : GET #1%") ∷ []) (Opened 2 true true ∷ Record (zeros ∷ zeros ∷ []) ∷ Failed 11 ∷ []) ≡ (OpenFile 1 (own (codes "A")) Either false None ∷ GetRecord 1 1 2 ∷ GetRecord 1 3 2 ∷ [])
 unfolding digits fault_text repeated_product place_of value_read item_read keywords signs letter_front digit_front quote_front sign_front front_of items_from tokens_from run verdict_of spec_in bracketed_in closed_code
 record_of_two_blocks = refl
 
--- in a function too, in the midst of an expression
+-- in a function too, in the middle of an expression
 get_in_a_function : asked ((10, codes "DEF FNA%(I%)") ∷ (20, codes "GET #I%, RECORD 7%") ∷ (30, codes "FNEND") ∷ (40, codes "OPEN 'A' AS FILE 1% : PUT #1% + FNA%(1%)") ∷ []) (Opened 2 true true ∷ Block zeros ∷ Done ∷ Done ∷ []) ≡ (OpenFile 1 (own (codes "A")) Either false None ∷ Get 1 7 ∷ Put 1 8 zeros ∷ CloseFile 1 ∷ [])
 unfolding digits fault_text repeated_product place_of value_read item_read keywords signs letter_front digit_front quote_front sign_front front_of items_from tokens_from run verdict_of spec_in bracketed_in closed_code
 get_in_a_function = refl

@@ -1,6 +1,6 @@
--- The talk of a terminal: the requests that its session makes and the bytes that it shows, given what
--- is typed and the replies. A judge says of each line that is a statement which tree the grammar has for
--- it, or why it refuses it.
+-- The behaviour of a terminal's session: its requests and the bytes that it shows, given the keys
+-- and the replies. A judge says of each line that is a statement which tree the grammar has for it,
+-- or why the grammar rejects it.
 use Rattle.std.specs.Prelude.{◌≡◌, ℕ, zero, suc, Bool, true, false, if◌then◌else◌, List, [], ◌++◌, map, replicate, Option, Some, None, Result, Ok, Err, codes}
 use Rattle.std.specs.Option.{unwrap_or}
 use Rattle.basic_values.specs.declared.errors.TheConstants.{DATA_FORMAT_ERROR}
@@ -60,12 +60,12 @@ pub record Session (R : Type 0) : Type 0 where
   -- the name of the program in memory, and its lines
   pub name : List ℕ
   pub lines : Lines
-  -- what its programs keep, with the bytes on the screen
+  -- the state of its programs, with the bytes on the screen
   pub job : Job R
-  -- the STOP behind which CONT goes on
+  -- the STOP after which CONT continues
   pub stop : Option (program.Leaving R)
 
--- it is left by BYE, and at the end of its keys
+-- it ends by BYE, and at the end of its keys
 pub data SessionEnd : Type 0 where
   Ended : SessionEnd
 
@@ -110,7 +110,7 @@ abbrev pub hello : {R : Type 0} → Option Login → Session R → Step R
 hello None s = Gives tt (says invalid_entry s)
 hello (Some login) s = ask (request.Login login.account login.password) s then entered login.account
 
--- BYE, and the end of the keys: who is logged in logs out
+-- BYE, and the end of the keys: a job that is logged in logs out
 abbrev pub log_out : {R : Type 0} → Session R → Step R
 log_out s = ask request.Logout s then λ reply s. Breaks (Left Ended) (says bye s)
 
@@ -118,7 +118,7 @@ abbrev pub leave : {R : Type 0} → Option Account → Session R → Step R
 leave None s = Breaks (Left Ended) s
 leave (Some account) s = log_out s
 
--- THE TEXT OF THE PROGRAM
+-- THE PROGRAM
 
 abbrev pub no_name : List ℕ
 no_name = codes "NONAME"
@@ -126,11 +126,11 @@ no_name = codes "NONAME"
 abbrev pub named : {R : Type 0} → List ℕ → Session R → Session R
 named name s = record s { name = name }
 
--- other lines: CONT can go on behind no STOP of theirs
+-- other lines: CONT cannot continue after an earlier STOP
 abbrev pub with_lines : {R : Type 0} → Lines → Session R → Session R
 with_lines lines s = record s { lines = lines; stop = None }
 
--- NEW: an empty program of that name, and what a program finds that begins
+-- NEW: an empty program of that name, and the state in which a program begins
 abbrev pub emptied : {R : Type 0} → Session R → Session R
 emptied s = with_lines [] (with_job (cleared [] s.job) s)
 
@@ -139,7 +139,7 @@ renames Nameless s = answered illegal_command s
 renames (Named name) s = answered [] (named name s)
 renames Misnamed s = answered illegal_file_name s
 
--- LIST and RUN write the program's name in front, and LISTNH and RUNNH do not
+-- LIST and RUN write the program's name first, and LISTNH and RUNNH do not
 abbrev pub headed : {R : Type 0} → Bool → Session R → Session R
 headed true s = says (s.name ++ line_end) s
 headed false s = s
@@ -159,22 +159,22 @@ takes_edit (Refused text) s = answered text s
 
 -- FILES OF PROGRAMS
 
--- why an act on files broke off: a fault is shown
+-- why a tree on files broke off: a fault is shown
 abbrev pub broken_off : {R : Type 0} → Break ⊥ → Session R → Step R
 broken_off (Faulted number) s = reports (fault_report number) s
 broken_off (Halted halt) s = reports (halt_report halt) s
 broken_off Gone s = Breaks Gone s
 broken_off (Left none) s = absurd none
 
--- an act of a part of the session, and how that goes on
+-- a tree of a part of the session, and what comes next
 abbrev pub tried : {R P A : Type 0} → (P → Session R) → (A → Session R → Step R) → Act ⊥ P A → Step R
 tried whole next act = at_ends whole (λ value p. next value (whole p)) (λ why p. broken_off why (whole p)) act
 
--- an act on files, which keep nothing of the session
+-- a tree on files, which uses nothing of the session
 abbrev pub on_files : {R A : Type 0} → FileAct A → (A → Session R → Step R) → Session R → Step R
 on_files act next s = tried (λ _. s) next act
 
--- THE QUIET CLOSING of all channels, and how that goes on
+-- THE IMPLICIT CLOSE of all channels, and what comes next
 
 abbrev pub with_storage : {R : Type 0} → Session R → Storage → Session R
 with_storage s storage = with_job (in_storage.with_part s.job storage) s
@@ -182,12 +182,12 @@ with_storage s storage = with_job (in_storage.with_part s.job storage) s
 abbrev pub shut_down : {R : Type 0} → (Session R → Step R) → Session R → Step R
 shut_down next s = tried (with_storage s) (λ _ s. next s) (shut_act (in_storage.part s.job))
 
--- what is done with the file that is named, or the error that refuses the name
+-- what is done with the file that is named, or the error of the name
 abbrev pub by_name : {R : Type 0} → Result Spec ℕ → (Spec → Session R → Step R) → Session R → Step R
 by_name (Ok spec) act s = act spec s
 by_name (Err number) act s = reports (fault_report number) s
 
--- OLD and RUN: a name has to stand behind them
+-- OLD and RUN: a name has to follow them
 abbrev pub with_name_of : {R : Type 0} → Account → List ℕ → (Spec → Session R → Step R) → Session R → Step R
 with_name_of own tail act s =
     if is_blank_text tail then answered illegal_command s else by_name (spec_read own tail) act s
@@ -202,7 +202,8 @@ begins_new Misnamed s = answered illegal_file_name s
 abbrev pub loaded : {R : Type 0} → List ℕ → Lines → Session R → Session R
 loaded name lines s = with_lines lines (named name (emptied s))
 
--- OLD: a text that is no program is an error, and nothing has changed; else the channels are closed first
+-- OLD: if the file has no program, that is an error, and nothing has changed; else the channels are
+-- closed first
 abbrev pub loads : {R : Type 0} → List ℕ → Option Lines → Session R → Step R
 loads name None s = reports (fault_report DATA_FORMAT_ERROR) s
 loads name (Some lines) s = shut_down (λ s. answered [] (loaded name lines s)) s
@@ -222,7 +223,7 @@ saves_as kind spec s =
 abbrev pub saves : {R : Type 0} → Account → OpenKind → List ℕ → Session R → Step R
 saves own kind tail s = by_name (spec_or_own own s.name tail) (saves_as kind) s
 
--- UNSAVE, which does not look at the code
+-- UNSAVE, which ignores the code
 abbrev pub kills_file : {R : Type 0} → Spec → Session R → Step R
 kills_file spec s = on_files (kills spec.name) (λ _ s. answered [] s) s
 
@@ -239,11 +240,11 @@ catalogs own OfOwn s = catalogs_of own s
 catalogs own (OfAccount owner) s = catalogs_of owner s
 catalogs own OfNone s = answered illegal_command s
 
--- THE PRINTER: what is asked about it, and Ready or the error
+-- THE PRINTER: a request about it, and Ready or the error
 abbrev pub on_printer : {R : Type 0} → FileAct Unit → Session R → Step R
 on_printer act s = on_files act (λ _ s. answered [] s) s
 
--- QUE: a name has to stand behind it
+-- QUE: a name has to follow it
 abbrev pub queues_by : {R : Type 0} → Result Spec ℕ → Session R → Step R
 queues_by (Ok spec) s = on_printer (prints_file spec.name spec.code) s
 queues_by (Err number) s = answered illegal_command s
@@ -251,7 +252,7 @@ queues_by (Err number) s = answered illegal_command s
 abbrev pub queues : {R : Type 0} → Account → List ℕ → Session R → Step R
 queues own tail s = queues_by (listed_spec own tail) s
 
--- what runs no program, for the account that the session acts for
+-- the commands that run no program, for the account that the session acts for
 abbrev pub rests : {R : Type 0} → Judge → Account → Command → Session R → Step R
 rests judge own (Hello login) s = answered already_logged_in s
 rests judge own Bye s = log_out s
@@ -270,7 +271,7 @@ rests judge own Assign s = on_printer assigns s
 rests judge own Deassign s = on_printer deassigns s
 rests judge own (Queue tail) s = queues own tail s
 rests judge own (Numbered number rest) s = takes_edit (edited judge number rest s.lines) s
--- what these four do is told by `user_acts`
+-- `user_acts` defines these four
 rests judge own (Run with_name) s = Gives tt s
 rests judge own (RunFile tail) s = Gives tt s
 rests judge own Continue s = Gives tt s
@@ -287,7 +288,7 @@ statements_by (RefusedFor cause) = []
 abbrev pub program_by : Judge → Lines → Program
 program_by judge lines = map (λ line. record { number = line.0; statements = statements_by (judge line.1) }) lines
 
--- The session outlives what a program does in it, but where the job's calls are used up.
+-- The session continues after what a program does in it, unless the job's calls are used up.
 abbrev pub outlived : {R : Type 0} → (Break (program.Leaving R) → Job R → Session R) → Session R → Break (program.Leaving R) → Job R → Step R
 outlived over s Gone j = Breaks Gone (with_job j s)
 outlived over s why j = Gives tt (over why j)
@@ -309,7 +310,7 @@ stop_by why = None
 abbrev pub run_is_over : {R : Type 0} → Session R → Break (program.Leaving R) → Job R → Session R
 run_is_over s why j = record (reported s why j) { stop = stop_by why }
 
--- HOW A PROGRAM BEGINS, at a line that is wanted or at its first
+-- HOW A PROGRAM BEGINS, at a given line or at its first
 
 -- how the run of a program is done in a session
 abbrev pub Runner : Type 0
@@ -325,12 +326,13 @@ abbrev pub runs_there : Runner → Program → ℕ → Option ℕ → Bool → S
 runs_there run p most line true s = run p s (runs_cleared p most line s.job)
 runs_there run p most line false s = reports (lowering_report (no_line line)) s
 
--- what is refused before it runs leaves the memory cleared, and so does a line at which it cannot begin
+-- a program that is rejected before it runs leaves the memory cleared, and so does a line at which
+-- it cannot begin
 abbrev pub runs_unless : Runner → Option LowerRefusal → Program → ℕ → Option ℕ → Session Position → Step Position
 runs_unless run (Some refusal) p most line s = reports (lowering_report refusal) s
 runs_unless run None p most line s = runs_there run p most line (can_begin p line) s
 
--- behind the closing
+-- after the closing
 abbrev pub runs_shut : Runner → Program → ℕ → Option ℕ → Session Position → Step Position
 runs_shut run p most line s = runs_unless run (refusal_of p) p most line (begun p s)
 
@@ -339,7 +341,7 @@ runs run p most line s = shut_down (runs_shut run p most line) s
 
 -- CHAIN
 
--- the program that is named is read as OLD reads it, and a text that is no program is an error
+-- the program that is named is read as OLD reads it, and a file without a program is an error
 abbrev pub or_bad_text : List ℕ → Option Lines → FileAct (List ℕ × Lines)
 or_bad_text name None = Breaks (Faulted DATA_FORMAT_ERROR) tt
 or_bad_text name (Some lines) = Gives (name, lines) tt
@@ -359,10 +361,10 @@ abbrev pub chains_to : Judge → Runner → ℕ → List ℕ × Lines → Sessio
 chains_to judge run most (name, lines) s =
     runs run (program_by judge lines) most s.job.destination.line (loaded name lines s)
 
--- what is known where a program, or a line of immediate mode, has come to its end
+-- what is known when a program, or a line of immediate mode, has ended
 pub record Ending : Type 0 where
   pub judge : Judge
-  -- how the next program is run, and for so many statements at the most
+  -- how the next program is run, and for at most this many statements
   pub run : Runner
   pub most : ℕ
   -- what an error of the CHAIN leads to
@@ -384,12 +386,12 @@ follows_chain end j =
     at_ends (λ _. with_job j end.session) (λ read _. chains_to end.judge end.run end.most read (with_job j end.session)) (λ why _. unread end why j)
     (reads_program end.judge j.account j.destination.name)
 
--- at a CHAIN the next program follows; every other end is outlived
+-- after a CHAIN the next program follows; after every other end the session continues
 abbrev pub behind_end : Ending → Break (program.Leaving Position) → Job Position → Step Position
 behind_end end (Left program.Chained) j = follows_chain end j
 behind_end end why j = outlived end.over end.session why j
 
--- a program that runs in a session, for so many statements at the most
+-- a program that runs in a session, for at most this many statements
 pub record ProgramRun : Type 0 where
   pub judge : Judge
   pub most : ℕ
@@ -400,7 +402,7 @@ pub record ProgramRun : Type 0 where
 abbrev pub run_to : (ProgramRun → Break (program.Leaving Position) → Job Position → Step Position) → Judge → ℕ → Runner
 run_to ended judge most p s act = in_session (ended (record { judge = judge; most = most; program = p; session = s })) s act
 
--- the end of a run, where it may chain: an error of its CHAIN goes on in it
+-- the end of a run that may chain: the program continues with an error of its CHAIN
 abbrev pub run_ending : (ProgramRun → Break (program.Leaving Position) → Job Position → Step Position) → ProgramRun → Ending
 run_ending ended r = record {
   judge = r.judge;
@@ -411,7 +413,8 @@ run_ending ended r = record {
   session = r.session;
 }
 
--- At the end of a program, after which so many more may chain. Each chain takes a unit, so more than units are taken are enough.
+-- At the end of a program, after which this many more may chain. Each chain takes a unit, so the
+-- bound is enough if it is larger than the number of units.
 abbrev pub ends_run : ℕ → ProgramRun → Break (program.Leaving Position) → Job Position → Step Position
 ends_run zero r why j = outlived (run_is_over r.session) r.session why j
 ends_run (suc count) r why j = behind_end (run_ending (ends_run count) r) why j
@@ -441,7 +444,8 @@ abbrev pub goes_on : Judge → Program → ℕ → Option (program.Leaving Posit
 goes_on judge p most None s = answered cant_continue s
 goes_on judge p most (Some stop) s = runs_chained judge most most p s (continues p most stop s.job)
 
--- A line of immediate mode, which may be refused before it runs, and leaves a STOP as it is. An error of its CHAIN is reported.
+-- A line of immediate mode, which may be rejected before it runs, and keeps a STOP. An error of its
+-- CHAIN is reported.
 abbrev pub line_ending : Judge → ℕ → Session Position → Ending
 line_ending judge most s = record {
   judge = judge;
@@ -475,7 +479,7 @@ visitor_acts Bye s = Breaks (Left Ended) s
 visitor_acts BadBye s = answered illegal_command s
 visitor_acts other s = Gives tt (says please_say_hello s)
 
--- a program runs for so many statements at the most
+-- a program runs for at most this many statements
 abbrev pub user_acts : Judge → ℕ → Account → Command → Session Position → Step Position
 user_acts judge most own (Run with_name) s = runs_all judge (program_by judge s.lines) most (headed with_name s)
 user_acts judge most own (RunFile tail) s = runs_file judge most own tail s
@@ -505,7 +509,7 @@ abbrev pub session : Judge → ℕ → ℕ → Session Position → Step Positio
 session judge most zero s = leave s.account s
 session judge most (suc count) s = turn judge most s then λ _ s. session judge most count s
 
--- what stands for an account before a login
+-- the account of a job before a login
 abbrev pub no_account : Account
 no_account = record { project = 0; programmer = 0 }
 
@@ -536,7 +540,7 @@ opening = record { account = None; name = no_name; lines = []; job = new_job; st
 abbrev pub whole_session : Judge → ℕ → ℕ → Step Position
 whole_session judge most count = session judge most count opening
 
--- THE TALK
+-- THE BEHAVIOUR OF A SESSION
 
 -- the job's calls are used up
 abbrev pub expired : {R : Type 0} → Session R → Session R
@@ -557,30 +561,31 @@ abbrev pub talk : Judge → Typing → List Reply → Played (List ℕ)
 talk judge keys replies =
     told_by shown (play (whole_session judge (statements_for replies) (suc (lines_in keys))) at_start (fuel_for replies) keys replies)
 
--- It holds of the judge by the grammar: there is one, and it holds of whoever judges so.
+-- It is true for the judge by the grammar: there is one, and it is true for every judge that judges
+-- so.
 abbrev pub ByGrammar : (Judge → Type 0) → Type 0
 ByGrammar holds = ((judge : Judge) × Judges judge) × ((judge : Judge) → Judges judge → holds judge)
 
--- the talk of these keys and replies makes these requests, and is finished with this screen
+-- the session with these keys and replies makes these requests, and finishes with this screen
 abbrev pub IsTalk : Typing → List Reply → List Request → List ℕ → Type 0
 IsTalk keys replies requests screen =
     ByGrammar (λ judge. talk judge keys replies ≡ (requests, Finished screen))
 
--- these requests begin what the talk asks
+-- these requests are the first that the session makes
 abbrev pub BeginsTalk : Typing → List Reply → List Request → Type 0
 BeginsTalk keys replies requests =
     ByGrammar (λ judge. Begins requests (talk judge keys replies).0)
 
 -- WHAT A PORT HAS SEEN: its events, wherever their key lines come from
 
--- whatever is typed, if the key lines of the events are the first of it, its talk makes the requests of
--- the events and is finished with this screen
+-- Whatever is typed, if the key lines of the events are the first of it: the session makes the
+-- requests of the events and finishes with this screen.
 abbrev pub IsTalkOf : List Event → List ℕ → Type 0
 IsTalkOf events screen =
     (keys : Typing) → AreTyped keys events
     → IsTalk keys (replies (pairs_of events)) (requests (pairs_of events)) screen
 
--- and so the requests of the events begin what its talk asks
+-- in the same way, the requests of the events are the first that the session makes
 abbrev pub BeginsTalkOf : List Event → Type 0
 BeginsTalkOf events =
     (keys : Typing) → AreTyped keys events

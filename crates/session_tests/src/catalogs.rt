@@ -13,10 +13,10 @@ const OWNER: Account = Account {
     programmer: 5,
 };
 
-/// The replies of a port, what the catalog shows, what it asks, and how it ends.
+/// The replies of a port, what the catalog shows, its requests, and how it ends.
 type Row = (&'static [Said], &'static [u8], &'static str, u8);
 
-/// Shows a catalog over a port behind CAT, and gives how the call ended.
+/// Shows a catalog over a port after CAT, and returns how the call ended.
 fn shown(alloc: Global, port: &mut ScriptPort, screen: &mut Screen) -> Result<u8, Fail> {
     screen.write(b"CAT\r\n")?;
     Ok(ending(&show_catalog(alloc, port, OWNER, screen)))
@@ -30,7 +30,7 @@ fn expect_shown(screen: &Screen, wanted: &[u8]) -> Result<(), Fail> {
     }
 }
 
-/// Fails unless a catalog over a port shows, asks and ends so.
+/// Fails unless a catalog over a port shows these lines, makes these requests and ends in this way.
 fn expect_over(
     alloc: Global,
     port: &mut ScriptPort,
@@ -92,7 +92,7 @@ fn what_was_shown_stays_where_the_job_ends(rt: HostRuntime) -> Result<(), Fail> 
     expect(rt.alloc(), &JOB_ENDS)
 }
 
-/// A port that tells one file more than a catalog has.
+/// Returns a port that reports one file more than a catalog has.
 fn full_port(alloc: Global) -> Result<ScriptPort, Fail> {
     let mut script = Vec::new(alloc);
     for _ in 0..MOST_FILES + 1 {
@@ -111,7 +111,7 @@ fn expect_full(alloc: Global, port: &mut ScriptPort, screen: &mut Screen) -> Res
     }
 }
 
-/// Behind CAT and its CR LF stand 512 lines of 24 bytes.
+/// Checks that 512 lines of 24 bytes follow CAT and its CR LF.
 #[test]
 fn no_index_above_511_is_asked(rt: HostRuntime) -> Result<(), Fail> {
     let mut port = full_port(rt.alloc())?;

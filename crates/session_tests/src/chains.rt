@@ -1,4 +1,5 @@
-//! CHAIN: how the next program is read and begins, what it finds, and what a refused one leaves.
+//! CHAIN: how the next program is read and begins, in which state, and what a CHAIN that fails
+//! leaves.
 
 use crate::talks::{Answer, HELLO, Talk, expect_talk, expect_talks};
 use std::test::Fail;
@@ -47,7 +48,7 @@ const TRAPPED: Talk = (
     "Either [100,5]D Opened 1\nInput [100,5]B.BAS Failed 5\nGet 1 Block\n",
 );
 
-/// So is one in the body of a function.
+/// So is an error in the body of a function.
 const TRAPPED_IN_A_BODY: Talk = (
     &[
         ("10 DEF FNA%(X%)", ""),
@@ -63,7 +64,7 @@ const TRAPPED_IN_A_BODY: Talk = (
     "Input [100,5]B.BAS Failed 5\n",
 );
 
-/// The wanted line is one of the new program. 0 and less are none.
+/// The given line is one of the new program. 0 and negative numbers mean no line.
 const LINES: Talk = (
     &[
         ("CHAIN 'B' LINE 20%", " 2 \nReady\n"),
@@ -121,7 +122,7 @@ const BODIES: Talk = (
      Input [100,5]B.BAS Opened 1\nGet 1 Block\nClose 0 Done\n",
 );
 
-/// A program that is refused is the one in memory, and the old variables are gone.
+/// A program that is rejected is the one in memory, and the old variables are gone.
 const UNSOUND: Talk = (
     &[
         ("A%=7%", "Ready\n"),
@@ -139,7 +140,7 @@ const UNSOUND: Talk = (
 );
 
 /// Variables and the trap are those of a program that begins, core common stays, and channels are
-/// closed behind the reading.
+/// closed after the reading.
 const CLEARED: Talk = (
     &[
         ("10 ON ERROR GOTO 30 : OPEN 'D' AS FILE 3%", ""),
@@ -159,7 +160,7 @@ const CLEARED: Talk = (
      Get 1 Block\nClose 0 Done\nClose 3 Done\n",
 );
 
-/// Three programs hand a number on by core common.
+/// Three programs pass a number on in core common.
 const THREE: Talk = (
     &[
         ("10 X$=SYS(CHR$(8%)+'1') : CHAIN 'B'", ""),
@@ -183,7 +184,7 @@ const ADDS_ONE: &str = "10 OPEN 'N' FOR INPUT AS FILE 1% : INPUT #1%,N% : CLOSE 
      20 OPEN 'N' FOR OUTPUT AS FILE 1% : PRINT #1%,N%+1% : CLOSE 1%\n\
      30 CHAIN 'C'\n";
 
-/// Three programs hand a number on by a file: it is written, read and written anew, and read.
+/// Three programs pass a number on in a file: it is written, read and rewritten, and read.
 const THREE_BY_A_FILE: Talk = (
     &[
         ("10 OPEN 'N' FOR OUTPUT AS FILE 1%", ""),
@@ -223,7 +224,7 @@ const THREE_BY_A_FILE: Talk = (
      Input [100,5]N Opened 1\nGet 1 Block\nClose 1 Done\n",
 );
 
-/// A refused CHAIN leaves a STOP; behind one that came off CONT goes on where the new program
+/// A CHAIN that fails keeps a STOP; after one that succeeds, CONT continues where the new program
 /// stopped.
 const CONT: Talk = (
     &[
@@ -251,8 +252,8 @@ const CONT: Talk = (
      Input [100,5]B.BAS Opened 1\nGet 1 Block\nClose 0 Done\n",
 );
 
-/// A report after a CHAIN begins at the start of a line: of a program that is rejected, of a line
-/// that it does not have, and where an immediate line chains to them.
+/// A report after a CHAIN begins at the start of a line. It is about a program that is rejected, or
+/// a line that the program does not have; the last two are of immediate lines that chain to them.
 const REPORTS: Talk = (
     &[
         ("10 PRINT 'Z'; : CHAIN 'B'", ""),

@@ -1,9 +1,10 @@
-//! Fields, text on channels, arrays in files, formats and SYS: what they show and ask of a port.
+//! Fields, text on channels, arrays in files, formats and SYS: what they show, and their requests
+//! to a port.
 
 use crate::talks::{Answer, READY, Row, Talk, expect_of_ready, expect_talks};
 use std::test::Fail;
 
-/// Parts of a buffer that overlap, an own text, and a variable that was never stored.
+/// Parts of a buffer that overlap, an own string, and a variable that was never stored.
 const FIELDS: Talk = (
     &[
         ("OPEN 'A' AS FILE 1%", READY),
@@ -44,7 +45,7 @@ const FIELDS: Talk = (
             "LSET C$=CVT%$(CVT$%(C$)+1%) : PRINT A$",
             "CDEGABCDEF\nReady\n",
         ),
-        // A sum makes an own text of a fielded one, and leaves the buffer.
+        // A concatenation makes an own string of a fielded one, and leaves the buffer.
         (
             "FIELD #1%,3% AS D$ : D$=D$+'Z' : D$=RIGHT(D$,2%) : PRINT D$;'/';A$",
             "DEZ/CDEGABCDEF\nReady\n",
@@ -89,7 +90,7 @@ const LINES: Talk = (
     "Input [100,5]A Opened 1\nGet 1 Block\nGet 2 Failed 11\nGet 1 Block\n",
 );
 
-/// What waits is put before a channel is closed; at an END a refusal is not told.
+/// Pending bytes are written before a channel is closed; at an END a refusal is not shown.
 const WAITING: Talk = (
     &[
         ("OPEN 'A' AS FILE 1% : PRINT #1%,'AB'", READY),
@@ -118,7 +119,7 @@ const WAITING: Talk = (
      Either [100,5]A Opened 1\nPut 1 Failed 4\nClose 1 Done\n",
 );
 
-/// An element is asked where it stands, and a refusal is trapped at the statement.
+/// An element is requested by its place, and a refusal is trapped at the statement.
 const ELEMENTS: Talk = (
     &[
         ("10 DIM #1%,A%(300%)", ""),
@@ -142,7 +143,7 @@ const ELEMENTS: Talk = (
      Put 2 Done\nGet 1 Failed 19\nGet 1 Block\nClose 1 Done\n",
 );
 
-/// SYS asks in the midst of an expression, and a refusal is trapped at the statement.
+/// SYS makes a request in the middle of an expression, and a refusal is trapped at the statement.
 const MESSAGES: Talk = (
     &[
         ("10 ON ERROR GOTO 50 : M$=CHR$(6%)+CHR$(22%)", ""),
@@ -180,7 +181,7 @@ fn fields_texts_elements_and_messages(rt: HostRuntime) -> Result<(), Fail> {
     expect_talks(rt.alloc(), &TALKS)
 }
 
-/// A line, and what it shows in front of CR LF and Ready; nothing is asked.
+/// A line, and what it shows before CR LF and Ready; it makes no request.
 static SHOWN: [Row; 22] = [
     ("PRINT USING '###-',-42%", " 42-"),
     ("PRINT USING '**##',7%", "***7"),

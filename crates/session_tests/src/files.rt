@@ -1,4 +1,4 @@
-//! The commands on files: what they ask of the monitor, and what they show.
+//! The commands on files: their requests to the monitor, and what they show.
 
 use crate::talks::{
     Answer, Expiring, ILLEGAL_COMMAND, ILLEGAL_NAME, READY, Row, Talk, expect_all_expiring,
@@ -145,7 +145,8 @@ fn texts_that_are_no_program(rt: HostRuntime) -> Result<(), Fail> {
     Ok(())
 }
 
-/// The answers to a file of so many lines of a comment, 51 in a block, and to the logout.
+/// Returns the answers to a file of comment lines up to number `last`, 51 in a block, and to the
+/// logout.
 fn answers_of_comments(alloc: Global, last: u16) -> Result<Vec<Answer>, Fail> {
     let mut answers = Vec::new(alloc);
     answers.push(Answer::Opened(20))?;
@@ -157,7 +158,7 @@ fn answers_of_comments(alloc: Global, last: u16) -> Result<Vec<Answer>, Fail> {
     Ok(answers)
 }
 
-/// What is asked of such a file.
+/// Returns the requests for such a file.
 fn asked_of_comments(alloc: Global) -> Told {
     let mut asked = Told::new(alloc);
     asked.put("Input [100,5]X.BAS Opened 20\n");
@@ -169,7 +170,7 @@ fn asked_of_comments(alloc: Global) -> Told {
     asked
 }
 
-/// What OLD shows of such a file.
+/// Fails unless OLD shows this of such a file.
 fn expect_of_comments(alloc: Global, last: u16, shown: &str) -> Result<(), Fail> {
     let answers = answers_of_comments(alloc, last)?;
     let asked = asked_of_comments(alloc);

@@ -1,4 +1,4 @@
-//! Constants and variables that operators, relations, functions and stores take.
+//! Constants and variables as operands of operators, relations, functions and stores.
 
 use crate::talks::{Row, expect_of_lines};
 use std::test::Fail;
@@ -44,14 +44,14 @@ static LEAVES: [Row; 15] = [
     ("PRINT T$==T$;T$<>' ';T$>C$", "-1  0  0 \nReady\n"),
 ];
 
-/// Their values are those that they have one by one, and so are what faults and what halts.
+/// Checks that their values, faults and halts are those that they have one by one.
 #[test]
 fn leaves_are_taken_where_they_stand(rt: HostRuntime) -> Result<(), Fail> {
     expect_of_lines(rt.alloc(), &LEAVES)
 }
 
-/// A text that is stored to the variable that it was loaded from, in a line and in a program; one
-/// that another variable takes; and one that was never stored.
+/// A string that is stored to the variable from which it was loaded, in a line and in a program;
+/// one that another variable takes; and one that was never stored.
 static STORED_BACK: [Row; 7] = [
     ("10 A$='0123' : B$=A$ : A$=A$+'45' : PRINT A$;'/';B$", ""),
     ("20 B$=A$+'X' : A$=B$+'Y' : PRINT A$;'/';B$", ""),
@@ -72,14 +72,15 @@ static STORED_BACK: [Row; 7] = [
     ("D$=LEFT(D$,-1%) : PRINT LEN(D$);B$", " 0 3\nReady\n"),
 ];
 
-/// It is changed in its place, and shows what a text would that is made and stored.
+/// Checks that the string is changed in place, and shows what a string would that is made and
+/// stored.
 #[test]
 fn texts_are_stored_back(rt: HostRuntime) -> Result<(), Fail> {
     expect_of_lines(rt.alloc(), &STORED_BACK)
 }
 
-/// A number that a function gives of a text: alone, in sums, as a subscript, as a limit, in what
-/// two bytes are made of, and where it is at fault.
+/// A number that a function gives of a string: alone, in sums, as a subscript, as a limit, as the
+/// value of two bytes, and at an error.
 static NUMBERS_OF_TEXTS: [Row; 10] = [
     (
         "10 A$='AB' : B%=LEN(A$)*10%+ASCII(A$) : PRINT B%;LEN(A$);-LEN(A$);LEN(B$);ASCII(B$)",
@@ -117,8 +118,8 @@ static NUMBERS_OF_TEXTS: [Row; 10] = [
     ),
 ];
 
-/// It stands for itself wherever a number may, and no text is made of it that is stored by its
-/// bytes at once.
+/// Checks that such a number can be used wherever a number can. If its bytes are stored at once, no
+/// string is made of it.
 #[test]
 fn numbers_of_texts(rt: HostRuntime) -> Result<(), Fail> {
     expect_of_lines(rt.alloc(), &NUMBERS_OF_TEXTS)

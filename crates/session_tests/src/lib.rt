@@ -1,6 +1,6 @@
-//! Tests of a job through public calls alone: what the session of a terminal shows, and what it
-//! asks of a port that plays a script, with the lines read by the whole parser below; and files of
-//! programs and catalogs by themselves.
+//! Tests of a job by public calls alone. They test what the session of a terminal shows, and its
+//! requests to a port that plays a script; the whole parser reads the lines. Files of programs and
+//! catalogs are tested by themselves.
 #![tactic(auto)]
 
 #[cfg(test)]

@@ -1,4 +1,4 @@
-//! One key line each: what it shows before the login and behind it.
+//! One key line each: what it shows before the login and after it.
 
 use crate::talks::{
     Answer, FLOATING_LITERAL, FLOATING_NAME, HELLO, ILLEGAL_COMMAND, ILLEGAL_NAME, ILLEGAL_NUMBER,
@@ -142,7 +142,8 @@ fn lines_that_are_for_programs(rt: HostRuntime) -> Result<(), Fail> {
 
 static ON_FILES: [&str; 5] = ["OLD", "SAVE", "REPLACE", "UNSAVE", " save"];
 
-/// What stands behind a word of a command on files is its name, and a longer word is none.
+/// Checks that what follows a word of a command on files is its name, and that a longer word is no
+/// command.
 fn expect_word(alloc: Global, word: &str) -> Result<(), Fail> {
     expect_behind(alloc, word, "& 1.5 \"", ILLEGAL_NAME)?;
     expect_behind(alloc, word, "Q", FLOATING_NAME)
@@ -182,7 +183,7 @@ fn words_of_commands_on_files(rt: HostRuntime) -> Result<(), Fail> {
     expect_of_users(rt.alloc(), &WORDS)
 }
 
-/// Statements that are done at once; as a line of a program each is stored as it stands.
+/// Statements that are done at once; as a line of a program each is stored as it is.
 static OF_MATRICES: [Row; 6] = [
     ("MAT READ A%", "?Out of data\nReady\n"),
     ("MAT A%=ZER", "Ready\n"),
@@ -234,7 +235,7 @@ fn program_lines(rt: HostRuntime) -> Result<(), Fail> {
     expect_of_users(rt.alloc(), &PROGRAM_LINES)
 }
 
-/// A front, so many times a part, a middle, and so many times an end.
+/// Returns `front`, then `times` times a part, a middle, and as many times an end.
 fn nested(
     alloc: Global,
     front: &str,

@@ -1,4 +1,4 @@
-//! MAT: what its statements read, store, refuse and write.
+//! MAT: what its statements read, store and write, and their errors.
 
 use crate::talks::{Answer, READY, Row, expect_of_files, expect_of_lines};
 use crate::told::joined;
@@ -11,7 +11,7 @@ const NO_ROOM: &str = "?Maximum memory exceeded at line 20\nReady\n";
 
 const IN_A_FILE: &str = "?Virtual array in MAT at line 20\nReady\n";
 
-/// Lines behind the login with what they show.
+/// Lines after the login with what they show.
 type Lines = &'static [Row];
 
 fn expect_each(alloc: Global, sessions: &[Lines]) -> Result<(), Fail> {
@@ -127,7 +127,7 @@ fn expect_left_in_b(alloc: Global, statement: &str, rows: &str) -> Result<(), Fa
     expect_of_lines(alloc, &lines)
 }
 
-/// Also where the target is among the operands.
+/// Checks that a value is computed before it is stored, also if the target is among the operands.
 #[test]
 fn a_value_is_formed_before_it_is_stored(rt: HostRuntime) -> Result<(), Fail> {
     for (statement, rows) in LEFT_IN_B.iter() {
@@ -171,7 +171,7 @@ fn expect_beside_0(alloc: Global, statement: &str, element: &str) -> Result<(), 
     expect_of_lines(alloc, &lines)
 }
 
-/// They are no part of a matrix in an operand either.
+/// Checks that they are no part of a matrix in an operand either.
 #[test]
 fn elements_with_a_subscript_0_stay(rt: HostRuntime) -> Result<(), Fail> {
     for (statement, element) in BESIDE_0.iter() {
@@ -245,7 +245,7 @@ fn what_does_not_fit_stores_nothing(rt: HostRuntime) -> Result<(), Fail> {
 
 // ARRAYS THAT ARE NOT MADE
 
-/// They get two subscripts to 10, also where the statement is refused then.
+/// They get two subscripts to 10, also if the statement then fails.
 const NOT_MADE: Lines = &[
     (
         "MAT A%=IDN : PRINT A%(10%,10%);A%(9%,10%);A%(0%,0%)",
@@ -264,7 +264,7 @@ const NOT_MADE: Lines = &[
     ("MAT PRINT G%, IF 0% : G%(1%)=1%", READY),
 ];
 
-/// The number in front of an array is evaluated before any is made.
+/// The number before an array is evaluated before any is made.
 const NUMBER_FIRST: Lines = &[
     ("10 DEF FNA%(X%)", ""),
     ("20 B%(1%)=7%", ""),
@@ -278,8 +278,8 @@ const NUMBER_FIRST: Lines = &[
     ("D%(1%)=1%", READY),
 ];
 
-/// There is room for one array of two subscripts to 10, which is made in the order of the text, and
-/// then for 11 elements twice. The halt is not trapped, and nothing is read or stored.
+/// There is space for one array of two subscripts to 10, which is made in the order of the source,
+/// and then for 11 elements twice. The halt is not trapped, and nothing is read or stored.
 const ROOM_FOR_ONE: Lines = &[
     ("10 ON ERROR GOTO 40 : DIM F%(32767%,2%),G%(32600%)", ""),
     ("20 MAT READ A%,B%", ""),
@@ -338,7 +338,7 @@ const OUT_OF_DATA: Lines = &[
     ("MAT READ A%", "?Out of data\nReady\n"),
 ];
 
-/// An item that is refused counts as read, and RESUME begins the statement again.
+/// An item that is rejected counts as read, and RESUME begins the statement again.
 const REFUSED_ITEMS: Lines = &[
     ("10 ON ERROR GOTO 60", ""),
     ("20 DIM A%(2%,2%)", ""),
@@ -381,7 +381,7 @@ const ROWS: Lines = &[
     ),
 ];
 
-/// A row of more elements than there are zones goes on in a new line.
+/// A row with more elements than there are zones continues in a new line.
 const ZONES: Lines = &[
     ("10 DIM A%(2%,6%) : MAT A%=CON", ""),
     ("20 MAT PRINT A%,", ""),
@@ -469,7 +469,7 @@ fn an_array_in_a_file_is_no_matrix(rt: HostRuntime) -> Result<(), Fail> {
 // UNITS
 
 /// A line that takes a unit, and one more for each turn; the answer to the logout, or to a Tick
-/// before it; and what is asked.
+/// before it; and the requests.
 type Units = (&'static str, &'static [Answer], &'static str);
 
 static UNITS: [Units; 2] = [

@@ -1,4 +1,4 @@
-//! Pages that are read and written, and files that are taken away.
+//! Pages that are read and written, and files that are deleted.
 
 use crate::scripts::{Said, ending, expect_asked, named, page_of, port_of};
 use monitor_calls::{FileName, OpenKind, Page, ScriptPort};
@@ -6,10 +6,10 @@ use program_files::{kill_file, read_pages, write_pages};
 use std::alloc::Global;
 use std::test::Fail;
 
-/// The replies of a port, what is asked of it, and how the call ends.
+/// The replies of a port, the requests to it, and how the call ends.
 type Row = (&'static [Said], &'static str, u8);
 
-/// Fails unless a file that is read asks and ends so.
+/// Fails unless reading a file makes these requests and ends in this way.
 fn expect_read(alloc: Global, row: &Row) -> Result<(), Fail> {
     let mut port = port_of(alloc, row.0)?;
     let pages = read_pages(alloc, &mut port, named(b"DEMO", b"BAS")?, Some(40));
@@ -30,7 +30,7 @@ fn two_pages(alloc: Global) -> Result<Vec<Page>, Fail> {
     Ok(pages)
 }
 
-/// Fails unless two pages that are written ask and end so.
+/// Fails unless writing two pages makes these requests and ends in this way.
 fn expect_written(alloc: Global, kind: OpenKind, row: &Row) -> Result<(), Fail> {
     let mut port = port_of(alloc, row.0)?;
     let (name, pages) = (named(b"DEMO", b"BAS")?, two_pages(alloc)?);
@@ -38,7 +38,7 @@ fn expect_written(alloc: Global, kind: OpenKind, row: &Row) -> Result<(), Fail> 
     expect_asked(alloc, &port, row.1, ending(&written), row.2)
 }
 
-/// Whether there are two pages, which begin with A and with B.
+/// Returns whether there are two pages, which begin with A and with B.
 fn are_a_and_b(pages: &[Page]) -> bool {
     pages.len() == 2 && pages[0].as_bytes()[0] == b'A' && pages[1].as_bytes()[0] == b'B'
 }
@@ -220,7 +220,7 @@ fn a_name_that_is_there(rt: HostRuntime) -> Result<(), Fail> {
     expect_written(rt.alloc(), OpenKind::Fresh, &NAME_IS_THERE)
 }
 
-/// A reply to the call that takes a file away, and how the call ends.
+/// A reply to the call that deletes a file, and how the call ends.
 static KILLED: [(Said, u8); 4] = [
     (Said::Done, 0),
     (Said::Failed(5), 5),

@@ -1,4 +1,4 @@
-//! The commands on the printer: what they ask of the monitor, and what they show.
+//! The commands on the printer: their requests to the monitor, and what they show.
 
 use crate::talks::{
     Answer, Expiring, ILLEGAL_COMMAND, READY, Talk, expect_all_expiring, expect_of_each,
@@ -75,7 +75,7 @@ fn a_file_is_printed_without_its_zeros(rt: HostRuntime) -> Result<(), Fail> {
     expect_talks(rt.alloc(), &PRINTED)
 }
 
-/// The answers to a file of 16 blocks that is printed, and to the logout.
+/// Returns the answers to a file of 16 blocks that is printed, and to the logout.
 fn answers_of_16(alloc: Global) -> Result<Vec<Answer>, Fail> {
     let mut answers = Vec::new(alloc);
     answers.extend_from_slice(&[Answer::Opened(16), Answer::Done])?;
@@ -86,7 +86,7 @@ fn answers_of_16(alloc: Global) -> Result<Vec<Answer>, Fail> {
     Ok(answers)
 }
 
-/// What is asked of such a file.
+/// Returns the requests for such a file.
 fn asked_of_16(alloc: Global) -> Told {
     let mut asked = Told::new(alloc);
     asked.put("Input [100,5]A.LST Opened 16\nOpenPrinter Done\n");
@@ -98,7 +98,7 @@ fn asked_of_16(alloc: Global) -> Told {
     asked
 }
 
-/// So many blocks are read and printed one by one.
+/// Checks that 16 blocks are read and printed one by one.
 #[test]
 fn a_file_of_16_blocks(rt: HostRuntime) -> Result<(), Fail> {
     let answers = answers_of_16(rt.alloc())?;

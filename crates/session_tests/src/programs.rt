@@ -230,7 +230,7 @@ fn input_takes_the_keys_that_follow(rt: HostRuntime) -> Result<(), Fail> {
     )
 }
 
-/// A job whose calls are used up while its program runs.
+/// Checks a job whose calls are used up while its program runs.
 #[test]
 fn the_thousandth_unit_asks(rt: HostRuntime) -> Result<(), Fail> {
     let keys = [HELLO, "10 PRINT 1%; : GOTO 20", "20 GOTO 20", "RUNNH"];

@@ -1,4 +1,4 @@
-//! A port that plays a script, and what was asked of it as text.
+//! A port that plays a script, and the requests to it as text.
 
 use crate::told::Told;
 use basic_values::{Fault, Stop};
@@ -12,15 +12,15 @@ pub(crate) enum Said {
     Done,
     Expired,
     Failed(u8),
-    /// A file of so many blocks is open.
+    /// A file of this many blocks is open.
     Opened(u16),
     /// A block that is full of a byte.
     Block(u8),
-    /// A file by its stem and its extension, with its code, and its blocks where they are told.
+    /// A file by its stem and its extension, with its code, and its blocks if they are given.
     File(&'static [u8], &'static [u8], u8, Option<u16>),
 }
 
-/// A file's name, in the account 100,5.
+/// Returns a file's name, in the account 100,5.
 pub(crate) fn named(stem: &[u8], extension: &[u8]) -> Result<FileName, Fail> {
     let owner = Account {
         project: 100,
@@ -33,7 +33,7 @@ pub(crate) fn named(stem: &[u8], extension: &[u8]) -> Result<FileName, Fail> {
     })
 }
 
-/// A page that is full of a byte.
+/// Returns a page that is full of a byte.
 pub(crate) fn page_of(alloc: Global, byte: u8) -> Result<Page, Fail> {
     let mut page = Page::new(alloc)?;
     page.fill(&[byte; 512]);
@@ -63,7 +63,7 @@ fn opened(blocks: u16) -> Reply {
     }
 }
 
-/// A port that replies this.
+/// Returns a port with these replies.
 pub(crate) fn port_of(alloc: Global, script: &[Said]) -> Result<ScriptPort, Fail> {
     let mut replies = Vec::new(alloc);
     for said in script {
@@ -76,7 +76,7 @@ fn push_reply(alloc: Global, replies: &mut Vec<Reply>, said: Said) -> Result<(),
     Ok(replies.push(reply_of(alloc, said)?)?)
 }
 
-/// What was asked, a line for each request.
+/// Returns the requests, one to a line.
 fn asked(alloc: Global, port: &ScriptPort) -> Told {
     let mut told = Told::new(alloc);
     for event in port.log() {
@@ -138,7 +138,7 @@ fn kind_told(kind: OpenKind) -> &'static str {
     }
 }
 
-/// How a call ended: 0 where nothing stopped it, the number of its fault, and 100 where the job's
+/// Returns how a call ended: 0 if nothing stopped it, the number of its fault, and 100 if the job's
 /// calls are used up.
 pub(crate) fn ending<T: Drop>(outcome: &Result<T, Stop>) -> u8 {
     match outcome {
@@ -156,7 +156,7 @@ fn stop_told(stop: &Stop) -> u8 {
     }
 }
 
-/// Fails with what was asked, unless it is this, and the call ended so.
+/// Fails with the requests, unless they are these, and the call ended in this way.
 pub(crate) fn expect_asked(
     alloc: Global,
     port: &ScriptPort,

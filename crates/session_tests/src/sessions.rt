@@ -5,7 +5,7 @@ use crate::told::joined;
 use std::alloc::Global;
 use std::test::Fail;
 
-/// The keys of a session, the answers of its port, what it shows and what it asks.
+/// The keys of a session, the answers of its port, what it shows and its requests.
 type Talk = (
     &'static [&'static str],
     &'static [Answer],
@@ -185,7 +185,7 @@ fn replies_to_a_login(rt: HostRuntime) -> Result<(), Fail> {
     expect_talks(rt.alloc(), &LOGINS)
 }
 
-/// An answer to a logout, and how it is told.
+/// An answer to a logout, and how it is written.
 static LOGOUTS: [(Answer, &str); 4] = [
     (Answer::Done, "Done"),
     (Answer::Expired, "Expired"),
@@ -193,7 +193,7 @@ static LOGOUTS: [(Answer, &str); 4] = [
     (Answer::Failed(0), "Failed 0"),
 ];
 
-/// No answer to a logout shows another end than Done does.
+/// Checks that no answer to a logout shows another end than Done does.
 fn expect_logout(alloc: Global, answer: Answer, told: &str) -> Result<(), Fail> {
     let log = joined(alloc, &["Login 100,5;DEMO Done\nLogout ", told, "\n"])?;
     let answers = [Answer::Done, answer];

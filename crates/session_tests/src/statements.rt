@@ -1,4 +1,5 @@
-//! Statements on files: what they ask, what they refuse before, and when channels are closed.
+//! Statements on files: their requests, their errors before a request, and when channels are
+//! closed.
 
 use crate::talks::{Answer, READY, Row, Talk, expect_of_ready, expect_talks};
 use std::test::Fail;
@@ -54,7 +55,7 @@ const PURPOSES: Talk = (
      Kill [100,5]A Done\nRename to [1,2]B<60> Failed 2\nSleep 5 Done\nSleep 0 Done\n",
 );
 
-/// The channels 1 and 12 are open, a program ends, and nothing is refused.
+/// The channels 1 and 12 are open, a program ends, and nothing fails.
 const ENDS: Talk = (
     &[
         ("10 OPEN 'A' AS FILE 12% : OPEN 'B' AS FILE 1%", ""),
@@ -93,7 +94,7 @@ const ENDS: Talk = (
      Either [100,5]A Opened 0\nEither [100,5]B Opened 0\nClose 1 Done\nClose 12 Done\n",
 );
 
-/// A channel stays open over lines, refused commands and reports, and OLD and RUN close it.
+/// A channel stays open over lines, commands that fail and reports; OLD and RUN close it.
 const COMMANDS: Talk = (
     &[
         ("OPEN 'A' AS FILE 1%", READY),
@@ -141,7 +142,7 @@ fn files_are_used_and_closed(rt: HostRuntime) -> Result<(), Fail> {
     expect_talks(rt.alloc(), &TALKS)
 }
 
-/// Statements that are refused before anything is asked.
+/// Statements that fail before any request.
 static REFUSED: [Row; 14] = [
     (
         "OPEN 'D:A' AS FILE 0%, RECORDSIZE 7%",

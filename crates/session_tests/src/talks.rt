@@ -1,4 +1,4 @@
-//! How a session is tried: its keys, the replies of its port, what it shows and what it asks.
+//! How a session is tested: its keys, the replies of its port, what it shows and its requests.
 
 use crate::told::{Told, joined};
 use basic_values::{Fault, KeyLine, Text};
@@ -36,11 +36,11 @@ pub(crate) const TOO_DEEP: &str = "?Expression too deep\nReady\n";
 /// A line, and what it shows.
 pub(crate) type Row = (&'static str, &'static str);
 
-/// Lines behind the login with what they show, the answers behind that to the login, and what is
-/// asked between the login and the logout.
+/// Lines after the login with what they show, the answers after that to the login, and the requests
+/// between the login and the logout.
 pub(crate) type Talk = (&'static [Row], &'static [Answer], &'static str);
 
-/// A line at which the job's calls are used up, the answers, and what is asked behind the login.
+/// A line at which the job's calls are used up, the answers, and the requests after the login.
 pub(crate) type Expiring = (&'static str, &'static [Answer], &'static str);
 
 /// A reply of the script, in few words.
@@ -49,17 +49,17 @@ pub(crate) enum Answer {
     Done,
     Expired,
     Failed(u8),
-    /// A file of so many blocks is open.
+    /// A file of this many blocks is open.
     Opened(u16),
-    /// A block that begins with this text, with CR and LF where it has LF.
+    /// A block that begins with this text, with CR and LF for each LF.
     Block(&'static str),
     /// A block of comments: the number of the first line, and of the last.
     Comments(u16, u16),
-    /// A file of [100,5] with the extension BAS: its code, and its blocks where they are told.
+    /// A file of [100,5] with the extension BAS: its code, and its blocks if they are given.
     Named(&'static str, u8, Option<u16>),
     /// A message of this text, from the first job.
     Message(&'static str),
-    /// So many calls of the first job.
+    /// The first job with this many calls.
     State(u16),
 }
 
@@ -111,7 +111,7 @@ fn opened(blocks: u16) -> Reply {
     }
 }
 
-/// A block that begins with this text.
+/// Returns a block that begins with this text.
 fn block(alloc: Global, text: &str) -> Result<Reply, Fail> {
     let bytes = block_bytes(alloc, text)?;
     let mut page = Page::new(alloc)?;
@@ -121,7 +121,7 @@ fn block(alloc: Global, text: &str) -> Result<Reply, Fail> {
     Ok(Reply::Block(page))
 }
 
-/// The text with CR and LF where it has LF, and zeros behind it.
+/// Returns the text with CR and LF for each LF, and zeros after it.
 fn block_bytes(alloc: Global, text: &str) -> Result<Vec<u8>, Fail> {
     let mut bytes = Vec::new(alloc);
     for byte in text.as_bytes() {
@@ -160,8 +160,8 @@ fn push_reply(alloc: Global, replies: &mut Vec<Reply>, answer: &Answer) -> Resul
     Ok(replies.push(reply_of(alloc, answer)?)?)
 }
 
-/// Returns a port that types these key lines and replies this, and before it to a login if there
-/// is one.
+/// Returns a port that types these key lines and gives these replies, and before them one to a
+/// login if there is one.
 fn port_of(
     alloc: Global,
     keys: Vec<KeyLine>,
@@ -178,14 +178,14 @@ fn port_of(
     Ok(ScriptPort::typed(alloc, keys, replies))
 }
 
-// WHAT IS ASKED OF IT
+// THE REQUESTS
 
 fn put_account(told: &mut Told, word: &str, account: &Account) {
     told.count(word, u16::from(account.project));
     told.count(",", u16::from(account.programmer))
 }
 
-/// A reply as text.
+/// Writes a reply as text.
 fn put_reply(told: &mut Told, reply: &Reply) {
     match reply {
         Reply::Done => told.put("Done"),
@@ -200,7 +200,7 @@ fn put_reply(told: &mut Told, reply: &Reply) {
     }
 }
 
-/// A request as text.
+/// Writes a request as text.
 fn put_request(told: &mut Told, request: &Request) {
     match request {
         Request::Login { account, password } => {
@@ -233,7 +233,7 @@ fn put_request(told: &mut Told, request: &Request) {
     }
 }
 
-/// A request on messages or on the printer as text.
+/// Writes a request on messages or on the printer as text.
 fn put_message_request(told: &mut Told, request: &Request) {
     match request {
         Request::Declare { name, most } => {
@@ -255,7 +255,7 @@ fn put_message_request(told: &mut Told, request: &Request) {
     }
 }
 
-/// A request that is no more than a word, and any other as it stands in a history.
+/// Writes a request that is a single word, and any other one as it is in a history.
 fn put_word(told: &mut Told, request: &Request) {
     match request {
         Request::Logout => told.put("Logout"),
@@ -300,7 +300,7 @@ fn put_event(told: &mut Told, event: &Event) {
 
 // SESSIONS
 
-/// Whether these bytes are the text, with CR and LF where it has LF.
+/// Returns whether these bytes are the text, with CR and LF for each LF.
 fn is_shown(bytes: &[u8], text: &str) -> bool {
     let mut shown = bytes.iter();
     for byte in text.as_bytes() {
@@ -328,7 +328,8 @@ fn expect_screen(alloc: Global, port: &mut ScriptPort, wanted: &str) -> Result<(
     expect_shown(alloc, screen.bytes(), wanted)
 }
 
-/// Fails with what was shown or asked, unless the session over this port shows and asks this.
+/// Fails with what was shown or requested, unless the session over this port shows this and makes
+/// these requests.
 fn expect_session(
     alloc: Global,
     port: &mut ScriptPort,
@@ -354,7 +355,7 @@ fn key_lines(alloc: Global, lines: &[&str]) -> Result<Vec<KeyLine>, Fail> {
     Ok(keys)
 }
 
-/// The same over a port that answers so.
+/// Does the same over a port with these answers.
 pub(crate) fn expect_talk(
     alloc: Global,
     keys: &[&str],
@@ -381,7 +382,7 @@ fn expect_expiring(alloc: Global, row: &Expiring) -> Result<(), Fail> {
     )
 }
 
-/// The same for each of these.
+/// Does the same for each of these.
 pub(crate) fn expect_all_expiring(alloc: Global, rows: &[Expiring]) -> Result<(), Fail> {
     for row in rows {
         expect_expiring(alloc, row)?;
@@ -389,13 +390,13 @@ pub(crate) fn expect_all_expiring(alloc: Global, rows: &[Expiring]) -> Result<()
     Ok(())
 }
 
-/// The same for a line before the login, which asks nothing.
+/// Does the same for a line before the login, which makes no request.
 pub(crate) fn expect_of_visitor(alloc: Global, line: &str, shown: &str) -> Result<(), Fail> {
     let screen = joined(alloc, &[line, "\n", shown])?;
     expect_talk(alloc, &[line], &[], screen.as_str(), "")
 }
 
-/// The same for each of these lines by itself.
+/// Does the same for each of these lines by itself.
 pub(crate) fn expect_of_visitors(alloc: Global, rows: &[Row]) -> Result<(), Fail> {
     for (line, shown) in rows {
         expect_of_visitor(alloc, line, shown)?;
@@ -403,15 +404,15 @@ pub(crate) fn expect_of_visitors(alloc: Global, rows: &[Row]) -> Result<(), Fail
     Ok(())
 }
 
-/// What the login and the logout ask.
+/// The requests of the login and the logout.
 pub(crate) const NOTHING_BETWEEN: &str = "Login 100,5;DEMO Done\nLogout Done\n";
 
-/// The same for a line behind the login, which asks nothing.
+/// Does the same for a line after the login, which makes no request.
 pub(crate) fn expect_of_user(alloc: Global, line: &str, shown: &str) -> Result<(), Fail> {
     expect_of_lines(alloc, &[(line, shown)])
 }
 
-/// The same for each of these lines by itself.
+/// Does the same for each of these lines by itself.
 pub(crate) fn expect_of_users(alloc: Global, rows: &[Row]) -> Result<(), Fail> {
     for (line, shown) in rows {
         expect_of_user(alloc, line, shown)?;
@@ -419,7 +420,7 @@ pub(crate) fn expect_of_users(alloc: Global, rows: &[Row]) -> Result<(), Fail> {
     Ok(())
 }
 
-/// The same where all of them show one text.
+/// Does the same, if all of them show the same text.
 pub(crate) fn expect_of_each(alloc: Global, lines: &[&str], shown: &str) -> Result<(), Fail> {
     for line in lines {
         expect_of_user(alloc, line, shown)?;
@@ -427,7 +428,7 @@ pub(crate) fn expect_of_each(alloc: Global, lines: &[&str], shown: &str) -> Resu
     Ok(())
 }
 
-/// The same where LF and Ready stand behind what each of them shows.
+/// Does the same, if LF and Ready follow what each of them shows.
 pub(crate) fn expect_of_ready(alloc: Global, rows: &[Row]) -> Result<(), Fail> {
     for (line, text) in rows {
         let shown = joined(alloc, &[text, "\nReady\n"])?;
@@ -436,12 +437,12 @@ pub(crate) fn expect_of_ready(alloc: Global, rows: &[Row]) -> Result<(), Fail> {
     Ok(())
 }
 
-/// The same for lines behind the login one after another, which ask nothing.
+/// Does the same for lines after the login one after another, which make no request.
 pub(crate) fn expect_of_lines(alloc: Global, lines: &[(&str, &str)]) -> Result<(), Fail> {
     expect_of_files(alloc, lines, &[Answer::Done], "")
 }
 
-/// The same where the lines ask this, and the last answer is that to the logout.
+/// Does the same, if the lines make these requests, and the last answer is that to the logout.
 pub(crate) fn expect_of_files(
     alloc: Global,
     lines: &[(&str, &str)],
@@ -455,7 +456,7 @@ pub(crate) fn expect_of_files(
     expect_session(alloc, &mut port, screen.text(), log.text())
 }
 
-/// The same for each of these.
+/// Does the same for each of these.
 pub(crate) fn expect_talks(alloc: Global, talks: &[Talk]) -> Result<(), Fail> {
     for (lines, answers, asked) in talks {
         expect_of_files(alloc, lines, answers, asked)?;
@@ -463,7 +464,7 @@ pub(crate) fn expect_talks(alloc: Global, talks: &[Talk]) -> Result<(), Fail> {
     Ok(())
 }
 
-/// HELLO, and the lines behind it.
+/// Returns HELLO, and the lines after it.
 fn user_keys(alloc: Global, lines: &[(&str, &str)]) -> Result<Vec<KeyLine>, Fail> {
     let mut keys = Vec::new(alloc);
     push_key(alloc, &mut keys, HELLO)?;
@@ -473,7 +474,7 @@ fn user_keys(alloc: Global, lines: &[(&str, &str)]) -> Result<Vec<KeyLine>, Fail
     Ok(keys)
 }
 
-/// The screen of HELLO and of the lines behind it, to the end of the session.
+/// Returns the screen of HELLO and of the lines after it, to the end of the session.
 fn user_screen(alloc: Global, lines: &[(&str, &str)]) -> Told {
     let mut screen = Told::new(alloc);
     screen.put(HELLO);
@@ -487,7 +488,7 @@ fn user_screen(alloc: Global, lines: &[(&str, &str)]) -> Told {
     screen
 }
 
-/// What is asked, between a login and a logout.
+/// Returns the requests, between a login and a logout.
 fn user_log(alloc: Global, asked: &str) -> Told {
     let mut log = Told::new(alloc);
     log.put("Login 100,5;DEMO Done\n");

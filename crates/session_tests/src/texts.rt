@@ -1,4 +1,4 @@
-//! The text of a program: what is typed, and what is listed of it.
+//! The text of a program: what is typed, and what LIST shows of it.
 
 use crate::talks::{
     ILLEGAL_COMMAND, ILLEGAL_NAME, ILLEGAL_NUMBER, READY, Row, SYNTAX, expect_of_lines,

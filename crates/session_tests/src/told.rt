@@ -1,4 +1,4 @@
-//! A text that is told piece by piece.
+//! Text that is written piece by piece.
 
 use basic_values::NoMemory;
 use file_names::print;
@@ -7,7 +7,7 @@ use report_texts::{push_reply, push_request};
 use std::alloc::{AllocError, Global};
 use std::test::Fail;
 
-/// A text that grows until memory runs out: whoever puts something there need not ask each time.
+/// Text that grows until memory runs out, so that callers need not test each piece.
 #[derive(Drop)]
 pub(crate) struct Told {
     alloc: Global,
@@ -36,7 +36,7 @@ impl Told {
         }
     }
 
-    /// A word, and a number behind it.
+    /// Writes a word, and a number after it.
     pub(crate) fn count(&mut self, word: &str, number: u16) {
         self.put(word);
         let done = write!(self.text, "{number}");
@@ -47,7 +47,7 @@ impl Told {
         self.is_cut = self.is_cut || done.is_err();
     }
 
-    /// A word, the name of a file, and its code where it is given.
+    /// Writes a word, the name of a file, and its code if it is given.
     pub(crate) fn file(&mut self, word: &str, name: &FileName, code: Option<u8>) {
         self.put(word);
         let printed = print(name);
@@ -58,14 +58,14 @@ impl Told {
         }
     }
 
-    /// A request, as it stands in a history.
+    /// Writes a request, as it is in a history.
     pub(crate) fn request(&mut self, request: &Request) {
         let mut text = Vec::new(self.alloc);
         let done = push_request(&mut text, request);
         self.history_text(text.as_slice(), done)
     }
 
-    /// A reply, as it stands in a history.
+    /// Writes a reply, as it is in a history.
     pub(crate) fn reply(&mut self, reply: &Reply) {
         let mut text = Vec::new(self.alloc);
         let done = push_reply(&mut text, reply);
@@ -77,7 +77,7 @@ impl Told {
         self.is_cut = self.is_cut || done.is_err();
     }
 
-    /// The text, where it is whole.
+    /// Returns the text, if it is whole.
     pub(crate) fn whole(&self) -> Result<&str, Fail> {
         if self.is_cut {
             Err(Fail::from("no memory"))
@@ -86,7 +86,7 @@ impl Told {
         }
     }
 
-    /// The text as far as it came.
+    /// Returns the text as far as it was written.
     pub(crate) fn text(&self) -> &str {
         self.text.as_str()
     }
@@ -101,7 +101,7 @@ impl Told {
     }
 }
 
-/// These pieces one behind another.
+/// Returns these pieces one after another.
 pub(crate) fn joined(alloc: Global, pieces: &[&str]) -> Result<String, Fail> {
     let mut text = String::new(alloc);
     for piece in pieces {

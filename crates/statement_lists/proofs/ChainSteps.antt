@@ -110,7 +110,7 @@ either_follows ws place w named false e same begins f = nothing_stands ws place 
 
 -- ---- the whole statement
 
--- the string is followed by the line
+-- the line comes after the string
 text_leads : (n : ℕ) (ws : List Word) (from at behind : ℕ) (t : Tree)
     → ((m : ℕ) (f : Form) → Leads m m ws from at (TakeKey false keyword.Chain f) f)
     → ((g : Tree → Form) → Leads n n ws at behind (ExprOf want.Text g) (g t))

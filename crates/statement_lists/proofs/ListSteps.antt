@@ -32,7 +32,7 @@ adds_none ws from h room = λ n s items g e k vs. go (drop from ws) n s items g 
   go (Punctuation x ∷ ws) n s items g k vs h = refl
   go (t ∷ ws) n s items g k vs h = refl
 
--- if there is no room, a comma does not belong to the list
+-- if the list is full, a comma does not belong to it
 pub no_room : (ws : List Word) (from : ℕ) → AddsNone ws from false
 unfolding run
 no_room ws from = λ n s items g e k vs. go (drop from ws) n s items g k vs e where

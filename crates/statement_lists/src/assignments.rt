@@ -26,7 +26,7 @@ pub fn want_of(text: bool) -> Want
     if text { Want::Text } else { Want::Number }
 }
 
-/// Reads `=` and a value of the wanted kind.
+/// Reads `=` and a value of the expected kind.
 #[tactic(auto, using(statement_parts::proofs::Steps::leading))]
 fn assigned_value(
     alloc: Global,

@@ -2,10 +2,10 @@
 //! statements that are mainly lists: assignments and PRINT USING. CHAIN is here too, the only
 //! statement in which a number comes right after a string.
 //!
-//! Everything is made of the parts of `statement_parts`, and the contracts have the same shape:
-//! from the form, whatever is expected after it, the words up to the end lead to what is made of
-//! the value, or the machine stops at that word. The mutants of this crate change what is easy to
-//! get wrong in a list, since its proofs are small.
+//! Everything is made of the parts of `statement_parts`, and the contracts have the same shape.
+//! Whatever is expected after the form, the words up to the end lead from it to what is made of the
+//! value, or the machine stops at that word. The mutants of this crate change what is easy to get
+//! wrong in a list, since its proofs are small.
 #![tactic(auto)]
 
 mod assignments;

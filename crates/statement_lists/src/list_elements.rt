@@ -170,7 +170,7 @@ impl Element for FileShape {
     }
 }
 
-/// Names: of arrays where numbers are wanted, else of parameters.
+/// Names: of arrays if numbers are expected, else of parameters.
 impl Element for Name {
     ghost sequence = { names_wanted };
 

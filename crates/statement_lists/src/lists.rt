@@ -12,7 +12,7 @@ use basic_tree::{Series, Sign, Want};
 use statement_parts::Read;
 use std::alloc::Global;
 
-/// An element of a list. Only for targets and names does it matter which kind is wanted.
+/// An element of a list. Only for targets and names does it matter which kind is expected.
 pub trait Element: Sized + Drop {
     ghost sequence: { Want → Sequence };
 
@@ -36,7 +36,7 @@ pub trait Element: Sized + Drop {
             result };
 }
 
-/// Returns whether a comma and one more element are at a place, if the list has room for one.
+/// Returns whether a comma and one more element are at a place, if the list can take one more.
 #[tactic(auto, using(crate::proofs::ListSteps::commas))]
 fn adds_one(words: &Words<'_>, from: usize, room: bool) -> bool
     requires { from ≤ length words.now }

@@ -57,7 +57,7 @@ known : (m : Kind) → modifier_of (Key (key_as m)) ≡ Some (TakeKey true (key_
 known kind.If = refl
 known m = refl
 
--- the word of a modifier opens a level that ends with the statement
+-- the word of a modifier opens a nesting level that ends with the statement
 opened : (n : ℕ) (ws : List Word) (m : Kind) (k : List Symbol) (vs : Values) → run (suc n) (Key (key_as m) ∷ ws) (Modifiers ∷ k) vs ≡ run n ws (Go (modifier_form m) ∷ Do Modify ∷ Modifiers ∷ Close ∷ k) vs
 opened n ws m k vs = steps.run_modifier (suc n) (Key (key_as m)) ws (TakeKey true (key_as m) (modifier_form m)) k vs (known m) ∙ key_opened n (key_as m) (modifier_form m) ws (Do Modify ∷ Modifiers ∷ Close ∷ k) vs
 
@@ -65,7 +65,7 @@ too_deep : (key : _) (f : Form) (ws : List Word) (k : List Symbol) (vs : Values)
 unfolding run
 too_deep key f ws k vs = rw (key_is_same key) refl
 
--- no level is left for a modifier
+-- no nesting level is left for a modifier
 pub modifier_too_deep : (ws : List Word) (from : ℕ) (m : Kind) (s : StatementTree) → WordStands ws (Key (key_as m)) from → StopsModifying 0 ws from s (failure.TooDeep from)
 modifier_too_deep ws from m s h =
     λ halt e k vs.

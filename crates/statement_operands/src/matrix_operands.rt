@@ -13,7 +13,7 @@ use statement_parts::{
 };
 use std::alloc::Global;
 
-/// Reads, after TRN, an array in parentheses.
+/// Reads an array in parentheses after TRN.
 #[tactic(auto)]
 fn transposed(words: &Words<'_>, from: usize, levels: usize) -> Result<Read<MatrixValue>, Failure>
     requires { from ≤ length words.now }
@@ -56,7 +56,7 @@ fn scaled(
     })
 }
 
-/// Reads, after a first array, a sign and a second array, or nothing.
+/// Reads a sign and a second array after a first one, or nothing.
 #[tactic(auto)]
 fn pair(words: &Words<'_>, from: usize, first: Name) -> Result<Read<MatrixValue>, Failure>
     requires { from ≤ length words.now }

@@ -16,7 +16,7 @@ use Rattle.statement_parts.specs.ParsedForms.{Leads, Halts, named, fn_named, num
 pub some_halt : {x y : Halt} → Some x ≡ Some y → x ≡ y
 some_halt e = cc
 
--- if memory ran out, nothing is said of the machine
+-- if memory ran out, nothing is claimed of the machine
 pub no_memory_halts : (n : ℕ) (ws : List Word) (from : ℕ) (f : Form) → Halts n ws from f failure.NoMemory
 no_memory_halts n ws from f = λ halt e. absurd cc
 

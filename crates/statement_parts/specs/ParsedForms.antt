@@ -20,7 +20,7 @@ use Rattle.statement_parts.specs.declared.read.Read.{Read}
 use Rattle.statement_parts.specs.declared.literals.Literal.{Literal}
 use Rattle.statement_parts.specs.declared.literals.Literal.TheVariants as literal
 
--- where the machine stops at a failure; nothing is said if memory ran out
+-- where the machine stops at a failure; nothing is claimed if memory ran out
 abbrev pub halt_at : List Word → Failure → Option Halt
 halt_at ws failure.NoMemory = None
 halt_at ws (failure.Wrong place) = Some (Wrong (drop place ws))
@@ -40,7 +40,8 @@ Behind ws from end = (from < end) × (end ≤ length ws)
 abbrev pub From : List Word → ℕ → ℕ → Type 0
 From ws from end = (from ≤ end) × (end ≤ length ws)
 
--- the words up to the end lead from one form to another, and from this many levels to that many
+-- the words up to the end lead from one form to another, and from this many nesting levels to that
+-- many
 abbrev pub Leads : ℕ → ℕ → List Word → ℕ → ℕ → Form → Form → Type 0
 Leads n m ws from end f g = (k : List Symbol) (vs : Values) → run n (drop from ws) (Go f ∷ k) vs ≡ run m (drop end ws) (Go g ∷ k) vs
 
@@ -134,7 +135,7 @@ abbrev pub ItemAt : List Word → ℕ → Option (List ℕ) → Type 0
 ItemAt ws from (Some item) = WordStands ws (ItemOf item) from
 ItemAt ws from None = First is_item (drop from ws)
 
--- an opening parenthesis, which opens a level, or none
+-- an opening parenthesis, which opens a nesting level, or none
 abbrev pub IfOpens : ℕ → List Word → ℕ → Bool → Type 0
 IfOpens n ws from true = (0 < n) × (from < length ws) × ((f h : Form) → Leads n (n - 1) ws from (from + 1) (IfSign true sign.Opening f h) f)
 IfOpens n ws from false = (f h : Form) → Leads n n ws from from (IfSign true sign.Opening f h) h
@@ -145,7 +146,7 @@ OpensThere ws from = (n : ℕ) (f h : Form) → Leads n n ws from from (IfSign t
 
 -- ---- lists
 
--- after a comma there is one more element of a list, if the list has room for it
+-- after a comma there is one more element of a list, if the list can take it
 abbrev pub AddsOne : List Word → ℕ → Bool → Type 0
 AddsOne ws from room = (from < length ws) × ((n : ℕ) (s : Sequence) (items : List Item) (g : List Item → Form) → has_room s items ≡ room → Leads n n ws from (from + 1) (MoreOf s items g) (item_form s (λ item. MoreOf s (items ++ item ∷ []) g)))
 
@@ -177,7 +178,7 @@ abbrev pub StatesFrom : ℕ → List Word → ℕ → Form → Result (Read Stat
 StatesFrom n ws from f (Ok x) = From ws from x.end × Makes n ws from x.end f (Stated (statement_of x.value))
 StatesFrom n ws from f (Err e) = IsPlaced ws e × Halts n ws from f e
 
--- a part, which is followed by what is made of its value
+-- a part, and then what is made of its value
 abbrev pub Parts : {A G : Type 0} → ℕ → List Word → ℕ → (G → Form) → (A → G → Form) → Result (Read A) Failure → Type 0
 Parts n ws from part behind (Ok x) = Behind ws from x.end × ((g : _) → Leads n n ws from x.end (part g) (behind x.value g))
 Parts n ws from part behind (Err e) = IsPlaced ws e × ((g : _) → Halts n ws from (part g) e)
@@ -187,7 +188,7 @@ abbrev pub PartsFrom : {A G : Type 0} → ℕ → List Word → ℕ → (G → F
 PartsFrom n ws from part behind (Ok x) = From ws from x.end × ((g : _) → Leads n n ws from x.end (part g) (behind x.value g))
 PartsFrom n ws from part behind (Err e) = IsPlaced ws e × ((g : _) → Halts n ws from (part g) e)
 
--- a part that opens no level, with any number of levels left
+-- a part that opens no nesting level, with any number of nesting levels left
 abbrev pub FlatParts : {A G : Type 0} → List Word → ℕ → (G → Form) → (A → G → Form) → Result (Read A) Failure → Type 0
 FlatParts ws from part behind (Ok x) = Behind ws from x.end × ((n : ℕ) (g : _) → Leads n n ws from x.end (part g) (behind x.value g))
 FlatParts ws from part behind (Err e) = IsPlaced ws e × ((n : ℕ) (g : _) → Halts n ws from (part g) e)
@@ -199,12 +200,12 @@ FlatPartsFrom ws from part behind (Err e) = IsPlaced ws e × ((n : ℕ) (g : _) 
 
 -- ---- words and signs that are expected
 
--- a word or a sign that opens no level
+-- a word or a sign that opens no nesting level
 abbrev pub TakesWord : List Word → ℕ → (Form → Form) → Result ℕ Failure → Type 0
 TakesWord ws from part (Ok end) = Behind ws from end × ((n : ℕ) (f : Form) → Leads n n ws from end (part f) f)
 TakesWord ws from part (Err e) = IsPlaced ws e × ((n : ℕ) (f : Form) → Halts n ws from (part f) e)
 
--- an opening parenthesis, which opens a level
+-- an opening parenthesis, which opens a nesting level
 abbrev pub TakesOpening : ℕ → List Word → ℕ → Result ℕ Failure → Type 0
 TakesOpening n ws from (Ok end) = Behind ws from end × (0 < n) × ((f : Form) → Leads n (n - 1) ws from end (TakeSign true sign.Opening f) f)
 TakesOpening n ws from (Err e) = IsPlaced ws e × ((f : Form) → Halts n ws from (TakeSign true sign.Opening f) e)
@@ -214,7 +215,7 @@ abbrev pub MayOpen : ℕ → List Word → ℕ → Result Bool Failure → Type 
 MayOpen n ws from (Ok stands) = IfOpens n ws from stands
 MayOpen n ws from (Err e) = IsPlaced ws e × ((f h : Form) → Halts n ws from (IfSign true sign.Opening f h) e)
 
--- the closing parenthesis of a level
+-- the closing parenthesis of a nesting level
 abbrev pub TakesClosing : ℕ → List Word → ℕ → Result ℕ Failure → Type 0
 TakesClosing n ws from (Ok end) = Behind ws from end × ((f : Form) → Leads (n - 1) n ws from end (TakeClosing f) f)
 TakesClosing n ws from (Err e) = IsPlaced ws e × ((m : ℕ) (f : Form) → Halts m ws from (TakeClosing f) e)

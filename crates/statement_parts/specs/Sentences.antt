@@ -11,7 +11,7 @@ use Rattle.grammar_machine.specs.MachineSentences.{Sentence}
 use Rattle.statement_parts.specs.ParsedForms.{Behind, IsPlaced, Makes, Halts}
 use Rattle.statement_parts.specs.declared.read.Read.{Read}
 
--- the words up to the end are a statement of this form; nothing is said of an IF
+-- the words up to the end are a statement of this form; nothing is claimed of an IF
 abbrev pub MakesIn : ℕ → List Word → ℕ → ℕ → StatementTree → Form → sentences.Class → Type 0
 MakesIn n ws from end s f sentences.Choice = Unit {0}
 MakesIn n ws from end s f sentences.Head = Makes n ws from end f (Stated s)
@@ -22,7 +22,7 @@ abbrev pub MakesAs : ℕ → List Word → ℕ → ℕ → StatementTree → Opt
 MakesAs n ws from end s None = Unit {0}
 MakesAs n ws from end s (Some b) = MakesIn n ws from end s b.form b.class
 
--- the machine stops at a statement of this form; nothing is said of an IF
+-- the machine stops at a statement of this form; nothing is claimed of an IF
 abbrev pub HaltsIn : ℕ → List Word → ℕ → Failure → Form → sentences.Class → Type 0
 HaltsIn n ws from e f sentences.Choice = Unit {0}
 HaltsIn n ws from e f sentences.Head = Halts n ws from f e

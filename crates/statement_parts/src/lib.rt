@@ -1,10 +1,10 @@
 //! Reads the parts of statements at a place of a line's words: words and signs, expressions, names,
 //! literals, targets, items of DATA and ranges.
 //!
-//! The expressions are those of `basic_expr`. Each contract is an equation about the stack machine
-//! of `grammar_machine`: from the form of the part, whatever is expected after it, the words up to
-//! the end lead to what is made of the value, or the machine stops at that word. `statement_lists`
-//! reads lists of parts, and `statement_rows` reads whole statements.
+//! The expressions are those of `basic_expr`. Each contract is about the stack machine of
+//! `grammar_machine`. Whatever is expected after the form of the part, the words up to the end lead
+//! from it to what is made of the value, or the machine stops at that word. `statement_lists` reads
+//! lists of parts, and `statement_rows` reads whole statements.
 #![tactic(auto)]
 
 mod items;

@@ -89,7 +89,7 @@ fn within(limit: Literal, value: u16) -> bool
     }
 }
 
-/// Reads the name of a variable or an array of the wanted kind.
+/// Reads the name of a variable or an array of the expected kind.
 #[tactic(auto, using(crate::proofs::Parts::names))]
 pub fn name(words: &Words<'_>, from: usize, want: Want) -> Result<Read<Name>, Failure>
     requires { from ≤ length words.now }

@@ -60,7 +60,7 @@ pub fn take_sign(words: &Words<'_>, from: usize, sign: Sign) -> Result<usize, Fa
     Err(Failure::Wrong { place: from })
 }
 
-/// Reads an expression of the wanted kind.
+/// Reads an expression of the expected kind.
 #[tactic(auto, using(crate::proofs::Steps::expressions))]
 pub fn expression(
     alloc: Global,
@@ -111,7 +111,8 @@ pub fn if_opening(words: &Words<'_>, from: usize, levels: usize) -> Result<bool,
     Ok(false)
 }
 
-/// Returns whether an opening parenthesis is at a place. It is not taken, and opens no level yet.
+/// Returns whether an opening parenthesis is at a place. It is not taken, and opens no nesting
+/// level yet.
 #[tactic(auto, using(crate::proofs::Steps::words_at, crate::proofs::Parts::awaited))]
 pub fn opens_there(words: &Words<'_>, from: usize) -> bool
     requires { from ≤ length words.now }

@@ -22,7 +22,7 @@ pub fn target_text(target: &Target) -> bool
     }
 }
 
-/// Reads a variable or an array element of the wanted kind.
+/// Reads a variable or an array element of the expected kind.
 #[tactic(auto, using(crate::proofs::TargetSteps::targets))]
 pub fn target(
     alloc: Global,

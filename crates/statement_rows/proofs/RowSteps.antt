@@ -1,4 +1,4 @@
--- From the pieces of a row to the statement of its word.
+-- From the pieces of a table entry to the statement of its word.
 use Rattle.std.proofs.Common.{◌≡◌, ℕ, zero, suc, slice_index_or, ◌+◌, ◌≤◌, ◌<◌, List, [], ◌∷◌, length, drop, Option, Some, None, Result, Ok, Err, refl, sym, ap, subst, ◌∙◌, arith}
 use Rattle.basic_expr.specs.declared.failures.Failure.{Failure}
 use Rattle.basic_tree.specs.declared.tokens.Keyword.{Keyword}
@@ -19,7 +19,7 @@ use Rattle.statement_rows.specs.Slots.{PartTree, SlotTrees, nothing_read, added}
 use Rattle.statement_rows.specs.Pieces.{PieceAdded, Rowed, piece_form, row_form}
 use Rattle.statement_rows.specs.Rows.{row_of, statement_form}
 
--- ---- the pieces of a row, one after the other
+-- ---- the pieces of a table entry, one after another
 
 pub piece_next : (row : List Piece) (i : ℕ) (d : Piece) → i < length row → drop i row ≡ slice_index_or row i d ∷ drop (i + 1) row
 piece_next [] i d h = absurd (omega (arith, h))
@@ -71,7 +71,7 @@ pub ruleset reading = (row_begins, row_grows, row_halts, row_ends, no_memory_hal
 
 pub ruleset adding = (piece_added, no_memory_halts)
 
--- ---- the statement of a row is that of its first word
+-- ---- the statement of a table entry is that of its first word
 
 pub ruleset making = (run_made)
 
@@ -83,7 +83,7 @@ class_in (Some b) = b.class
 abbrev class_of : Keyword → sentences.Class
 class_of k = class_in (key_sentence k)
 
--- if a word has a row, the grammar's sentence of the word is that row
+-- if a word has a table entry, the grammar's sentence of the word is that entry
 abbrev IsSentence : Keyword → Option (List Piece) → Type 0
 IsSentence k None = k ≡ k
 IsSentence k (Some row) = key_sentence k ≡ Some (record { class = class_of k; form = statement_form k row })

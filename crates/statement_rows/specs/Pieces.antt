@@ -1,4 +1,4 @@
--- The machine's form of a piece and of a row, and the result of reading them.
+-- The machine's form of a piece and of a table entry, and the result of reading them.
 use Rattle.std.specs.Prelude.{ℕ, ◌≤◌, true, false, List, [], ◌∷◌, length, drop, Option, Some, None, option_map, Result, Ok, Err}
 use Rattle.basic_expr.specs.declared.failures.Failure.{Failure}
 use Rattle.basic_tree.specs.declared.tokens.Keyword.TheVariants as keyword
@@ -66,7 +66,7 @@ piece_form piece.Arrays f = list_form Arrays (λ items. f (Some (ArraysPart (nam
 piece_form piece.Shapes f = list_form Shapes (λ items. f (Some (ShapesPart (shapes_in items))))
 piece_form piece.FileShapes f = list_form FileShapes (λ items. f (Some (FileShapesPart (files_in items))))
 
--- the pieces of a row one after the other, and then what is made of all that they gave
+-- the pieces of a table entry one after another, and then what is made of all that they gave
 abbrev pub row_form : List Piece → SlotTrees → (SlotTrees → Form) → Form
 row_form [] read g = g read
 row_form (p ∷ ps) read g = piece_form p (λ v. row_form ps (added read v) g)
@@ -82,11 +82,11 @@ abbrev pub PieceAdded : ℕ → List Word → ℕ → Piece → SlotTrees → Sl
 PieceAdded n ws from p old new (Ok end) = From ws from end × ((g : SlotTrees → Form) → Leads n n ws from end (piece_form p (λ v. g (added old v))) (g new))
 PieceAdded n ws from p old new (Err e) = IsPlaced ws e × ((g : Option PartTree → Form) → Halts n ws from (piece_form p g) e)
 
--- what a row gives, or where the machine stops
+-- what a table entry gives, or where the machine stops
 abbrev pub RowRead : ℕ → List Word → ℕ → List Piece → Result (Read Slots) Failure → Type 0
 RowRead n ws from row r = PartsFrom n ws from (row_form row nothing_read) (λ x g. g (slots_of x)) r
 
--- this many pieces of a row were read, and gave this
+-- this many pieces of a table entry were read, and gave this
 pub record Rowed (n : ℕ) (ws : List Word) (from : ℕ) (row : List Piece) (read : SlotTrees) (count end : ℕ) : Type 0 where
   pub runs : (g : SlotTrees → Form) → Leads n n ws from end (row_form row nothing_read g) (row_form (drop count row) read g)
   pub after : from ≤ end

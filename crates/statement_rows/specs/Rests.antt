@@ -1,5 +1,5 @@
--- The rows after a first word, if the next word decides, and the statements that are built from
--- them.
+-- The table entries after a first word, if the next word decides, and the statements that are built
+-- from them.
 use Rattle.std.specs.Prelude.{ℕ, Bool, true, false, List, [], ◌∷◌}
 use Rattle.basic_tree.specs.declared.tokens.Keyword.TheVariants as keyword
 use Rattle.basic_tree.specs.declared.tokens.Sign.TheVariants as sign

@@ -1,5 +1,5 @@
--- The rows of statements by their first words: what follows the word, and the statement that is
--- built from it.
+-- The table entries of statements by their first words: what follows the word, and the statement
+-- that is built from it.
 use Rattle.std.specs.Prelude.{ℕ, Bool, true, false, List, [], ◌∷◌, Option, Some, None}
 use Rattle.basic_tree.specs.declared.tokens.Keyword.{Keyword}
 use Rattle.basic_tree.specs.declared.tokens.Keyword.TheVariants as keyword
@@ -14,7 +14,7 @@ use Rattle.statement_rows.specs.declared.piece.Piece.TheVariants as piece
 use Rattle.statement_rows.specs.Pieces.{row_form}
 use Rattle.statement_rows.specs.Slots.{SlotTrees, behind_first, first_option, first_tree, nothing_read}
 
--- what follows a word whose statement is a row
+-- what follows a word whose statement has a table entry
 abbrev pub row_of : Keyword → Option (List Piece)
 row_of keyword.For = Some (piece.Range ∷ [])
 row_of keyword.Next = Some (piece.Variable want.Number ∷ [])
@@ -92,6 +92,6 @@ built keyword.Stop s = Stop
 built keyword.Sleep s = Sleep (first_tree s.values)
 built other s = file_built other s
 
--- the form of a statement of such a word and its row
+-- the form of a statement of such a word and its table entry
 abbrev pub statement_form : Keyword → List Piece → Form
 statement_form k row = TakeKey false k (row_form row nothing_read (λ s. says (built k s)))

@@ -1,4 +1,4 @@
-//! The function that reads any row.
+//! The function that reads any table entry.
 
 ghost use Rattle.std.specs.Prelude.{◌≡◌, ℕ, [], ◌+◌, ◌<◌, ◌≤◌, length, option_map};
 ghost use Rattle.statement_rows.specs.Pieces.{PieceAdded, PieceRead, RowRead};
@@ -87,7 +87,7 @@ fn add_piece(
     }
 }
 
-/// Reads the pieces of a row from a place on.
+/// Reads the pieces of a table entry from a place on.
 #[tactic(auto, using(crate::proofs::RowSteps::reading))]
 pub fn row(
     alloc: Global,

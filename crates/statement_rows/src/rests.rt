@@ -40,7 +40,7 @@ pub enum Rest {
     MatLet,
 }
 
-/// Returns the row of such a rest.
+/// Returns the table entry of such a rest.
 fn rest_row(rest: Rest) -> &'static [Piece]
     ensures { result.now ≡ rest_row rest }
 {

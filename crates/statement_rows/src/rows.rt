@@ -1,4 +1,5 @@
-//! The rows of statements by their first words, and the statements that are built from them.
+//! The table entries of statements by their first words, and the statements that are built from
+//! them.
 
 ghost use Rattle.std.specs.Prelude.{◌≡◌, ◌≤◌, None, Some, length, map, option_map, MatchOption};
 ghost use Rattle.grammar_machine.specs.MachineSentences.{key_sentence};
@@ -58,7 +59,7 @@ const NAME: [Piece; 3] = [
     Piece::Value(Want::Text),
 ];
 
-/// Returns what follows the first word of a statement, if the statement is a row.
+/// Returns what follows the first word of a statement, if the statement has a table entry.
 pub fn row_of(key: Keyword) -> Option<&'static [Piece]>
     ensures { MatchOption result (row_of key ≡ None) (λ row. row_of key ≡ Some row.now) }
 {
@@ -203,7 +204,7 @@ fn opened(
     }
 }
 
-/// Reads the row after a word, and returns its statement.
+/// Reads the table entry of a word, and returns its statement.
 #[tactic(auto, using(crate::proofs::RowSteps::making))]
 fn stated(
     alloc: Global,
@@ -225,7 +226,7 @@ fn stated(
     Ok(Read { value, end })
 }
 
-/// Reads the statement of a word that has a row.
+/// Reads the statement of a word that has a table entry.
 #[tactic(auto, using(crate::proofs::RowSteps::rows))]
 pub fn by_row(
     alloc: Global,

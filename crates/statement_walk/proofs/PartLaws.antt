@@ -1,4 +1,5 @@
--- The parts of the walk are those of the definitions: its statements, its expressions, and as many FORs.
+-- The parts of the walk are those of the definitions: its statements, its expressions, and as many
+-- FORs.
 use Rattle.std.proofs.Common.{◌≡◌, ℕ, ◌+◌, List, [], ◌∷◌, ◌++◌, map, refl, sym, ap, ◌∙◌, arith, append_assoc}
 use Rattle.std.specs.Prelude.{Bool, true, false, ◌&&◌, Option, Some, None}
 use Rattle.std.specs.List.{flat_map, list_all}

@@ -21,7 +21,7 @@ module _ {S : Type 0} (after : S → StatementPart → S) where
   expressions_visited s [] = refl
   expressions_visited s (e ∷ es) = expressions_visited (after s (Expression e)) es
 
--- a loop: an element is followed by those after it
+-- a loop: an element, and then those after it
 module _ {T S : Type 0} (after : S → StatementPart → S) (view : List T → List Tree) (one : T → Tree) (each : (x : T) (xs : List T) → view (x ∷ xs) ≡ one x ∷ view xs) where
   next : (x : T) (xs : List T) (i : ℕ) → i < length xs → x ≡ get_or xs i x → drop i xs ≡ x ∷ drop (i + 1) xs
   next x xs i lt is = rw (add-one, drop-cons xs i x) (ap (λ (y : T). y ∷ drop (suc i) xs) (sym is))

@@ -6,7 +6,7 @@ ghost use Rattle.statement_walk.specs.Views.{part_seen};
 
 use basic_tree::{Expr, Statement, Target};
 
-/// A statement without others inside, or a line number that stands for a GOTO.
+/// A statement without others inside, or a line number that means a GOTO.
 #[derive(Clone, Copy)]
 pub enum Simple<'a> {
     Statement(&'a Statement),

@@ -12,7 +12,7 @@ abbrev pub is_return : ℕ → Bool
 is_return byte = byte == 13
 
 -- the column after one more byte: CR sets it to 0, a control byte does not change it, and the
--- greatest column stays
+-- largest column stays
 abbrev pub column_behind : ℕ → ℕ → ℕ
 column_behind column byte =
     if is_return byte then 0
@@ -39,6 +39,6 @@ tab_text (negsuc n) column = []
 abbrev pub fresh_text : ℕ → List ℕ
 fresh_text column = if column == 0 then [] else codes "\r\n"
 
--- the screen after a text that begins at the start of a line
+-- the screen after bytes that begin at the start of a line
 abbrev pub on_fresh_line : List ℕ → List ℕ → List ℕ
 on_fresh_line text screen = screen ++ fresh_text (column_of screen) ++ text

@@ -4,7 +4,7 @@ ghost use Rattle.std.specs.Prelude.{◌≡◌};
 ghost use Rattle.std.specs.List.{fold};
 ghost use Rattle.terminal_line.specs.Columns.{column_behind};
 
-/// The greatest column. A line may be longer, but its column stays there.
+/// The largest column. A line may be longer, but its column stays there.
 pub const MOST_COLUMN: u32 = 32767;
 
 /// The number of columns of a print zone.

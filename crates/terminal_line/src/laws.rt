@@ -2,17 +2,18 @@
 
 ghost use Rattle.terminal_line.specs.Laws.{ColumnCounts, TabsReach, ZonesReach};
 
-/// The column is the number of printed bytes after the last CR, up to the greatest column.
+/// States that the column is the number of printed bytes after the last CR, up to the largest
+/// column.
 pub fn column_counts()
     ensures { ColumnCounts }
 {}
 
-/// After TAB the column is the wanted one if it was less, and otherwise as it was.
+/// States that after TAB the column is the given one if it was less, and otherwise as it was.
 pub fn tabs_reach()
     ensures { TabsReach }
 {}
 
-/// After a comma the column is the next one at which a zone begins.
+/// States that after a comma the column is the next one at which a zone begins.
 pub fn zones_reach()
     ensures { ZonesReach }
 {}

@@ -83,8 +83,8 @@ impl Screen {
         self.write_spaces(u32::from(wanted).saturating_sub(self.column))
     }
 
-    /// Writes a text at the start of a line: CR and LF come first, unless the column is 0. If
-    /// memory runs out, the screen is as it was.
+    /// Writes bytes at the start of a line: CR and LF come first, unless the column is 0. If memory
+    /// runs out, the screen is as it was.
     pub fn begin_line(&mut self, text: &[u8]) -> Result<(), NoMemory>
         ensures written { OnOk result (self.new ≡ on_fresh_line text.now self.old) }
         ensures refused { OnErr result (self.new ≡ self.old) }

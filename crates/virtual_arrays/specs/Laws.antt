@@ -14,7 +14,7 @@ pub record IsDeclared (shape : VirtualShape) : Type 0 where
   pub in_front : ℕ
   pub begins : shape.start ≡ shape.size * in_front
 
--- a part of one block of the greatest file
+-- a part of one block of the largest file
 pub record IsPlace (place : Place) : Type 0 where
   pub first : 1 ≤ place.block
   pub last : place.block ≤ MOST_BLOCKS

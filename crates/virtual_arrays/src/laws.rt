@@ -2,7 +2,7 @@
 
 ghost use Rattle.virtual_arrays.specs.Laws.{ElementsLieInBlocks};
 
-/// Each element of an array that a DIM # declares is in one block of its file.
+/// States that each element of an array that a DIM # declares is in one block of its file.
 pub fn elements_lie_in_blocks()
     ensures { ElementsLieInBlocks }
 {}

@@ -1,4 +1,4 @@
-//! CLOSE, and the quiet closing.
+//! CLOSE, and the implicit close.
 
 use crate::channel_stories::jobs::{OPEN_1, Step, expect_stories};
 use std::test::Fail;
@@ -7,7 +7,7 @@ use std::test::Fail;
 const OPEN_12: Step = "open 12 fresh false 60 2 | opened | fresh 12 false 60; ok";
 
 static STORIES: [&[Step]; 4] = [
-    // In rising order, each with what waits on it; refusals are ignored.
+    // In increasing order, each with its pending bytes; refusals are ignored.
     &[
         OPEN_12,
         OPEN_1,
@@ -19,7 +19,7 @@ static STORIES: [&[Step]; 4] = [
         "tell 12 |  | has 1 0 0 0 -1 1 512",
         "close_all |  | ok",
     ],
-    // The end of the calls ends it.
+    // It stops if the job's calls are used up.
     &[
         OPEN_1,
         OPEN_12,
@@ -34,7 +34,7 @@ static STORIES: [&[Step]; 4] = [
         "shut 1 | failed 4 failed 10 | put 1 1 65 1 1; close 1; closed 1",
         "shut 1 |  | none",
     ],
-    // A CLOSE that is refused leaves the channel open, and what waits still waits.
+    // A CLOSE that fails leaves the channel open, and its bytes still pending.
     &[
         OPEN_1,
         "text 1 AB |  | ok",

@@ -1,4 +1,4 @@
-//! Elements of virtual arrays: where they stand, what is asked for them, and what they hold.
+//! Elements of virtual arrays: their places, the requests for them, and their values.
 
 use crate::channel_stories::jobs::{Job, OPEN_1, Step, expect_stories};
 use crate::channel_stories::report::Report;
@@ -8,14 +8,14 @@ use basic_values::{Int, Stop, Text};
 use std::test::Fail;
 use virtual_arrays::{Element, VirtualShape, read, write};
 
-/// The array of that name, of the file on a channel.
+/// Returns the array of that name, of the file on a channel.
 fn shape_of(name: &str, channel: i16) -> VirtualShape {
     match name {
         // `DIM #1%, A%(300%)`.
         "numbers" => shape(false, channel, (300, None), 0, 2),
         // `DIM #1%, A%(1%,255%)`, whose second row begins a block.
         "table" => shape(false, channel, (1, Some(255)), 0, 2),
-        // `DIM #1%, B%(7%), A$(3%)`: of 16 bytes, behind the numbers.
+        // `DIM #1%, B%(7%), A$(3%)`: of 16 bytes, after the numbers.
         "texts" => shape(true, channel, (3, None), 16, 16),
         // `DIM #1%, A$(32766%)=512%`: 32,767 blocks.
         _ => shape(true, channel, (32766, None), 0, 512),
@@ -44,7 +44,7 @@ fn shape(
 }
 
 static STORIES: [&[Step]; 6] = [
-    // Numbers over two blocks: the low byte stands first, and a block past the end of the file
+    // Numbers over two blocks: the low byte comes first, and a block past the end of the file
     // begins as zeros.
     &[
         OPEN_1,
@@ -78,7 +78,7 @@ static STORIES: [&[Step]; 6] = [
         "fetch numbers 1 301 - |  | fault 55",
         "store numbers 1 -1 - 7 |  | fault 55",
     ],
-    // Texts are cut, or have zeros behind them; of these the last ones are cut on reading.
+    // Strings are cut, or have zeros after them; zeros at the end are cut on reading.
     &[
         OPEN_1,
         "store_text texts 1 0 - AB\0C\0\0 | block 01234567890123456789012345678901PQRS \
@@ -96,7 +96,7 @@ static STORIES: [&[Step]; 6] = [
         "fetch texts 1 4 - |  | fault 55",
         "close 1 | done done | put 1 1 48 20 19; close 1; closed 1",
     ],
-    // A block is an element, as far as the greatest file.
+    // A block is an element, as far as the largest file.
     &[
         OPEN_1,
         "store_text blocks 1 1 - AB\0C\0 | failed 11 | get 1 2; ok",
@@ -110,7 +110,8 @@ static STORIES: [&[Step]; 6] = [
         "fetch blocks 1 0 - | failed 19 | get 1 1; fault 19",
         "fetch blocks 1 0 - | expired | get 1 1; expired",
     ],
-    // A channel that is none, that is not open, or that has larger records, and then the place.
+    // A channel that does not exist, that is not open, or that has larger records, and then the
+    // place.
     &[
         "open 2 either true - 2 | opened | either 2 true 99; ok",
         "fetch numbers 0 301 - |  | fault 46",
@@ -120,7 +121,7 @@ static STORIES: [&[Step]; 6] = [
         "fetch numbers 2 301 - |  | fault 31",
         "store numbers 2 0 - 7 |  | fault 31",
     ],
-    // What waits is written first, and LSET into the window makes it no dirtier.
+    // Pending bytes are written first, and LSET into the window makes it no dirtier.
     &[
         OPEN_1,
         "text 1 AB |  | ok",
@@ -206,7 +207,7 @@ fn store_text(job: &mut Job, place: &Place, bytes: &[u8], end: &mut Report) {
     }
 }
 
-/// Does what is done on an element, and tells how it ended.
+/// Does a step on an element, and reports how it ended.
 pub(crate) fn access(job: &mut Job, word: &str, words: &mut Words, end: &mut Report) {
     let place = place_of(words);
     match word {

@@ -11,11 +11,11 @@ use record_fields::{Buffers, RecordSize};
 use std::alloc::Global;
 use std::test::Fail;
 
-/// A step in words: what is done, the replies to it, and what comes of it, the requests and the
+/// A step in words: what is done, the replies to it, and the result, which is the requests and the
 /// end.
 pub(crate) type Step = &'static str;
 
-/// Update, for records of one block, of a file that may be there.
+/// Update, for records of one block, of a file that may exist.
 pub(crate) const OPEN_1: Step = "open 1 either true - 1 | opened | either 1 true 99; ok";
 
 #[derive(Drop)]
@@ -90,7 +90,7 @@ fn size_of(blocks: i16) -> RecordSize {
     }
 }
 
-/// OPEN of a channel: what `to_open` says of it, and the opening.
+/// Opens a channel, with the answer of `to_open` first.
 fn open(job: &mut Job, words: &mut Words, end: &mut Report) {
     let number = Int::new(words.number());
     let opening = opening_of(words);
@@ -118,8 +118,8 @@ fn opened(job: &mut Job, channel: u8, opening: Opening) -> Result<(), Stop> {
     )
 }
 
-/// What is known of a channel: next, recount, unread bytes, RECOUNT, column, blocks, bytes of the
-/// buffer.
+/// Reports what is known of a channel: next, recount, unread bytes, RECOUNT, column, blocks, bytes
+/// of the buffer.
 fn tell(job: &Job, channel: u8, end: &mut Report) {
     if !(1..=12).contains(&channel) {
         return end.push("no channel");
@@ -146,7 +146,7 @@ fn column_of(job: &Job, channel: u8) -> i32 {
     }
 }
 
-/// The byte at a place of a channel's buffer.
+/// Reports the byte at a place of a channel's buffer.
 fn tell_byte(job: &Job, channel: u8, place: u16, end: &mut Report) {
     if !(1..=12).contains(&channel) {
         return end.push("no channel");
@@ -171,7 +171,7 @@ fn write(job: &mut Job, channel: i16, bytes: &[u8], end: &mut Report) {
     )
 }
 
-/// So many of a byte are written.
+/// Writes a byte many times.
 fn write_run(job: &mut Job, words: &mut Words, end: &mut Report) {
     let (channel, byte, count) = (words.number(), words.byte(), words.count());
     match vec![in job.alloc; byte; count as usize] {
@@ -233,7 +233,7 @@ fn put(job: &mut Job, channel: Int, block: Int, end: &mut Report) {
     end.done(job.channels.put(job.alloc, buffers, port, channel, block))
 }
 
-/// Does what is done in a step, and tells how it ended.
+/// Does a step, and reports how it ended.
 fn call(job: &mut Job, words: &mut Words, end: &mut Report) {
     match words.word() {
         "open" => open(job, words, end),
@@ -252,7 +252,7 @@ fn call(job: &mut Job, words: &mut Words, end: &mut Report) {
     }
 }
 
-/// Does what is done on records, or on an element.
+/// Does a step on records, or on an element.
 fn record(job: &mut Job, word: &str, words: &mut Words, end: &mut Report) {
     match word {
         "get" => get(job, int(words), int(words), end),
@@ -268,7 +268,7 @@ fn int(words: &mut Words) -> Int {
     Int::new(words.number())
 }
 
-/// How a step ended.
+/// Returns how a step ended.
 fn end_of(job: &mut Job, done: &'static str) -> Report {
     let mut end = Report::new(job.alloc);
     let mut words = Words::of(done);
@@ -279,7 +279,7 @@ fn end_of(job: &mut Job, done: &'static str) -> Report {
     end
 }
 
-/// What comes of a step: what is asked, and the end.
+/// Returns the result of a step: the requests, and the end.
 fn told_of(job: &mut Job, done: &'static str) -> String {
     let before = job.port.log().len();
     let end = end_of(job, done);
@@ -289,7 +289,7 @@ fn told_of(job: &mut Job, done: &'static str) -> String {
     told.into_text()
 }
 
-/// Fails with what came of a step where another thing is wanted.
+/// Fails with the result of a step, if another one is expected.
 fn expect_step(job: &mut Job, step: Step) -> Result<(), Fail> {
     let (done, _, wanted) = parts_of(step);
     let told = told_of(job, done);
@@ -312,7 +312,7 @@ fn expect_story(alloc: Global, steps: &[Step]) -> Result<(), Fail> {
     expect_steps(&mut job, steps)
 }
 
-/// Fails unless each story is as it is told.
+/// Fails unless each step of each story has its result.
 pub(crate) fn expect_stories(alloc: Global, stories: &[&[Step]]) -> Result<(), Fail> {
     for steps in stories {
         expect_story(alloc, steps)?;

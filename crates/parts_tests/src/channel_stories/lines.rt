@@ -4,7 +4,7 @@ use crate::channel_stories::jobs::{OPEN_1, Step, expect_stories};
 use std::test::Fail;
 
 static SHORT: [&[Step]; 6] = [
-    // Zeros are skipped wherever they stand, and a return in front of the line feed is dropped.
+    // Zeros are skipped wherever they are, and a return before the line feed is dropped.
     &[
         OPEN_1,
         "read 1 | block AB\r\n\0C\0\0D\n\r\r\n\nE\rF\n | get 1 1; line 'AB'",
@@ -16,7 +16,7 @@ static SHORT: [&[Step]; 6] = [
         "tell 1 |  | has 2 0 0 0 0 1 512",
         "read 1 | block G\n | get 1 2; line 'G'",
     ],
-    // At the end of the file what was taken is the line, with its return.
+    // At the end of the file the bytes that were taken are the line, with its return.
     &[
         OPEN_1,
         "read 1 | block AB\r failed 11 | get 1 1; get 1 2; line 'AB\r'",
@@ -30,7 +30,7 @@ static SHORT: [&[Step]; 6] = [
         "tell 1 |  | has 3 0 509 0 0 1 512",
         "read 1 |  | line 'D'",
     ],
-    // A reading that is refused in the middle of a line: what was taken is gone.
+    // A read that fails in the middle of a line: what was taken is gone.
     &[
         OPEN_1,
         "read 1 | blocks 65 2 failed 19 | get 1 1; get 1 2; get 1 3; fault 19",
@@ -50,7 +50,7 @@ static SHORT: [&[Step]; 6] = [
         "text 1 F |  | ok",
         "read 1 | done block G\n | put 1 9 70 1 1; get 1 10; line 'G'",
     ],
-    // Of a record that was read in part the pages that there were are unread.
+    // After a record that was read in part, its existing pages are unread.
     &[
         "open 1 input false - 2 | opened | input 1 false 99; ok",
         "read 1 | record AB record \n | get 1 1 2; get 1 3 2; line 1024 65 66",
@@ -79,14 +79,14 @@ static LONG: [&[Step]; 6] = [
         OPEN_1,
         "read 1 | blocks 65 63 ended 66 509 \r\nC | get 1 1 to get 1 64, 64; line 32765 65 66",
     ],
-    // 32,766 bytes are too many, and those behind the line feed are the next line.
+    // 32,766 bytes are too many, and those after the line feed are the next line.
     &[
         OPEN_1,
         "read 1 | blocks 65 63 ended 66 510 \nC | get 1 1 to get 1 64, 64; fault 50",
         "tell 1 |  | has 65 0 1 0 0 1 512",
         "read 1 | block D\n | get 1 65; line 'CD'",
     ],
-    // 32,767 bytes without a line feed are gone, and the next line begins behind them.
+    // 32,767 bytes without a line feed are gone, and the next line begins after them.
     &[
         OPEN_1,
         "read 1 | blocks 65 63 ended 66 511 \n | get 1 1 to get 1 64, 64; fault 50",

@@ -26,7 +26,7 @@ static STORIES: [&[Step]; 4] = [
         "put 2 9 | failed 4 | put 2 9 67 512 512 0 0 0; fault 4",
         "tell 2 |  | has 6 512 0 512 0 2 1024",
     ],
-    // A refused GET leaves the buffer, the counts and what is next.
+    // A GET that fails leaves the buffer, the counts and what is next.
     &[
         OPEN_1,
         "get 1 4 | block AB | get 1 4; ok",
@@ -39,7 +39,7 @@ static STORIES: [&[Step]; 4] = [
         "byte 1 1 |  | byte 0",
         "tell 1 |  | has 1 0 0 512 -1 1 512",
     ],
-    // Three blocks, to the end of the greatest disk and no further.
+    // Three blocks, to the end of the largest disk and no further.
     &[
         OPEN_3,
         "get 3 16382 | record ABC | get 3 16382 3; ok",

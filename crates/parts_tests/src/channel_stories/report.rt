@@ -1,11 +1,11 @@
-//! What comes of a step, as text.
+//! The result of a step, as text.
 
 use basic_values::{Stop, Text};
 use monitor_calls::{Event, OpenKind, Page, Request};
 use report_texts::push_request;
 use std::alloc::Global;
 
-/// A text that grows piece by piece. Without memory for a piece it is another text.
+/// Text that grows piece by piece. If there is no memory for a piece, the text is wrong.
 #[derive(Drop)]
 pub(crate) struct Report {
     alloc: Global,
@@ -38,7 +38,7 @@ impl Report {
         }
     }
 
-    /// A word, and numbers behind it.
+    /// Writes a word, and numbers after it.
     pub(crate) fn tell(&mut self, word: &str, numbers: &[i32]) {
         self.push(word);
         for number in numbers {
@@ -71,7 +71,7 @@ impl Report {
         }
     }
 
-    /// The bytes of a line, where they are few; else how many, the first and the last.
+    /// Writes the bytes of a line, if they are few; else how many, the first and the last.
     pub(crate) fn line(&mut self, bytes: &[u8]) {
         match bytes {
             [first, .., last] if bytes.len() > 20 => self.tell(
@@ -82,7 +82,7 @@ impl Report {
         }
     }
 
-    // A text is borrowed here and not in the element that held it.
+    // Writes a line. The string is borrowed here and not in its element.
     pub(crate) fn text(&mut self, text: Text) {
         self.whole_line(text.as_bytes())
     }
@@ -177,7 +177,7 @@ impl Report {
         }
     }
 
-    /// A request as it stands in a history.
+    /// Writes a request as it is in a history.
     fn history_text(&mut self, request: &Request) {
         let mut text = Vec::new(self.alloc);
         let _ = push_request(&mut text, request);
@@ -196,8 +196,8 @@ impl Report {
         }
     }
 
-    /// The first byte of a page, where its last byte stands that is no zero, and how many such it
-    /// has.
+    /// Writes the first byte of a page, the place of its last byte that is not zero, and how many
+    /// such it has.
     fn page(&mut self, page: &Page) {
         let (mut place, mut last, mut written) = (0i32, 0, 0i32);
         for byte in page.as_bytes() {
@@ -211,7 +211,7 @@ impl Report {
     }
 }
 
-/// How many, as far as that is told.
+/// Returns how many, as a number to be written, or -1.
 pub(crate) fn size(count: usize) -> i32 {
     i32::try_from(count).unwrap_or(-1)
 }

@@ -1,10 +1,10 @@
-//! What each call asks, and what is refused before anything is asked.
+//! The requests of each call, and its errors before a request.
 
 use crate::channel_stories::jobs::{OPEN_1, Step, expect_stories};
 use std::test::Fail;
 
 static STORIES: [&[Step]; 5] = [
-    // Kinds, update and code of an opening are handed on.
+    // Kinds, update and code of an opening are passed on.
     &[
         "open 1 input false - 1 | opened | input 1 false 99; ok",
         "open 12 output true 40 3 | opened | output 12 true 40; ok",
@@ -12,7 +12,8 @@ static STORIES: [&[Step]; 5] = [
         "tell 12 |  | has 1 0 0 0 0 3 1536",
         "tell 2 |  | has 1 0 0 0 -1 1 512",
     ],
-    // Which number is a channel, and whether it is open, is judged first; then a negative RECORD.
+    // The first tests are which number is a channel, and whether it is open; then comes a negative
+    // RECORD.
     &[
         "get 0 -1 |  | fault 46",
         "put 13 -1 |  | fault 46",
@@ -29,7 +30,7 @@ static STORIES: [&[Step]; 5] = [
         "get 1 -1 |  | fault 31",
         "put 1 -32768 |  | fault 31",
     ],
-    // A channel that is open is opened no second time; one that was refused has a blank buffer.
+    // An open channel is not opened again; one whose opening failed has a blank buffer.
     &[
         OPEN_1,
         "open 1 either true - 1 |  | fault 7",
@@ -51,7 +52,7 @@ static STORIES: [&[Step]; 5] = [
         "close 1 | done | close 1; closed 1",
         "close 1 |  | none",
     ],
-    // What is no reply to a request ends the job.
+    // A reply that does not fit the request ends the job.
     &[
         OPEN_1,
         "get 1 1 | done | get 1 1; expired",

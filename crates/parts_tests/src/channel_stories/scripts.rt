@@ -7,7 +7,7 @@ use record_fields::fill;
 use std::alloc::Global;
 use std::test::Fail;
 
-/// A page that begins with these bytes, with zeros behind them.
+/// Returns a page that begins with these bytes, with zeros after them.
 fn page_with(alloc: Global, bytes: &[u8]) -> Result<Page, Fail> {
     let mut whole = [0u8; 512];
     fill(&mut whole, bytes);
@@ -20,7 +20,7 @@ fn page_of(alloc: Global, byte: u8) -> Result<Page, Fail> {
     page_with(alloc, &[byte; 512])
 }
 
-/// A page of so many of a byte, and these bytes behind them.
+/// Returns a page with a byte many times, and these bytes after them.
 fn page_ended(alloc: Global, byte: u8, count: u16, end: &[u8]) -> Result<Page, Fail> {
     let mut bytes = Vec::new(alloc);
     bytes.resize(count as usize, byte)?;
@@ -28,7 +28,7 @@ fn page_ended(alloc: Global, byte: u8, count: u16, end: &[u8]) -> Result<Page, F
     page_with(alloc, bytes.as_slice())
 }
 
-/// For each of these bytes a page that is full of it.
+/// Returns, for each of these bytes, a page that is full of it.
 fn pages_of(alloc: Global, bytes: &[u8]) -> Result<Series<Page>, Fail> {
     let mut pages = Vec::new(alloc);
     for byte in bytes {
@@ -37,7 +37,7 @@ fn pages_of(alloc: Global, bytes: &[u8]) -> Result<Series<Page>, Fail> {
     Ok(Series::from_vec(pages))
 }
 
-/// So many blocks, each full of a byte.
+/// Adds this many blocks, each full of a byte.
 fn push_blocks(alloc: Global, replies: &mut Vec<Reply>, byte: u8, count: u16) -> Result<(), Fail> {
     for _ in 0..count {
         replies.push(Reply::Block(page_of(alloc, byte)?))?;
@@ -53,7 +53,7 @@ fn opened() -> Reply {
     }
 }
 
-/// A block of so many of a byte, and the bytes of a word behind them.
+/// Returns a block with a byte many times, and the bytes of a word after them.
 fn ended(alloc: Global, words: &mut Words) -> Result<Page, Fail> {
     let (byte, count) = (words.byte(), words.count());
     page_ended(alloc, byte, count, words.word().as_bytes())
@@ -95,7 +95,7 @@ fn push_all(alloc: Global, replies: &mut Vec<Reply>, told: &'static str) -> Resu
     Err("no replies")?
 }
 
-/// The replies of a whole story.
+/// Returns the replies of a whole story.
 pub(crate) fn replies_of(alloc: Global, steps: &[&'static str]) -> Result<Vec<Reply>, Fail> {
     let mut replies = Vec::new(alloc);
     for step in steps {
@@ -104,7 +104,7 @@ pub(crate) fn replies_of(alloc: Global, steps: &[&'static str]) -> Result<Vec<Re
     Ok(replies)
 }
 
-/// What is done in a step, the replies to it, and what comes of it. A step without them is nothing.
+/// Returns what is done in a step, the replies to it, and its result. A step without them is empty.
 pub(crate) fn parts_of(step: &'static str) -> (&'static str, &'static str, &'static str) {
     let Some((call, behind)) = step.split_once(" | ") else {
         return ("", "", "");

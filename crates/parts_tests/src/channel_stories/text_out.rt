@@ -1,10 +1,10 @@
-//! Bytes that PRINT # gathers, and when they are written.
+//! Bytes that PRINT # collects, and when they are written.
 
 use crate::channel_stories::jobs::{OPEN_1, Step, expect_stories};
 use std::test::Fail;
 
 static STORIES: [&[Step]; 6] = [
-    // The 512th byte is followed by a Put; the rest waits, and is written with zeros behind it.
+    // A Put follows the 512th byte; the rest waits, and is written with zeros after it.
     &[
         OPEN_1,
         "write 1 65 511 |  | ok",
@@ -13,7 +13,7 @@ static STORIES: [&[Step]; 6] = [
         "tell 1 |  | has 4 0 0 0 1624 1 512",
         "close 1 | done done | put 1 4 66 88 88; close 1; closed 1",
     ],
-    // A Put that is refused: its bytes wait, the rest is not gathered, and the Put is asked again.
+    // A Put that fails: its bytes wait, the rest is not collected, and the Put is requested again.
     &[
         OPEN_1,
         "write 1 65 600 | failed 4 | put 1 1 65 512 512; fault 4",
@@ -25,7 +25,7 @@ static STORIES: [&[Step]; 6] = [
         "tell 1 |  | has 2 0 0 0 514 1 512",
         "close 1 | done done | put 1 2 66 2 2; close 1; closed 1",
     ],
-    // With larger records it is the 1,024th byte, and the 1,536th.
+    // With larger records it follows the 1,024th byte, and the 1,536th.
     &[
         "open 1 either true - 2 | opened | either 1 true 99; ok",
         "write 1 65 1023 |  | ok",
@@ -40,7 +40,7 @@ static STORIES: [&[Step]; 6] = [
         "write 1 66 1 | done | put 1 1 65 512 512 65 512 512 65 512 512; ok",
         "tell 1 |  | has 4 0 0 0 1537 3 1536",
     ],
-    // GET, PUT and INPUT # first write what is gathered, and do not go on where that is refused.
+    // GET, PUT and INPUT # first write what is collected, and stop if that fails.
     &[
         OPEN_1,
         "text 1 AB |  | ok",
@@ -55,7 +55,7 @@ static STORIES: [&[Step]; 6] = [
         "text 1 F |  | ok",
         "read 1 | done block G\n | put 1 5 70 1 1; get 1 6; line 'G'",
     ],
-    // The column is that of the bytes that were gathered.
+    // The column is that of the bytes that were collected.
     &[
         OPEN_1,
         "text 1 ABC\r\nDE\x07 |  | ok",

@@ -4,7 +4,8 @@ use crate::channel_stories::jobs::{OPEN_1, Step, expect_stories};
 use std::test::Fail;
 
 static STORIES: [&[Step]; 5] = [
-    // The block that is the window already asks nothing; another one is read behind what waits.
+    // The block that is already the window makes no request; another one is read after pending
+    // bytes are written.
     &[
         OPEN_1,
         "window 1 2 false | block AB | get 1 2; ok",
@@ -16,7 +17,7 @@ static STORIES: [&[Step]; 5] = [
         "tell 1 |  | has 1 0 0 0 0 1 512",
         "close 1 | done done | put 1 2 69 2 2; close 1; closed 1",
     ],
-    // A dirty window is put before all else, and stays dirty where that is refused.
+    // A dirty window is put before all else, and stays dirty if that fails.
     &[
         OPEN_1,
         "window 1 2 true | failed 11 | get 1 2; ok",
@@ -29,7 +30,7 @@ static STORIES: [&[Step]; 5] = [
         "close 1 | failed 4 | put 1 2 65 1 1; fault 4",
         "window 1 3 false |  | put 1 2 65 1 1; expired",
     ],
-    // Put once it is clean, and a writing of no bytes leaves it the window.
+    // Once put, it is clean, and a write of no bytes leaves it the window.
     &[
         OPEN_1,
         "window 1 2 true | block A | get 1 2; ok",
@@ -45,8 +46,8 @@ static STORIES: [&[Step]; 5] = [
         "window 1 9 true | block F | get 1 9; ok",
         "read 1 | done block G\n | put 1 9 70 1 1; get 1 4; line 'G'",
     ],
-    // Past the end of the file a reading is refused, and a writing gets zeros; a refusal leaves the
-    // window as it was.
+    // Past the end of the file a read fails, and a write gets zeros; a refusal leaves the window as
+    // it was.
     &[
         OPEN_1,
         "window 1 2 false | block AB | get 1 2; ok",
@@ -58,7 +59,7 @@ static STORIES: [&[Step]; 5] = [
         "byte 1 1 |  | byte 0",
         "window 1 16384 true | done failed 11 | put 1 9 0 0 0; get 1 16384; ok",
     ],
-    // A refused window leaves the unread bytes, and a new one leaves none.
+    // A window that fails leaves the unread bytes, and a new one leaves none.
     &[
         OPEN_1,
         "read 1 | block A\nB\nC\n | get 1 1; line 'A'",

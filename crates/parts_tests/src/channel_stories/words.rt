@@ -1,7 +1,7 @@
-//! The words of a step, which stand with a space between.
+//! The words of a step, with a space between.
 
-/// What is left of a step's words. A word that is to be a number and is none is 0, and then the
-/// step is no good one.
+/// What is left of a step's words. A word that has to be a number and is none is 0, and then the
+/// step is not valid.
 #[derive(Drop)]
 pub(crate) struct Words {
     left: &'static str,
@@ -24,7 +24,7 @@ impl Words {
         self.left.is_empty()
     }
 
-    /// The next word, which is empty behind the last one.
+    /// Returns the next word, which is empty after the last one.
     pub(crate) fn word(&mut self) -> &'static str {
         let (word, left) = match self.left.split_once(' ') {
             Some((word, left)) => (word, left),
@@ -39,7 +39,7 @@ impl Words {
         self.read(word)
     }
 
-    /// A number, or none where the word is a dash.
+    /// Returns a number, or none if the word is a dash.
     pub(crate) fn optional(&mut self) -> Option<i16> {
         match self.word() {
             "-" => None,

@@ -4,7 +4,7 @@ use Rattle.job_memory.specs.Contents.{blank}
 use Rattle.job_memory.specs.declared.contents.Content.{Content}
 use Rattle.job_memory.proofs.tables.blanks.Goals as goal
 
--- by hand: the searches try much before they close these
+-- by hand: the searches try many steps before they close these
 pub loop-made-preserved : goal.loop-made-preserved
 loop-made-preserved c =
     c.in_ok-push.ensures.items

@@ -5,7 +5,7 @@ use Rattle.job_memory.specs.Contents.{number_of}
 use Rattle.job_memory.specs.declared.contents.Content.{Content}
 use Rattle.job_memory.proofs.tables.numbers_of.Goals as goal
 
--- by hand: the searches try much before they close these
+-- by hand: the searches try many steps before they close these
 pub loop-content-preserved : goal.loop-content-preserved
 loop-content-preserved c =
     let cells : List Content = c.args.cells.now in

@@ -4,7 +4,7 @@ use Rattle.basic_eval.specs.Acting.{seen}
 use Rattle.program_model.specs.MatrixStatements.{rows_written}
 use Rattle.basic_eval.proofs.state.Running.print_matrix.Given as goal
 
--- what is left to be written comes to what was to be written, and the memory stays
+-- what is left to be written leads to the same end as the whole, and the memory stays
 abbrev pub invariant-loop-before : goal.invariant-loop-before
 invariant-loop-before l = record {
   memory : l.self.storage.memory ≡ l.fn.self.storage.memory;

@@ -10,7 +10,7 @@ use Rattle.session_model.specs.Talk.{Step, runs_chained, run_is_over, with_job}
 use Rattle.command_level.proofs.Chained.{run_behind, run_over, chain_follows, chain_broke, named_there, over_spent}
 use Rattle.command_level.proofs.session.Session.follow_chain.Goals as goal
 
--- an error goes on in the program
+-- the program continues with an error
 abbrev faulted : (ℕ → ℕ) → Program → talk.Session Position → ℕ → ℕ → Job Position → Step Position
 faulted count p s most number j = runs_chained judge_of most (count most) p s (raises p most number j)
 

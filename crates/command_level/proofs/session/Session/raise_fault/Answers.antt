@@ -22,7 +22,7 @@ returns-in-Ok-clause-path g c count p s j ran =
     (ap (with_job (acting.seen after.running)) (sym ran.low)) ran.here ran.sound ran.fits
     (c.raise.ensures.meaning p j (c.in-Ok.ensures.1 ∙ ap coded (here ∙ sym ran.here)) (ap (λ (u : talk.Session Spot). u.job) ran.low))
 
--- the program that ran is not refused
+-- the program that ran is not rejected
 pub returns-in-Err-Refused-clause-path : goal.returns-in-Err-Refused-clause-path
 returns-in-Err-Refused-clause-path g c count p s j ran =
     let old = c.args.self.now in
