@@ -1,6 +1,6 @@
 //! A run in which a job is out of memory: it is lost, and the other jobs are soon turned away.
 
-ghost use Rattle.std.specs.Prelude.{List};
+ghost use Rattle.std.specs.Prelude.{List, IfOk};
 ghost use Rattle.monitor_calls.specs.declared.events.Event.{Event};
 ghost use Rattle.monitor_calls.specs.Pairs.{Grew};
 
@@ -47,33 +47,56 @@ impl JobBody for Clerk {
     ghost does = { λ body events screen. Unit {0} };
 
     fn run<P: Port>(self, alloc: Global, port: &mut P) -> Result<Screen2, NoMemory> {
-        port.ask(
-            alloc,
-            Request::Login {
-                account: DEMO,
-                password: self.password,
-            },
-        )?;
-        port.ask(
-            alloc,
-            Request::OpenFile {
-                channel: 1,
-                name: self.file,
-                kind: OpenKind::Input,
-                update: true,
-                code: None,
-            },
-        )?;
-        for _ in 0..self.gets {
-            let request = Request::GetRecord {
-                channel: 1,
-                block: 1,
-                count: 1,
-            };
-            port.ask(alloc, request)?;
-        }
+        enter(alloc, port, self.password, self.file)?;
+        ask_for_block(alloc, port, self.gets)?;
         Ok(Screen2::from_vec(Vec::with_capacity(alloc, self.wanted)?))
     }
+}
+
+/// Logs in and opens the file.
+fn enter<P: Port>(
+    alloc: Global,
+    port: &mut P,
+    password: Short,
+    name: FileName,
+) -> Result<(), NoMemory>
+    ensures { IfOk result (λ entered. (events : List Event)
+        × Grew P.who P.log port.old port.new events) }
+{
+    port.ask(
+        alloc,
+        Request::Login {
+            account: DEMO,
+            password,
+        },
+    )?;
+    port.ask(
+        alloc,
+        Request::OpenFile {
+            channel: 1,
+            name,
+            kind: OpenKind::Input,
+            update: true,
+            code: None,
+        },
+    )?;
+    Ok(())
+}
+
+/// Asks for the block as often as `gets` says.
+fn ask_for_block<P: Port>(alloc: Global, port: &mut P, gets: u16) -> Result<(), NoMemory>
+    ensures { IfOk result (λ asked. (events : List Event)
+        × Grew P.who P.log port.old port.new events) }
+{
+    for _ in 0..gets {
+        let request = Request::GetRecord {
+            channel: 1,
+            block: 1,
+            count: 1,
+        };
+        port.ask(alloc, request)?;
+    }
+    Ok(())
 }
 
 /// Returns a job that asks twice for the block and is then out of memory, and jobs that ask for it

@@ -87,6 +87,17 @@ fn expect_kept(alloc: Global, done: [bool; 3], record: &RunRecord) -> Result<(),
     expect_none(alloc, first_other(alloc, record)?)
 }
 
+/// Fails unless the calls were done, that was kept, and the monitor has two jobs.
+fn expect_closed(
+    alloc: Global,
+    done: Result<[bool; 3], NoMemory>,
+    record: &RunRecord,
+    jobs: u32,
+) -> Result<(), Fail> {
+    expect(jobs == 2, "another monitor")?;
+    expect_kept(alloc, done?, record)
+}
+
 #[test]
 fn seats_ask_one_monitor(rt: HostRuntime) -> Result<(), Fail> {
     let alloc = rt.alloc();
@@ -99,8 +110,50 @@ fn seats_ask_one_monitor(rt: HostRuntime) -> Result<(), Fail> {
     gate.join(&mut spare, second);
     gate.join(&mut spare, first);
     let (record, monitor) = gate.close(spare);
-    expect(monitor.job_count() == 2, "another monitor")?;
-    expect_kept(alloc, done?, &record)
+    expect_closed(alloc, done, &record, monitor.job_count())
+}
+
+/// Returns whether a seat asks in vain.
+fn is_away<R: Wait>(rt: &R, alloc: Global, gate: &Gate, seat: &mut JobSeat) -> bool
+    requires { seat.old.gate ≡ gate.now.gate }
+    ensures { seat.new.gate ≡ seat.old.gate }
+{
+    gate.ask(rt, alloc, seat, Request::Tick).is_err()
+}
+
+/// Shuts the gate after a first call. Returns whether that call was in vain, and whether each seat
+/// then asks in vain.
+fn away_in_turn<R: Wait>(
+    rt: &R,
+    alloc: Global,
+    gate: &Gate,
+    first: &mut JobSeat,
+    second: &mut JobSeat,
+) -> [bool; 3]
+    requires first { first.old.gate ≡ gate.now.gate }
+    requires second { second.old.gate ≡ gate.now.gate }
+    ensures first { first.new.gate ≡ first.old.gate }
+    ensures second { second.new.gate ≡ second.old.gate }
+{
+    let early = is_away(rt, alloc, gate, first);
+    gate.shut();
+    let is_first_away = is_away(rt, alloc, gate, first);
+    let is_second_away = is_away(rt, alloc, gate, second);
+    [early, is_first_away, is_second_away]
+}
+
+/// Fails unless the first call alone was answered and kept.
+fn expect_away(away: [bool; 3], record: &RunRecord) -> Result<(), Fail> {
+    let [early, is_first_away, is_second_away] = away;
+    expect(!early, "the gate was shut too early")?;
+    expect(
+        is_first_away && is_second_away,
+        "a seat was not turned away",
+    )?;
+    expect(
+        record.as_slice().len() == 1,
+        "a call at a shut gate was kept",
+    )
 }
 
 #[test]
@@ -110,20 +163,9 @@ fn a_shut_gate_turns_every_seat_away(rt: HostRuntime) -> Result<(), Fail> {
     let (gate, mut spare) = Gate::new(alloc, monitor)?;
     let mut first = gate.split(&mut spare);
     let mut second = gate.split(&mut spare);
-    let early = is_done(&rt, alloc, &gate, &mut first, Request::Tick);
-    gate.shut();
-    let is_first_away = gate.ask(&rt, alloc, &mut first, Request::Tick).is_err();
-    let is_second_away = gate.ask(&rt, alloc, &mut second, Request::Tick).is_err();
-    gate.join(&mut spare, first);
+    let away = away_in_turn(&rt, alloc, &gate, &mut first, &mut second);
     gate.join(&mut spare, second);
+    gate.join(&mut spare, first);
     let (record, _monitor) = gate.close(spare);
-    expect(early.is_ok(), "the gate was shut too early")?;
-    expect(
-        is_first_away && is_second_away,
-        "a seat was not turned away",
-    )?;
-    expect(
-        record.as_slice().len() == 1,
-        "a call at a shut gate was kept",
-    )
+    expect_away(away, &record)
 }
