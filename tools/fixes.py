@@ -5,10 +5,12 @@ from advice import Spot, advice
 from programs import MOST_BYTES, Line
 from scanner import FLOATING_NAME, capitals
 
-MOST_ROUNDS = 100
+MOST_ROUNDS, MOST_NUMBER = 100, 32767
 MARK = "\xef\xbb\xbf"
 # Functions of other BASICs that give fractions.
 FRACTIONS = re.compile(r"CVT\$F|(?<![A-Z])(?:ATN|COS|EXP|LOG|LOG10|PI|SIN|SQR|SQRT|TAN)(?![A-Z0-9])")
+# A decimal point in a format of PRINT USING.
+POINT = re.compile(r"USING *(?:\"[^\"]*#\.#|'[^']*#\.#)")
 
 
 def puts(text, length=0, back=0):
@@ -17,20 +19,24 @@ def puts(text, length=0, back=0):
 
 
 def name_marked(spot, fixer):
-    """Rewrites A to A%, unless the program also has A%, which may be another variable, or counts with fractions."""
-    name, end = spot.word, spot.place + len(spot.word)
-    if name + "%" in fixer.names or fixer.fraction:
-        return None
+    """Rewrites A to A%, or to the name that the fixer gives it."""
+    end = spot.place + len(spot.word)
     end += spot.line[end:end + 1] in ("!", "#", "&")
-    return spot.line[:spot.place] + spot.line[spot.place:spot.place + len(name)] + "%" + spot.line[end:]
+    return renamed(spot, spot.word, end, fixer)
 
 
 def function_marked(spot, fixer):
     found = re.match(r"FN[A-Z][0-9]?(?![A-Z])", spot.rest)
-    if not found or found[0] + "%" in fixer.names or fixer.fraction:
+    return renamed(spot, found[0], spot.place + found.end(), fixer) if found else None
+
+
+def renamed(spot, name, end, fixer):
+    """Puts the new name of a floating one in its place, in small letters if the old one has them."""
+    new = fixer.name_for(name)
+    if new is None:
         return None
-    end = spot.place + found.end()
-    return spot.line[:end] + "%" + spot.line[end:]
+    old = spot.line[spot.place:spot.place + len(name)]
+    return spot.line[:spot.place] + (new.lower() if old.islower() else new) + spot.line[end:]
 
 
 def absolute(spot, fixer):
@@ -113,6 +119,10 @@ class Fixer:
         self.fraction = line_with_fraction(program)
         self.loops = []
 
+    def name_for(self, name):
+        """Returns A% for A; None, if the program also has A%, which may be another variable, or counts with fractions."""
+        return None if name + "%" in self.names or self.fraction else name + "%"
+
     def open_loop(self, head):
         """Returns the variable of the loop that is open after the head of a line."""
         loops = list(self.loops)
@@ -120,8 +130,8 @@ class Fixer:
         follow(line, loops)
         return loops[-1] if loops else None
 
-    def fixed(self, line):
-        """Returns the text of a line with all rewrites that apply."""
+    def rewrites(self, line):
+        """Yields the spot of each refusal of a line, and the line after its rewrite; None, if it has no safe one."""
         for _ in range(MOST_ROUNDS):
             if not line.refused:
                 break
@@ -129,8 +139,15 @@ class Fixer:
             rewrite = REWRITES.get(advice(spot)[0])
             text = rewrite(spot, self) if rewrite else None
             if text is None or len(text) > MOST_BYTES:
+                yield spot, None
                 break
             line = Line(line.place, text)
+            yield spot, line
+
+    def fixed(self, line):
+        """Returns the text of a line with all rewrites that apply."""
+        for _, after in self.rewrites(line):
+            line = after or line
         follow(line, self.loops)
         return line.text
 
@@ -154,17 +171,29 @@ def names_in(program):
 
 
 def line_with_fraction(program):
-    """Returns the first line that divides outside of INT and not only integers, has a number with a fraction, or a function
-    that gives one; None, if there is none, or no name of a number that could have a fraction."""
+    """Returns the first line that counts with fractions or with numbers above 32767; None, if there is none, or no name of a
+    number that could hold one."""
     if not any(line.refused and line.refused.cause == FLOATING_NAME for line in program.counted):
         return None
-    for line in program.counted:
-        code = re.sub(r"\"[^\"]*\"?|REM.*|!.*", "", capitals(line.text[line.begins:]))
-        numbers = re.findall(r"[0-9]*\.[0-9]+", code)
-        divided = re.sub(r"INT *\([^()]*\)|% */ *[A-Z0-9]+%", "", code)
-        if "/" in divided or FRACTIONS.search(code) or any(float(it) != int(float(it)) for it in numbers):
-            return line
-    return None
+    return next((line for line in program.counted if has_fraction(capitals(line.text[line.begins:]))), None)
+
+
+def code_of(text):
+    """Returns a line without its strings and comments."""
+    return re.sub(r"\"[^\"]*\"?|REM.*|!.*", "", text)
+
+
+def has_odd_number(text):
+    """Returns whether a line has a number that is no integer of 16 bits, or a format with a decimal point."""
+    numbers = [float(it) for it in re.findall(r"(?:[0-9]+\.?[0-9]*|\.[0-9]+)(?:E[+-]?[0-9]+)?", code_of(text))]
+    return POINT.search(text) is not None or any(it != int(it) or it > MOST_NUMBER for it in numbers)
+
+
+def has_fraction(text):
+    """Returns whether a line has such a number, divides outside of INT and not only integers, or has a function that gives a
+    fraction."""
+    divided = re.sub(r"INT *\([^()]*\)|% */ *[A-Z0-9]+%", "", code_of(text))
+    return has_odd_number(text) or "/" in divided or FRACTIONS.search(code_of(text)) is not None
 
 
 def fixed(program):

@@ -35,6 +35,12 @@ class Line:
             yield from statement.all()
 
 
+def functions_in(statement):
+    """Returns the tokens of the functions that a statement calls and defines, and of their parameters."""
+    parts = statement.parts
+    return parts.get("calls", []) + parts.get("parameters", []) + ([parts["function"]] if statement.kind == "DEF" else [])
+
+
 class Program:
     """The lines of a file, in its order, and those that count, in the order of their numbers."""
 
@@ -53,7 +59,7 @@ class Program:
         found = set()
         for line in self.counted:
             for statement in line.all():
-                found.update(it.word for it in statement.reads + statement.stores)
+                found.update(it.word for it in statement.reads + statement.stores + functions_in(statement))
             if line.refused:
                 found.update(re.findall(r"(?<![A-Z0-9])[A-Z][0-9]?[%$]", capitals(re.sub(r"\"[^\"]*\"", "", line.text))))
         return found

@@ -73,8 +73,10 @@ def is_inside(path, folder):
     return os.path.commonpath([real, home]) == home
 
 
-def included(source, place, name):
+def included(source, place, name, given):
     """Returns the lines of a file that a source includes, each as one that is typed."""
+    if name in given:
+        return typed_rows(given[name], place, name)
     path = source.parent / name
     if not name or os.path.isabs(name) or not is_inside(path, source.parent):
         raise Refused(f"{place}: {name or 'no file is named, and it'} is not in the folder of the source")
@@ -88,16 +90,20 @@ def included(source, place, name):
         raise Refused(f"{place}: {name} begins with a byte-order mark; save it without one")
     if b"\0" in data:
         raise Refused(f"{place}: {name} is not a text; it has a byte 0")
+    return typed_rows(data, place, name)
+
+
+def typed_rows(data, place, name):
     return [Line(b">" + row, place, f" (line {number} of {name})") for number, row in enumerate(rows_in(data), 1)]
 
 
-def deck_of_source(name):
-    """Returns the lines of the deck that a source describes."""
+def deck_of_source(name, given=None):
+    """Returns the lines of the deck that a source describes. `given` has the bytes of files by the names that the source uses."""
     source, lines = pathlib.Path(name), []
     for number, row in kept_rows(source.read_bytes()):
         place = f"{name}:{number}"
         if row.startswith(b"@"):
-            lines += included(source, place, os.fsdecode(row[1:].strip()))
+            lines += included(source, place, os.fsdecode(row[1:].strip()), given or {})
         else:
             lines.append(Line(row, place))
     if not lines:

@@ -244,6 +244,9 @@ def is_replaced(program):
 
 WARNINGS = (runs_either_way, closes_another, is_never_stored, is_a_lost_update, has_odd_format, is_replaced)
 
+# Those that look at one line at a time, and so also hold in a program with rejected lines.
+OF_ONE_LINE = (runs_either_way, has_odd_format, is_replaced)
+
 
 def surprises(program, entries):
     """Returns all warnings of the program, in the order of its lines."""

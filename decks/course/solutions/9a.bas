@@ -1,0 +1,5 @@
+10 DIM #1, C%(9)
+20 OPEN "TALLY" AS FILE 1
+30 C%(3)=C%(3)+1
+40 PRINT "RUN"; C%(3)
+50 CLOSE 1 : END
