@@ -92,7 +92,7 @@ class Exercise:
 
 # RUNS
 
-# Runs a deck in at most so many KB of memory and seconds of the processor. On a busy machine these take many times as long.
+# Runs a deck with limits in KB of memory and seconds of processor time. On a busy machine these take many times as long.
 LIMITED = ["bash", "-c", 'ulimit -c 0 -v "$1" -t "$2"; exec "$3" run --history', "bash", str(MOST_MEMORY >> 10)]
 BUSY, OUT_OF_TIME = 20, (128 + signal.SIGXCPU, 128 + signal.SIGKILL)
 

@@ -382,7 +382,7 @@ def prints(trial, *texts):
 
 @fact
 def print_jobs(trial, count):
-    """The terminal has so many print jobs."""
+    """The terminal has this many print jobs."""
     for job in trial.your_jobs:
         found = len(trial.print_jobs(job))
         if found != int(count):

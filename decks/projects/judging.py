@@ -215,7 +215,7 @@ def keep(folder, deck, run, fault):
 
 
 def faults_of(project, deck, runs, kept):
-    """Runs the deck so many times, and yields the fault of each run that has one, with the run's number."""
+    """Runs the deck this many times, and yields the fault of each run that has one, with the run's number."""
     wanted = kept
     with concurrent.futures.ThreadPoolExecutor(min(AT_ONCE, os.cpu_count() or 1)) as pool:
         for number, run in enumerate(pool.map(run_of, [deck] * runs), 1):
