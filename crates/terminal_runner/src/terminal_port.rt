@@ -62,9 +62,12 @@ impl<S: Seat, K: Keyboard> Port for TerminalPort<S, K> {
 
     fn ask(&mut self, alloc: Global, request: Request) -> Result<Reply, NoMemory> {
         let asked = Snapshot::of(&request);
-        let reply = self.seat.ask(alloc, request)?;
-        self.log.push_asked(asked, &reply);
-        Ok(reply)
+        let result = self.seat.ask(alloc, request);
+        // The result is looked at where it is: a reply may hold a whole page.
+        if let Ok(reply) = &result {
+            self.log.push_asked(asked, reply);
+        }
+        result
     }
 
     fn type_line(&mut self, alloc: Global) -> Result<Option<KeyLine>, NoMemory> {
