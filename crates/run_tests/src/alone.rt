@@ -3,14 +3,14 @@
 use crate::calls::{FIRST_SUM, SUM_REPORT, expect_left, good};
 use rsts_io::{MemorySink, MemorySource};
 use std::test::Fail;
-use time_sharing::{check_system, replay_system};
+use time_sharing::{Outcome, check_system, replay_system};
 
 #[test]
 fn a_deck_is_checked_without_threads(rt: HostRuntime) -> Result<(), Fail> {
     let alloc = rt.alloc();
     let mut source = MemorySource::new(alloc, FIRST_SUM, &[])?;
     let mut sink = MemorySink::new(alloc, &[])?;
-    let outcome = check_system(alloc, &mut source, &mut sink);
+    let outcome = Outcome::Check(check_system(alloc, &mut source, &mut sink));
     expect_left(&outcome, sink.bytes(), good(b"GOOD 1 0 1\n"))
 }
 
@@ -24,6 +24,6 @@ fn a_run_is_replayed_without_threads(rt: HostRuntime) -> Result<(), Fail> {
     let alloc = rt.alloc();
     let mut source = MemorySource::new(alloc, SUM_TOLD, &[])?;
     let mut sink = MemorySink::new(alloc, &[])?;
-    let outcome = replay_system(alloc, &mut source, &mut sink);
+    let outcome = Outcome::Replay(replay_system(alloc, &mut source, &mut sink));
     expect_left(&outcome, sink.bytes(), good(SUM_REPORT))
 }

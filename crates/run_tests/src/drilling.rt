@@ -16,7 +16,7 @@ static COUNTS: [(&str, u32); 5] = [("1", 1), ("2", 2), ("4", 4), ("8", 8), ("16"
 /// Fails unless as many Puts were done as the counter says, and the line has both numbers.
 fn expect_drilled(alloc: Global, outcome: &Outcome, written: &[u8], jobs: u32) -> Result<(), Fail> {
     let drill = match outcome {
-        Outcome::Drilled(drill) => drill,
+        Outcome::Drill(Ok(drill)) => drill,
         _ => return Err("no drill was run")?,
     };
     let puts = drill.puts;

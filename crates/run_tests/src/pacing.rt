@@ -135,8 +135,8 @@ fn entries_of(record: &RunRecord, job: u32) -> u64 {
 /// after each call, and nobody waited in vain.
 fn were_held<R: Clock>(pacer: &Ordered<'_, R>, outcome: &Outcome, jobs: u32) -> bool {
     let record = match outcome {
-        Outcome::Ok(record) => record,
-        Outcome::Drilled(drill) => &drill.history,
+        Outcome::Run(Ok(record)) => record,
+        Outcome::Drill(Ok(drill)) => &drill.history,
         _ => return false,
     };
     for job in 0..jobs {

@@ -1,9 +1,9 @@
 //! Whole runs and checks between ends in memory, and the words that ask for them.
 
-ghost use Rattle.std.specs.Prelude.{◌≡◌, ◌≤◌, ◌⊎◌, length, IfOk};
+ghost use Rattle.std.specs.Prelude.{◌≡◌, ◌≤◌, length, IfOk};
 ghost use Rattle.deck_model.specs.Deck.{Deck};
 ghost use Rattle.deck_model.specs.Spelling.{Spelled};
-ghost use Rattle.time_sharing.specs.Headline.{HasRan};
+ghost use Rattle.run_tests.specs.RunEnds.{RanOrLacked};
 
 use crate::calls::*;
 use crate::pacing::{expect_ordered, second_calls};
@@ -337,7 +337,7 @@ fn run_between_plain_ends<R: Threads + Wait + Sync>(
 ) -> Result<(Outcome, PlainSink), Fail>
     ensures { IfOk result (λ ended. (deck : Deck) → Spelled input.now deck
         → length input.now ≤ INPUT_LIMIT → ended.1.faults ≡ 0
-        → HasRan ended.0 ⊎ (ended.0 ≡ Outcome.NoMemory)) }
+        → RanOrLacked ended.0) }
 {
     let mut words = Vec::new(alloc);
     words.push(String::from_str(alloc, "run")?)?;

@@ -1,5 +1,5 @@
 -- What an input says, and the result of its replay.
-use Rattle.std.proofs.Common.{◌≡◌, ℕ, List, inl, refl, sym, ap, subst, ◌∙◌, arith}
+use Rattle.std.proofs.Common.{◌≡◌, ℕ, List, Ok, Err, inl, refl, sym, ap, subst, ◌∙◌, arith}
 use Rattle.monitor_calls.specs.declared.calls.Entry.{Entry}
 use Rattle.deck_model.specs.Deck.{Deck}
 use Rattle.deck_model.specs.Spelling.{Spelled}
@@ -9,12 +9,12 @@ use Rattle.deck_model.specs.declared.faults.DeckFault.{DeckFault}
 use Rattle.deck_model.proofs.ReadingLaws.{spelled_told}
 use Rattle.rsts_io.specs.Ends.{SourceState}
 use Rattle.time_sharing.specs.declared.outcomes.HistoryFault.{HistoryFault}
-use Rattle.time_sharing.specs.declared.outcomes.Outcome.TheVariants as outcome
+use Rattle.time_sharing.specs.declared.outcomes.Failure.TheVariants as failure
 use Rattle.time_sharing.specs.declared.replays.InputFault.{InputFault}
 use Rattle.time_sharing.specs.declared.replays.InputFault.TheVariants as faults
 use Rattle.rsts_io.specs.declared.whole.TheConstants.{REPLAY_LIMIT}
 use Rattle.time_sharing.specs.Disputes.{Disputes}
-use Rattle.time_sharing.specs.InputEnds.{TellsFault, fault_outcome}
+use Rattle.time_sharing.specs.InputEnds.{TellsFault, fault_failure}
 use Rattle.time_sharing.specs.Inputs.{line_behind}
 use Rattle.time_sharing.specs.Replays.{Retells, BehindDeck, TellsRun, TellsDispute, TellsNoDeck, ToldInput, Replays}
 use Rattle.rsts_io.specs.Whole.{IsInput, IsOverLimit, Written, BrokeOff}
@@ -75,82 +75,61 @@ not_over limit read old new input over = omega (arith, input.count, input.most, 
 
 -- if the input was read to its end
 module _ (read : List ℕ) (before after : Ends) (input : IsInput REPLAY_LIMIT read before.source after.source) where
-  pub replayed_answers : (history : List Entry) (output : List ℕ) → TellsRun history output read → Written output before.sink after.sink → Replays before after (outcome.Replayed history)
-  replayed_answers history output run written = record {
-    replayed = record { output = output; found = record { read = read; input = input; is_so = run }; written = written };
-    history = tt;
-    deck = tt;
-    read_fault = tt;
-    too_long = tt;
-    write_fault = tt;
-    no_memory = tt;
-    not_ran = tt;
-    not_checked = tt;
-    not_drilled = tt;
-    not_usage = tt;
-    must_be_too_long = λ over. absurd (not_over REPLAY_LIMIT read before.source after.source input over);
-    must_refuse = λ fault told. absurd (deck_or_none (λ deck text first. Retells history output deck text) read fault run (told_so (TellsNoDeck fault) read before.source after.source input told));
-    must_dispute = λ fault told. absurd (run_or_dispute read history output fault run (told_so (TellsDispute fault) read before.source after.source input told));
-    completes = λ fair. inl (history, refl);
-  }
+  over_never : IsOverLimit REPLAY_LIMIT before.source after.source → ⊥
+  over_never over = not_over REPLAY_LIMIT read before.source after.source input over
 
-  pub report_broke_answers : (history : List Entry) (output : List ℕ) → TellsRun history output read → BrokeOff output before.sink after.sink → Replays before after outcome.WriteFault
-  report_broke_answers history output run broke = record {
-    replayed = tt;
-    history = tt;
-    deck = tt;
-    read_fault = tt;
-    too_long = tt;
-    write_fault = record { history = history; output = output; found = record { read = read; input = input; is_so = run }; broke_off = broke };
-    no_memory = tt;
-    not_ran = tt;
-    not_checked = tt;
-    not_drilled = tt;
-    not_usage = tt;
-    must_be_too_long = λ over. absurd (not_over REPLAY_LIMIT read before.source after.source input over);
-    must_refuse = λ fault told. absurd (deck_or_none (λ deck text first. Retells history output deck text) read fault run (told_so (TellsNoDeck fault) read before.source after.source input told));
-    must_dispute = λ fault told. absurd (run_or_dispute read history output fault run (told_so (TellsDispute fault) read before.source after.source input told));
-    completes = λ fair. absurd (fair.sink broke.fault);
-  }
+  -- what is so of the input that the source reports is so of what was read
+  read_so : (IsSo : List ℕ → Type 0) → ToldInput IsSo before.source after.source → IsSo read
+  read_so IsSo told = told_so IsSo read before.source after.source input told
 
-  pub no_deck_answers : (fault : DeckFault) → TellsNoDeck fault read → NothingGiven before after → Replays before after (outcome.Deck fault)
+  -- the input has a run
+  module _ (history : List Entry) (output : List ℕ) (run : TellsRun history output read) where
+    not_refused : (fault : DeckFault) → ToldInput (TellsNoDeck fault) before.source after.source → ⊥
+    not_refused fault told = deck_or_none (λ deck text first. Retells history output deck text) read fault run (read_so (TellsNoDeck fault) told)
+
+    not_disputed : (fault : HistoryFault) → ToldInput (TellsDispute fault) before.source after.source → ⊥
+    not_disputed fault told = run_or_dispute read history output fault run (read_so (TellsDispute fault) told)
+
+    pub replayed_answers : Written output before.sink after.sink → Replays before after (Ok history)
+    replayed_answers written = record {
+      ok = record { output = output; found = record { read = read; input = input; is_so = run }; written = written };
+      failed = tt;
+      must_be_too_long = λ over. absurd (over_never over);
+      must_refuse = λ fault told. absurd (not_refused fault told);
+      must_dispute = λ fault told. absurd (not_disputed fault told);
+      completes = λ fair. inl refl;
+    }
+
+    pub report_broke_answers : BrokeOff output before.sink after.sink → Replays before after (Err failure.WriteFault)
+    report_broke_answers broke = record {
+      ok = tt;
+      failed = record { history = history; output = output; found = record { read = read; input = input; is_so = run }; broke_off = broke };
+      must_be_too_long = λ over. absurd (over_never over);
+      must_refuse = λ fault told. absurd (not_refused fault told);
+      must_dispute = λ fault told. absurd (not_disputed fault told);
+      completes = λ fair. absurd (fair.sink broke.fault);
+    }
+
+  no_deck_answers : (fault : DeckFault) → TellsNoDeck fault read → NothingGiven before after → Replays before after (Err (failure.Deck fault))
   no_deck_answers fault none given = record {
-    replayed = tt;
-    history = tt;
-    deck = record { found = record { read = read; input = input; is_so = none }; given = given };
-    read_fault = tt;
-    too_long = tt;
-    write_fault = tt;
-    no_memory = tt;
-    not_ran = tt;
-    not_checked = tt;
-    not_drilled = tt;
-    not_usage = tt;
-    must_be_too_long = λ over. absurd (not_over REPLAY_LIMIT read before.source after.source input over);
-    must_refuse = λ other told. inl (ap (λ (f : DeckFault). outcome.Deck f) (one_refusal read fault other none (told_so (TellsNoDeck other) read before.source after.source input told)));
-    must_dispute = λ other told. absurd (deck_or_none (Disputes other) read fault (told_so (TellsDispute other) read before.source after.source input told) none);
-    completes = λ fair. absurd (deck_or_none (λ deck text first. Retells fair.history fair.output deck text) read fault (told_so (TellsRun fair.history fair.output) read before.source after.source input fair.source) none);
+    ok = tt;
+    failed = record { found = record { read = read; input = input; is_so = none }; given = given };
+    must_be_too_long = λ over. absurd (over_never over);
+    must_refuse = λ other told. inl (ap (λ (f : DeckFault). Err (failure.Deck f)) (one_refusal read fault other none (read_so (TellsNoDeck other) told)));
+    must_dispute = λ other told. absurd (deck_or_none (Disputes other) read fault (read_so (TellsDispute other) told) none);
+    completes = λ fair. absurd (deck_or_none (λ deck text first. Retells fair.history fair.output deck text) read fault (read_so (TellsRun fair.history fair.output) fair.source) none);
   }
 
-  pub disputed_answers : (fault : HistoryFault) → TellsDispute fault read → NothingGiven before after → Replays before after (outcome.History fault)
+  disputed_answers : (fault : HistoryFault) → TellsDispute fault read → NothingGiven before after → Replays before after (Err (failure.History fault))
   disputed_answers fault disputed given = record {
-    replayed = tt;
-    history = record { found = record { read = read; input = input; is_so = disputed }; given = given };
-    deck = tt;
-    read_fault = tt;
-    too_long = tt;
-    write_fault = tt;
-    no_memory = tt;
-    not_ran = tt;
-    not_checked = tt;
-    not_drilled = tt;
-    not_usage = tt;
-    must_be_too_long = λ over. absurd (not_over REPLAY_LIMIT read before.source after.source input over);
-    must_refuse = λ other told. absurd (deck_or_none (Disputes fault) read other disputed (told_so (TellsNoDeck other) read before.source after.source input told));
-    must_dispute = λ other told. inl (ap (λ (f : HistoryFault). outcome.History f) (one_dispute_told read fault other disputed (told_so (TellsDispute other) read before.source after.source input told)));
-    completes = λ fair. absurd (run_or_dispute read fair.history fair.output fault (told_so (TellsRun fair.history fair.output) read before.source after.source input fair.source) disputed);
+    ok = tt;
+    failed = record { found = record { read = read; input = input; is_so = disputed }; given = given };
+    must_be_too_long = λ over. absurd (over_never over);
+    must_refuse = λ other told. absurd (deck_or_none (Disputes fault) read other disputed (read_so (TellsNoDeck other) told));
+    must_dispute = λ other told. inl (ap (λ (f : HistoryFault). Err (failure.History f)) (one_dispute_told read fault other disputed (read_so (TellsDispute other) told)));
+    completes = λ fair. absurd (run_or_dispute read fair.history fair.output fault (read_so (TellsRun fair.history fair.output) fair.source) disputed);
   }
 
-  pub fault_answers : (fault : InputFault) → TellsFault fault read → NothingGiven before after → Replays before after (fault_outcome fault)
+  pub fault_answers : (fault : InputFault) → TellsFault fault read → NothingGiven before after → Replays before after (Err (fault_failure fault))
   fault_answers (faults.Deck fault) none given = no_deck_answers fault none given
   fault_answers (faults.History fault) disputed given = disputed_answers fault disputed given

@@ -1,7 +1,7 @@
 -- What the program does. If you trust this file, and the definitions that it names, you know it.
 -- `Does`, at the end, is the one clause of the program's call. The definitions before it are its
 -- words.
-use Rattle.std.specs.Prelude.{◌≡◌, ℕ, Bool, if◌then◌else◌, List, [], ◌++◌, length, ◌⊎◌}
+use Rattle.std.specs.Prelude.{◌≡◌, ℕ, Bool, if◌then◌else◌, List, [], ◌++◌, length, Result, IfOk, IfErr}
 use Rattle.monitor_calls.specs.declared.calls.Entry.{Entry}
 use Rattle.deck_model.specs.Deck.{Deck}
 use Rattle.deck_model.specs.Spelling.{Spelled}
@@ -17,14 +17,15 @@ use Rattle.rsts_io.specs.Ends.{SourceState, SinkState, Rose}
 use Rattle.drill_deck.specs.DrillDeck.{drill_deck}
 use Rattle.drill_deck.specs.Tallies.{puts_in, sum_in, drill_line}
 use Rattle.time_sharing.specs.declared.outcomes.Drill.{Drill as DrillEnd}
+use Rattle.time_sharing.specs.declared.outcomes.Failure.{Failure}
+use Rattle.time_sharing.specs.declared.outcomes.Failure.TheVariants as failure
 use Rattle.time_sharing.specs.declared.outcomes.Outcome.{Outcome}
 use Rattle.time_sharing.specs.declared.outcomes.Outcome.TheVariants as outcome
 use Rattle.rsts_io.specs.declared.whole.TheConstants.{INPUT_LIMIT}
-use Rattle.time_sharing.specs.Outcomes.{IfRan, IfDrilled, IfReplayed, IfHistory, OnChecked, OnUsage, IfDeck, OnReadFault, OnTooLong, OnWriteFault, OnNoMemory}
 use Rattle.time_sharing.specs.Replays.{Replays}
 use Rattle.time_sharing.specs.Runs.{IsRun, names_in}
 use Rattle.rsts_io.specs.Whole.{IsInput, Written, BrokeOff}
-use Rattle.time_sharing.specs.TwoEnds.{Ends, NothingGiven, SourceFailed, InputTooLong, WantedMemory, IsTold, EndsTooLong}
+use Rattle.time_sharing.specs.TwoEnds.{Ends, NothingGiven, SourceFailed, InputTooLong, WantedMemory, IsTold, OkOrLacked, FailsOrLacked, EndsTooLong}
 
 -- WHAT IS WRITTEN OF A RUN
 
@@ -78,7 +79,7 @@ pub record Checked (before after : Ends) : Type 0 where
   pub is_good_line : IsGoodLine deck output
   pub written : Written output before.sink after.sink
 
--- THE CAUSES OF EVERY OTHER ANSWER
+-- THE CAUSES OF EACH FAILURE
 
 -- the input was read whole, and is rejected at this line for this cause
 pub record FoundNone (fault : DeckFault) (old new : SourceState) : Type 0 where
@@ -98,6 +99,15 @@ pub record SinkFailed (IsOutput : Deck → List ℕ → Type 0) (before after : 
   pub is_output : IsOutput deck output
   pub broke_off : BrokeOff output before.sink after.sink
 
+-- what each failure of a run or a check means; it is never a history
+abbrev pub DeckFails : (Deck → List ℕ → Type 0) → Ends → Ends → Failure → Type 0
+DeckFails IsOutput before after (failure.Deck fault) = Refused before after fault
+DeckFails IsOutput before after failure.ReadFault = SourceFailed before after
+DeckFails IsOutput before after failure.TooLong = InputTooLong INPUT_LIMIT before after
+DeckFails IsOutput before after failure.WriteFault = SinkFailed IsOutput before after
+DeckFails IsOutput before after failure.NoMemory = WantedMemory before after
+DeckFails IsOutput before after (failure.History fault) = ⊥
+
 -- WHAT MUST COME
 
 pub record SpellsDeck (old new : SourceState) : Type 0 where
@@ -116,22 +126,29 @@ pub record IsFair (before after : Ends) : Type 0 where
   pub source : SpellsDeck before.source after.source
   pub sink : Rose before.sink.faults after.sink.faults → ⊥
 
--- unless memory runs out, such a deck is run, or checked
-abbrev pub Completes : (Outcome → Type 0) → Ends → Ends → Outcome → Type 0
-Completes Succeeds before after result =
-    IsFair before after → Succeeds result ⊎ (result ≡ outcome.NoMemory)
-
 -- unless memory runs out, an input that is rejected gets its line and its cause reported
-abbrev pub Refuses : Ends → Ends → Outcome → Type 0
-Refuses before after result =
-    (fault : DeckFault) → SpellsNone fault before.source after.source
-    → (result ≡ outcome.Deck fault) ⊎ (result ≡ outcome.NoMemory)
+abbrev pub Refuses : {A : Type 0} → SourceState → SourceState → Result A Failure → Type 0
+Refuses old new end =
+    (fault : DeckFault) → SpellsNone fault old new → FailsOrLacked (failure.Deck fault) end
 
-abbrev pub HasRan : Outcome → Type 0
-HasRan result = (history : List Entry) × (result ≡ outcome.Ok history)
+-- WHAT IS DONE OVER A DECK
 
-abbrev pub HasChecked : Outcome → Type 0
-HasChecked result = result ≡ outcome.Checked
+-- what a run and a check have in common: what a result says, the cause of each failure, and what
+-- must come
+pub record OverDeck {A : Type 0} (Says : A → Type 0) (IsOutput : Deck → List ℕ → Type 0)
+    (before after : Ends) (end : Result A Failure) : Type 0 where
+  pub ok : IfOk end Says
+  pub failed : IfErr end (DeckFails IsOutput before after)
+  pub must_be_too_long : EndsTooLong INPUT_LIMIT before.source after.source end
+  pub must_refuse : Refuses before.source after.source end
+  pub completes : IsFair before after → OkOrLacked end
+
+abbrev pub Runs : Wanted → Ends → Ends → Result (List Entry) Failure → Type 0
+Runs wanted before after end =
+    OverDeck (Headline wanted before after) (IsReport wanted) before after end
+
+abbrev pub Checks : Ends → Ends → Result (Unit {0}) Failure → Type 0
+Checks before after end = OverDeck (λ done. Checked before after) IsGoodLine before after end
 
 -- A DRILL
 -- It reads nothing: what is run is the deck of terminals that count in one block.
@@ -158,68 +175,32 @@ pub record DrillBroke (jobs : ℕ) (before after : SinkState) : Type 0 where
   pub drill_is : IsDrill jobs drill
   pub broke_off : BrokeOff (line_of_drill drill) before after
 
-abbrev pub HasDrilled : Outcome → Type 0
-HasDrilled result = (drill : DrillEnd) × (result ≡ outcome.Drilled drill)
+-- what each failure of a drill means; all others never come
+abbrev pub DrillFails : ℕ → SinkState → SinkState → Failure → Type 0
+DrillFails jobs before after failure.WriteFault = DrillBroke jobs before after
+DrillFails jobs before after failure.NoMemory = after ≡ before
+DrillFails jobs before after _ = ⊥
 
 -- the result of a drill, and what it does to the sink
-pub record DrillEnds (jobs : ℕ) (before after : SinkState) (result : Outcome) : Type 0 where
-  pub drilled : IfDrilled result (Drilled jobs before after)
-  pub not_ran : IfRan result (λ history. ⊥)
-  pub not_checked : OnChecked result ⊥
-  pub not_replayed : IfReplayed result (λ history. ⊥)
-  pub not_usage : OnUsage result ⊥
-  pub not_read_fault : OnReadFault result ⊥
-  pub not_too_long : OnTooLong result ⊥
-  pub not_deck : IfDeck result (λ fault. ⊥)
-  pub not_disputed : IfHistory result (λ fault. ⊥)
-  pub write_fault : OnWriteFault result (DrillBroke jobs before after)
-  pub no_memory : OnNoMemory result (after ≡ before)
-  pub completes : (Rose before.faults after.faults → ⊥) → HasDrilled result ⊎ (result ≡ outcome.NoMemory)
+pub record DrillEnds (jobs : ℕ) (before after : SinkState) (end : Result DrillEnd Failure) : Type 0 where
+  pub ok : IfOk end (Drilled jobs before after)
+  pub failed : IfErr end (DrillFails jobs before after)
+  pub completes : (Rose before.faults after.faults → ⊥) → OkOrLacked end
+
+pub record Drills (jobs : ℕ) (before after : Ends) (end : Result DrillEnd Failure) : Type 0 where
+  pub source : after.source ≡ before.source
+  pub answers : DrillEnds jobs before.sink after.sink end
 
 -- WHAT THE PROGRAM DOES
 
--- what a run and a check have in common: what they may write, how they succeed, the cause of every
--- other answer, and what must come
-pub record Answers (IsOutput : Deck → List ℕ → Type 0) (Succeeds : Outcome → Type 0)
-    (before after : Ends) (result : Outcome) : Type 0 where
-  pub not_usage : OnUsage result ⊥
-  pub not_replayed : IfReplayed result (λ history. ⊥)
-  pub not_disputed : IfHistory result (λ fault. ⊥)
-  pub read_fault : OnReadFault result (SourceFailed before after)
-  pub too_long : OnTooLong result (InputTooLong INPUT_LIMIT before after)
-  pub deck : IfDeck result (Refused before after)
-  pub write_fault : OnWriteFault result (SinkFailed IsOutput before after)
-  pub no_memory : OnNoMemory result (WantedMemory before after)
-  pub must_be_too_long : EndsTooLong INPUT_LIMIT before after result
-  pub must_refuse : Refuses before after result
-  pub completes : Completes Succeeds before after result
-
-pub record Runs (wanted : Wanted) (before after : Ends) (result : Outcome) : Type 0 where
-  pub ran : IfRan result (Headline wanted before after)
-  pub not_checked : OnChecked result ⊥
-  pub not_drilled : IfDrilled result (λ drill. ⊥)
-  pub answers : Answers (IsReport wanted) HasRan before after result
-
-pub record Checks (before after : Ends) (result : Outcome) : Type 0 where
-  pub checked : OnChecked result (Checked before after)
-  pub not_ran : IfRan result (λ history. ⊥)
-  pub not_drilled : IfDrilled result (λ drill. ⊥)
-  pub answers : Answers IsGoodLine HasChecked before after result
-
-pub record Drills (jobs : ℕ) (before after : Ends) (result : Outcome) : Type 0 where
-  pub source : after.source ≡ before.source
-  pub answers : DrillEnds jobs before.sink after.sink result
-
--- unless memory runs out, the usage is the result; nothing was read and nothing was written
-pub record TellsUsage (before after : Ends) (result : Outcome) : Type 0 where
-  pub usage : (result ≡ outcome.Usage) ⊎ (result ≡ outcome.NoMemory)
-  pub untouched : after ≡ before
-
--- As the words ask: a deck is run, and what they ask for is written, or it is checked, or a drill
--- is run. Or a run is checked again, or the usage is the result
+-- Memory may run out before the words are parsed. Otherwise each word has its own outcome: a deck
+-- is run, and what the words ask for is written, or it is checked, or a drill is run, or a run is
+-- checked again. Other words have the usage as their outcome. No word has the outcome of another.
 abbrev pub Does : Asked → Ends → Ends → Outcome → Type 0
-Does (Run wanted) before after result = Runs wanted before after result
-Does Check before after result = Checks before after result
-Does (Drill jobs) before after result = Drills jobs before after result
-Does Replay before after result = Replays before after result
-Does Nothing before after result = TellsUsage before after result
+Does _ before after outcome.NoMemory = after ≡ before
+Does (Run wanted) before after (outcome.Run end) = Runs wanted before after end
+Does Check before after (outcome.Check end) = Checks before after end
+Does (Drill jobs) before after (outcome.Drill end) = Drills jobs before after end
+Does Replay before after (outcome.Replay end) = Replays before after end
+Does Nothing before after outcome.Usage = after ≡ before
+Does _ _ _ _ = ⊥

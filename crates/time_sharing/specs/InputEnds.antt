@@ -15,8 +15,8 @@ use Rattle.time_sharing.specs.declared.outcomes.HistoryCause.TheVariants as caus
 use Rattle.time_sharing.specs.declared.outcomes.HistoryFault.{HistoryFault}
 use Rattle.time_sharing.specs.declared.replays.InputFault.{InputFault}
 use Rattle.time_sharing.specs.declared.replays.InputFault.TheVariants as fault
-use Rattle.time_sharing.specs.declared.outcomes.Outcome.{Outcome}
-use Rattle.time_sharing.specs.declared.outcomes.Outcome.TheVariants as outcome
+use Rattle.time_sharing.specs.declared.outcomes.Failure.{Failure}
+use Rattle.time_sharing.specs.declared.outcomes.Failure.TheVariants as failure
 use Rattle.time_sharing.specs.Disputes.{Disputes, WrongRequest}
 use Rattle.time_sharing.specs.Replays.{Retells, TellsRun, TellsDispute, TellsNoDeck}
 use Rattle.time_sharing.specs.Runs.{opening_of, AllTalk, names_in}
@@ -53,9 +53,9 @@ RetellsBy deck text first (Ok run) = Retells run.0 run.1.items deck text
 RetellsBy deck text first (Err (trouble.Refused why)) = Disputes why deck text first
 RetellsBy deck text first (Err trouble.NoMemory) = Unit {0}
 
-abbrev pub fault_outcome : InputFault → Outcome
-fault_outcome (fault.Deck why) = outcome.Deck why
-fault_outcome (fault.History why) = outcome.History why
+abbrev pub fault_failure : InputFault → Failure
+fault_failure (fault.Deck why) = failure.Deck why
+fault_failure (fault.History why) = failure.History why
 
 abbrev pub TellsFault : InputFault → List ℕ → Type 0
 TellsFault (fault.Deck why) input = TellsNoDeck why input

@@ -2,7 +2,6 @@ pub mod Disputes
 pub mod Headline
 pub mod InputEnds
 pub mod Inputs
-pub mod Outcomes
 pub mod Replays
 pub mod Runs
 pub mod Sessions

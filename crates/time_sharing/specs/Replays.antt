@@ -1,6 +1,6 @@
 -- What a replay does: a deck and a history are checked once more, on one thread. `Replays`, at the
 -- end, is what the program's call says of it. The definitions before it are its words.
-use Rattle.std.specs.Prelude.{◌≡◌, ◌⊎◌, ℕ, List}
+use Rattle.std.specs.Prelude.{◌≡◌, ℕ, List, Result, IfOk, IfErr}
 use Rattle.monitor_calls.specs.declared.calls.Entry.{Entry}
 use Rattle.deck_model.specs.Deck.{Deck}
 use Rattle.deck_model.specs.Spelling.{Spelled}
@@ -10,15 +10,14 @@ use Rattle.deck_model.specs.declared.faults.DeckFault.{DeckFault}
 use Rattle.history_reader.specs.HistoryReading.{TellsHistory}
 use Rattle.rsts_io.specs.Ends.{SourceState, Rose}
 use Rattle.time_sharing.specs.declared.outcomes.HistoryFault.{HistoryFault}
-use Rattle.time_sharing.specs.declared.outcomes.Outcome.{Outcome}
-use Rattle.time_sharing.specs.declared.outcomes.Outcome.TheVariants as outcome
+use Rattle.time_sharing.specs.declared.outcomes.Failure.{Failure}
+use Rattle.time_sharing.specs.declared.outcomes.Failure.TheVariants as failure
 use Rattle.rsts_io.specs.declared.whole.TheConstants.{REPLAY_LIMIT}
 use Rattle.time_sharing.specs.Disputes.{Disputes}
 use Rattle.time_sharing.specs.Inputs.{Divided, line_behind}
-use Rattle.time_sharing.specs.Outcomes.{IfRan, IfDrilled, IfReplayed, IfHistory, OnChecked, OnUsage, IfDeck, OnReadFault, OnTooLong, OnWriteFault, OnNoMemory}
 use Rattle.time_sharing.specs.Runs.{IsRun, names_in}
 use Rattle.rsts_io.specs.Whole.{IsInput, Written, BrokeOff}
-use Rattle.time_sharing.specs.TwoEnds.{Ends, NothingGiven, SourceFailed, InputTooLong, WantedMemory, IsTold, EndsTooLong}
+use Rattle.time_sharing.specs.TwoEnds.{Ends, NothingGiven, SourceFailed, InputTooLong, WantedMemory, IsTold, OkOrLacked, FailsOrLacked, EndsTooLong}
 
 -- WHAT AN INPUT SAYS
 
@@ -80,6 +79,15 @@ pub record ReportBroke (before after : Ends) : Type 0 where
   pub found : FoundInput (TellsRun history output) before.source after.source
   pub broke_off : BrokeOff output before.sink after.sink
 
+-- what each failure of a replay means
+abbrev pub ReplayFails : Ends → Ends → Failure → Type 0
+ReplayFails before after (failure.Deck fault) = FoundAlone (TellsNoDeck fault) before after
+ReplayFails before after failure.ReadFault = SourceFailed before after
+ReplayFails before after failure.TooLong = InputTooLong REPLAY_LIMIT before after
+ReplayFails before after failure.WriteFault = ReportBroke before after
+ReplayFails before after failure.NoMemory = WantedMemory before after
+ReplayFails before after (failure.History fault) = FoundAlone (TellsDispute fault) before after
+
 -- WHAT MUST COME
 
 -- the source reports an input, and this is so of it
@@ -95,29 +103,17 @@ pub record IsFairReplay (before after : Ends) : Type 0 where
   pub source : ToldInput (TellsRun history output) before.source after.source
   pub sink : Rose before.sink.faults after.sink.faults → ⊥
 
-abbrev pub HasReplayed : Outcome → Type 0
-HasReplayed result = (history : List Entry) × (result ≡ outcome.Replayed history)
-
--- unless memory runs out, an input of which this is so has this result
-abbrev pub MustBe : (List ℕ → Type 0) → Outcome → Ends → Ends → Outcome → Type 0
-MustBe IsSo answer before after result =
-    ToldInput IsSo before.source after.source → (result ≡ answer) ⊎ (result ≡ outcome.NoMemory)
+-- unless memory runs out, an input of which this is so has this failure
+abbrev pub MustFail : (List ℕ → Type 0) → Failure → Ends → Ends → Result (List Entry) Failure → Type 0
+MustFail IsSo why before after end =
+    ToldInput IsSo before.source after.source → FailsOrLacked why end
 
 -- WHAT A REPLAY DOES
 
-pub record Replays (before after : Ends) (result : Outcome) : Type 0 where
-  pub replayed : IfReplayed result (Replayed before after)
-  pub history : IfHistory result (λ fault. FoundAlone (TellsDispute fault) before after)
-  pub deck : IfDeck result (λ fault. FoundAlone (TellsNoDeck fault) before after)
-  pub read_fault : OnReadFault result (SourceFailed before after)
-  pub too_long : OnTooLong result (InputTooLong REPLAY_LIMIT before after)
-  pub write_fault : OnWriteFault result (ReportBroke before after)
-  pub no_memory : OnNoMemory result (WantedMemory before after)
-  pub not_ran : IfRan result (λ history. ⊥)
-  pub not_checked : OnChecked result ⊥
-  pub not_drilled : IfDrilled result (λ drill. ⊥)
-  pub not_usage : OnUsage result ⊥
-  pub must_be_too_long : EndsTooLong REPLAY_LIMIT before after result
-  pub must_refuse : (fault : DeckFault) → MustBe (TellsNoDeck fault) (outcome.Deck fault) before after result
-  pub must_dispute : (fault : HistoryFault) → MustBe (TellsDispute fault) (outcome.History fault) before after result
-  pub completes : IsFairReplay before after → HasReplayed result ⊎ (result ≡ outcome.NoMemory)
+pub record Replays (before after : Ends) (end : Result (List Entry) Failure) : Type 0 where
+  pub ok : IfOk end (Replayed before after)
+  pub failed : IfErr end (ReplayFails before after)
+  pub must_be_too_long : EndsTooLong REPLAY_LIMIT before.source after.source end
+  pub must_refuse : (fault : DeckFault) → MustFail (TellsNoDeck fault) (failure.Deck fault) before after end
+  pub must_dispute : (fault : HistoryFault) → MustFail (TellsDispute fault) (failure.History fault) before after end
+  pub completes : IsFairReplay before after → OkOrLacked end

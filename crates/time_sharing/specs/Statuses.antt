@@ -1,5 +1,5 @@
 -- The program's status and its line on standard error.
-use Rattle.std.specs.Prelude.{ℕ, List, ◌++◌, codes}
+use Rattle.std.specs.Prelude.{ℕ, List, ◌++◌, Result, Ok, Err, codes}
 use Rattle.std.specs.Fmt.{decimal}
 use Rattle.deck_model.specs.declared.faults.DeckCause.{DeckCause}
 use Rattle.deck_model.specs.declared.faults.DeckCause.TheVariants.{Cut, Version, Shape, Range, Double, Owner, Space}
@@ -7,21 +7,31 @@ use Rattle.deck_model.specs.declared.faults.DeckFault.{DeckFault}
 use Rattle.time_sharing.specs.declared.outcomes.HistoryCause.{HistoryCause}
 use Rattle.time_sharing.specs.declared.outcomes.HistoryCause.TheVariants.{Form, Reply, Meaning}
 use Rattle.time_sharing.specs.declared.outcomes.HistoryFault.{HistoryFault}
+use Rattle.time_sharing.specs.declared.outcomes.Failure.{Failure}
+use Rattle.time_sharing.specs.declared.outcomes.Failure.TheVariants.{Deck, ReadFault, TooLong, WriteFault, NoMemory, History}
 use Rattle.time_sharing.specs.declared.outcomes.Outcome.{Outcome}
-use Rattle.time_sharing.specs.declared.outcomes.Outcome.TheVariants.{Ok, Checked, Drilled, Replayed, Usage, Deck, ReadFault, TooLong, WriteFault, NoMemory, History}
+use Rattle.time_sharing.specs.declared.outcomes.Outcome.TheVariants as outcome
+
+abbrev pub failure_status : Failure → ℕ
+failure_status (Deck fault) = 2
+failure_status ReadFault = 3
+failure_status TooLong = 4
+failure_status WriteFault = 5
+failure_status NoMemory = 6
+failure_status (History fault) = 7
+
+-- of the result of a word
+abbrev pub end_status : {A : Type 0} → Result A Failure → ℕ
+end_status (Ok done) = 0
+end_status (Err failure) = failure_status failure
 
 abbrev pub status_of : Outcome → ℕ
-status_of (Ok record_) = 0
-status_of Checked = 0
-status_of (Drilled drill) = 0
-status_of (Replayed record_) = 0
-status_of Usage = 1
-status_of (Deck fault) = 2
-status_of ReadFault = 3
-status_of TooLong = 4
-status_of WriteFault = 5
-status_of NoMemory = 6
-status_of (History fault) = 7
+status_of (outcome.Run end) = end_status end
+status_of (outcome.Check end) = end_status end
+status_of (outcome.Drill end) = end_status end
+status_of (outcome.Replay end) = end_status end
+status_of outcome.Usage = 1
+status_of outcome.NoMemory = failure_status NoMemory
 
 abbrev pub cause_text : DeckCause → List ℕ
 cause_text Cut = codes "input ends early"
@@ -43,15 +53,22 @@ dispute_text Meaning = codes "request differs"
 abbrev pub dispute_line : HistoryFault → List ℕ
 dispute_line fault = codes "history line " ++ decimal fault.line ++ codes ": " ++ dispute_text fault.cause
 
+abbrev pub failure_line : Failure → List ℕ
+failure_line (Deck fault) = fault_line fault
+failure_line ReadFault = codes "read fault"
+failure_line TooLong = codes "input too long"
+failure_line WriteFault = codes "write fault"
+failure_line NoMemory = codes "no memory"
+failure_line (History fault) = dispute_line fault
+
+abbrev pub end_line : {A : Type 0} → Result A Failure → List ℕ
+end_line (Ok done) = codes ""
+end_line (Err failure) = failure_line failure
+
 abbrev pub line_of : Outcome → List ℕ
-line_of (Ok record_) = codes ""
-line_of Checked = codes ""
-line_of (Drilled drill) = codes ""
-line_of (Replayed record_) = codes ""
-line_of Usage = codes "usage: rsts run [--history] [--printer] | check | drill N | replay"
-line_of (Deck fault) = fault_line fault
-line_of ReadFault = codes "read fault"
-line_of TooLong = codes "input too long"
-line_of WriteFault = codes "write fault"
-line_of NoMemory = codes "no memory"
-line_of (History fault) = dispute_line fault
+line_of (outcome.Run end) = end_line end
+line_of (outcome.Check end) = end_line end
+line_of (outcome.Drill end) = end_line end
+line_of (outcome.Replay end) = end_line end
+line_of outcome.Usage = codes "usage: rsts run [--history] [--printer] | check | drill N | replay"
+line_of outcome.NoMemory = failure_line NoMemory

@@ -1,8 +1,8 @@
 -- The two ends of the program, and what is left of them if it does not reach its output.
-use Rattle.std.specs.Prelude.{◌≡◌, ℕ, ◌≤◌, List, length, Some}
+use Rattle.std.specs.Prelude.{◌≡◌, ℕ, ◌≤◌, List, length, Some, Result, Err, IsOk, ◌⊎◌}
 use Rattle.rsts_io.specs.Ends.{SourceState, SinkState, Rose}
-use Rattle.time_sharing.specs.declared.outcomes.Outcome.{Outcome}
-use Rattle.time_sharing.specs.declared.outcomes.Outcome.TheVariants as outcome
+use Rattle.time_sharing.specs.declared.outcomes.Failure.{Failure}
+use Rattle.time_sharing.specs.declared.outcomes.Failure.TheVariants as failure
 use Rattle.rsts_io.specs.Whole.{IsOverLimit, IsTooMuch}
 
 -- The program reads a source and writes to a sink. All that is said of them is what they were
@@ -41,7 +41,14 @@ pub record IsTold (limit : ℕ) (read : List ℕ) (old new : SourceState) : Type
   pub most : length read ≤ limit
   pub no_fault : Rose old.faults new.faults → ⊥
 
+-- unless memory runs out there is a result
+abbrev pub OkOrLacked : {A : Type 0} → Result A Failure → Type 0
+OkOrLacked end = IsOk end ⊎ (end ≡ Err failure.NoMemory)
+
+-- unless memory runs out this is the failure
+abbrev pub FailsOrLacked : {A : Type 0} → Failure → Result A Failure → Type 0
+FailsOrLacked why end = (end ≡ Err why) ⊎ (end ≡ Err failure.NoMemory)
+
 -- one byte more than an input may have is too much
-abbrev pub EndsTooLong : ℕ → Ends → Ends → Outcome → Type 0
-EndsTooLong limit before after result =
-    IsOverLimit limit before.source after.source → result ≡ outcome.TooLong
+abbrev pub EndsTooLong : {A : Type 0} → ℕ → SourceState → SourceState → Result A Failure → Type 0
+EndsTooLong limit old new end = IsOverLimit limit old new → end ≡ Err failure.TooLong

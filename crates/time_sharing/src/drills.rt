@@ -4,7 +4,7 @@ ghost use Rattle.std.specs.Prelude.{◌≡◌, ◌≤◌, IfOk};
 ghost use Rattle.program_words.specs.declared.words.TheConstants.{MOST_DRILL_JOBS};
 ghost use Rattle.time_sharing.specs.Headline.{IsDrill, line_of_drill, DrillEnds};
 
-use crate::outcomes::{Drill, Outcome};
+use crate::outcomes::{Drill, Failure};
 use crate::runs::run_deck;
 use basic_values::NoMemory;
 use drill_deck::{drill_deck, drill_line, tally_of};
@@ -21,17 +21,17 @@ pub(crate) fn run_drill<R: Threads + Wait + Sync, K: Sink, P: Pacer + Sync>(
     jobs: u32,
     sink: &mut K,
     pacer: &P,
-) -> Outcome
+) -> Result<Drill, Failure>
     requires { jobs ≤ MOST_DRILL_JOBS }
     ensures { DrillEnds jobs (K.state sink.old) (K.state sink.new) result }
 {
     let (drill, line) = match drilled(rt, alloc, jobs, pacer) {
         Ok(drilled) => drilled,
-        Err(NoMemory) => return Outcome::NoMemory,
+        Err(NoMemory) => return Err(Failure::NoMemory),
     };
     match give_all(sink, line.as_slice()) {
-        Ok(()) => Outcome::Drilled(drill),
-        Err(SinkFault) => Outcome::WriteFault,
+        Ok(()) => Ok(drill),
+        Err(SinkFault) => Err(Failure::WriteFault),
     }
 }
 

@@ -19,7 +19,7 @@ mod systems;
 mod top;
 mod writings;
 
-pub use outcomes::{Drill, HistoryCause, HistoryFault, Outcome};
+pub use outcomes::{Drill, Failure, HistoryCause, HistoryFault, Outcome};
 pub use replays::replay_system;
 pub use systems::check_system;
 pub use top::{Rest, Step, begin, exit_code, finish, rsts_main};

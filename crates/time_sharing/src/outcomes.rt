@@ -1,8 +1,9 @@
 //! How a call of the program ends.
 
 ghost use Rattle.std.specs.Prelude.{◌≡◌, ◌≤◌, length};
-ghost use Rattle.time_sharing.specs.Statuses.{status_of, line_of, cause_text, fault_line};
-ghost use Rattle.time_sharing.specs.Statuses.{dispute_text, dispute_line};
+ghost use Rattle.time_sharing.specs.Statuses.{status_of, end_status, failure_status};
+ghost use Rattle.time_sharing.specs.Statuses.{line_of, end_line, failure_line};
+ghost use Rattle.time_sharing.specs.Statuses.{cause_text, fault_line, dispute_text, dispute_line};
 
 use arrayvec::ArrayVec;
 use deck_model::{DeckCause, DeckFault};
@@ -38,19 +39,9 @@ pub struct HistoryFault {
     pub cause: HistoryCause,
 }
 
-/// How a call of the program ends.
-#[derive(Drop)]
-pub enum Outcome {
-    /// The deck was run and its report was written.
-    Ok(RunRecord),
-    /// The deck is good, and a line that says so was written.
-    Checked,
-    /// The drill was run, and its line was written.
-    Drilled(Drill),
-    /// The run in the input was checked again, and its report was written.
-    Replayed(RunRecord),
-    /// The words ask for nothing that the program does.
-    Usage,
+/// Why the program does not do what a word asks for.
+#[derive(Clone, Copy, Debug, PartialEq, Eq)]
+pub enum Failure {
     /// The input spells no deck: the first line that no deck can have there, and why.
     Deck(DeckFault),
     /// The source failed.
@@ -64,20 +55,63 @@ pub enum Outcome {
     History(HistoryFault),
 }
 
+impl Failure {
+    fn status(self) -> u8
+        ensures { result ≡ failure_status self }
+    {
+        match self {
+            Failure::Deck(_) => 2,
+            Failure::ReadFault => 3,
+            Failure::TooLong => 4,
+            Failure::WriteFault => 5,
+            Failure::NoMemory => 6,
+            Failure::History(_) => 7,
+        }
+    }
+
+    fn line(self) -> ArrayVec<u8, 80>
+        ensures { result.items ≡ failure_line self }
+    {
+        match self {
+            Failure::Deck(fault) => fault_line(fault),
+            Failure::ReadFault => words(b"read fault"),
+            Failure::TooLong => words(b"input too long"),
+            Failure::WriteFault => words(b"write fault"),
+            Failure::NoMemory => words(b"no memory"),
+            Failure::History(fault) => dispute_line(fault),
+        }
+    }
+}
+
+/// How a call of the program ends. Each word has its own outcome: its result, or why it failed.
+#[derive(Drop)]
+pub enum Outcome {
+    /// The deck was run and its report was written.
+    Run(Result<RunRecord, Failure>),
+    /// The deck is good, and a line that says so was written.
+    Check(Result<(), Failure>),
+    /// The drill was run, and its line was written.
+    Drill(Result<Drill, Failure>),
+    /// The run in the input was checked again, and its report was written.
+    Replay(Result<RunRecord, Failure>),
+    /// The words ask for nothing that the program does.
+    Usage,
+    /// Memory ran out before the words were parsed.
+    NoMemory,
+}
+
 impl Outcome {
     /// Returns the status with which the program ends.
     pub fn status(&self) -> u8
         ensures { result ≡ status_of self.now }
     {
         match self {
-            Outcome::Ok(_) | Outcome::Checked | Outcome::Drilled(_) | Outcome::Replayed(_) => 0,
+            Outcome::Run(end) => end_status(end),
+            Outcome::Check(end) => end_status(end),
+            Outcome::Drill(end) => end_status(end),
+            Outcome::Replay(end) => end_status(end),
             Outcome::Usage => 1,
-            Outcome::Deck(_) => 2,
-            Outcome::ReadFault => 3,
-            Outcome::TooLong => 4,
-            Outcome::WriteFault => 5,
-            Outcome::NoMemory => 6,
-            Outcome::History(_) => 7,
+            Outcome::NoMemory => Failure::NoMemory.status(),
         }
     }
 
@@ -87,19 +121,35 @@ impl Outcome {
         ensures { result.items ≡ line_of self.now }
     {
         match self {
-            Outcome::Ok(_) | Outcome::Checked | Outcome::Drilled(_) | Outcome::Replayed(_) => {
-                words(b"")
-            }
+            Outcome::Run(end) => end_line(end),
+            Outcome::Check(end) => end_line(end),
+            Outcome::Drill(end) => end_line(end),
+            Outcome::Replay(end) => end_line(end),
             Outcome::Usage => {
                 words(b"usage: rsts run [--history] [--printer] | check | drill N | replay")
             }
-            Outcome::Deck(fault) => fault_line(*fault),
-            Outcome::ReadFault => words(b"read fault"),
-            Outcome::TooLong => words(b"input too long"),
-            Outcome::WriteFault => words(b"write fault"),
-            Outcome::NoMemory => words(b"no memory"),
-            Outcome::History(fault) => dispute_line(*fault),
+            Outcome::NoMemory => Failure::NoMemory.line(),
         }
+    }
+}
+
+/// Returns the status for the result of a word.
+fn end_status<A>(end: &Result<A, Failure>) -> u8
+    ensures { result ≡ end_status end.now }
+{
+    match end {
+        Ok(_) => 0,
+        Err(failure) => failure.status(),
+    }
+}
+
+/// Returns the line for the result of a word.
+fn end_line<A>(end: &Result<A, Failure>) -> ArrayVec<u8, 80>
+    ensures { result.items ≡ end_line end.now }
+{
+    match end {
+        Ok(_) => words(b""),
+        Err(failure) => failure.line(),
     }
 }
 

@@ -5,11 +5,11 @@ ghost use Rattle.deck_model.specs.Deck.{IsDeck};
 ghost use Rattle.deck_reader.specs.Seen.{deck_of};
 ghost use Rattle.time_sharing.specs.TwoEnds.{ends};
 ghost use Rattle.time_sharing.specs.Replays.{Replays};
-ghost use Rattle.time_sharing.specs.InputEnds.{entry_of, fault_of, fault_outcome, RetellsBy};
+ghost use Rattle.time_sharing.specs.InputEnds.{entry_of, fault_of, fault_failure, RetellsBy};
 ghost use Rattle.time_sharing.specs.InputEnds.{ToldBy};
 
 use crate::inputs::divided;
-use crate::outcomes::{HistoryCause, HistoryFault, Outcome};
+use crate::outcomes::{Failure, HistoryCause, HistoryFault};
 use crate::runs::replay_deck;
 use basic_values::{Series, Trouble};
 use deck_model::DeckFault;
@@ -29,36 +29,40 @@ pub(crate) enum InputFault {
 }
 
 impl InputFault {
-    fn outcome(self) -> Outcome
-        ensures { result ≡ fault_outcome self }
+    fn failure(self) -> Failure
+        ensures { result ≡ fault_failure self }
     {
         match self {
-            InputFault::Deck(fault) => Outcome::Deck(fault),
-            InputFault::History(fault) => Outcome::History(fault),
+            InputFault::Deck(fault) => Failure::Deck(fault),
+            InputFault::History(fault) => Failure::History(fault),
         }
     }
 }
 
 /// Reads a deck and a history after it, checks that a run of the deck has that history, and writes
 /// its report, as the word `replay` asks.
-pub fn replay_system<S: Source, K: Sink>(alloc: Global, source: &mut S, sink: &mut K) -> Outcome
+pub fn replay_system<S: Source, K: Sink>(
+    alloc: Global,
+    source: &mut S,
+    sink: &mut K,
+) -> Result<RunRecord, Failure>
     ensures { Replays (ends (S.state source.old) (K.state sink.old))
         (ends (S.state source.new) (K.state sink.new)) result }
 {
     let input = match read_all(alloc, source, REPLAY_LIMIT) {
         Ok(input) => input,
-        Err(ReadEnd::Fault) => return Outcome::ReadFault,
-        Err(ReadEnd::TooLong) => return Outcome::TooLong,
-        Err(ReadEnd::NoMemory) => return Outcome::NoMemory,
+        Err(ReadEnd::Fault) => return Err(Failure::ReadFault),
+        Err(ReadEnd::TooLong) => return Err(Failure::TooLong),
+        Err(ReadEnd::NoMemory) => return Err(Failure::NoMemory),
     };
     let (record, output) = match run_told(alloc, input.as_slice()) {
         Ok(told) => told,
-        Err(Trouble::Refused(fault)) => return fault.outcome(),
-        Err(Trouble::NoMemory) => return Outcome::NoMemory,
+        Err(Trouble::Refused(fault)) => return Err(fault.failure()),
+        Err(Trouble::NoMemory) => return Err(Failure::NoMemory),
     };
     match give_all(sink, output.as_slice()) {
-        Ok(()) => Outcome::Replayed(record),
-        Err(SinkFault) => Outcome::WriteFault,
+        Ok(()) => Ok(record),
+        Err(SinkFault) => Err(Failure::WriteFault),
     }
 }
 

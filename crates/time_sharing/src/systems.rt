@@ -1,18 +1,16 @@
 //! What a run and a check do: they read a deck, and write what they have to say of it.
 
-ghost use Rattle.std.specs.Prelude.{◌≡◌, IfOk};
+ghost use Rattle.std.specs.Prelude.{IfOk};
 ghost use Rattle.deck_model.specs.Deck.{IsDeck};
 ghost use Rattle.deck_reader.specs.Seen.{deck_of};
-ghost use Rattle.time_sharing.specs.Headline.{Reports, Runs, Checks};
-ghost use Rattle.time_sharing.specs.SourceEnds.{FoundInSource, MustFind, MustRefuse, MustStop};
-ghost use Rattle.time_sharing.specs.SourceEnds.{outcome_of};
-ghost use Rattle.time_sharing.specs.TwoEnds.{ends};
+ghost use Rattle.time_sharing.specs.Headline.{Reports, Runs, Checks, SpellsDeck, Refuses};
+ghost use Rattle.time_sharing.specs.SourceEnds.{FoundInSource};
+ghost use Rattle.time_sharing.specs.TwoEnds.{ends, OkOrLacked, EndsTooLong};
 
-use crate::outcomes::Outcome;
+use crate::outcomes::Failure;
 use crate::runs::run_deck;
 use crate::writings::written;
 use basic_values::{NoMemory, Trouble};
-use deck_model::DeckFault;
 use deck_reader::{Deck, read_deck};
 use monitor_calls::RunRecord;
 use program_words::Wanted;
@@ -23,28 +21,6 @@ use std::sync::Wait;
 use std::thread::Threads;
 use terminal_runner::Pacer;
 
-/// Why no deck was read.
-#[derive(Clone, Copy, PartialEq, Eq)]
-pub(crate) enum Stopped {
-    ReadFault,
-    TooLong,
-    Deck(DeckFault),
-    NoMemory,
-}
-
-impl Stopped {
-    fn outcome(self) -> Outcome
-        ensures { result ≡ outcome_of self }
-    {
-        match self {
-            Stopped::ReadFault => Outcome::ReadFault,
-            Stopped::TooLong => Outcome::TooLong,
-            Stopped::Deck(fault) => Outcome::Deck(fault),
-            Stopped::NoMemory => Outcome::NoMemory,
-        }
-    }
-}
-
 /// Runs the terminals of the deck that the source spells and writes what is asked of the run, as
 /// the word `run` asks.
 pub(crate) fn run_system<R: Threads + Wait + Sync, S: Source, K: Sink, P: Pacer + Sync>(
@@ -54,63 +30,67 @@ pub(crate) fn run_system<R: Threads + Wait + Sync, S: Source, K: Sink, P: Pacer 
     source: &mut S,
     sink: &mut K,
     pacer: &P,
-) -> Outcome
+) -> Result<RunRecord, Failure>
     ensures { Runs wanted (ends (S.state source.old) (K.state sink.old))
         (ends (S.state source.new) (K.state sink.new)) result }
 {
     let deck = match read_system(alloc, source) {
         Ok(deck) => deck,
-        Err(stopped) => return stopped.outcome(),
+        Err(failure) => return Err(failure),
     };
     let (record, output) = match run_and_report(rt, alloc, wanted, deck, pacer) {
         Ok(ran) => ran,
-        Err(NoMemory) => return Outcome::NoMemory,
+        Err(NoMemory) => return Err(Failure::NoMemory),
     };
     match give_all(sink, output.as_slice()) {
-        Ok(()) => Outcome::Ok(record),
-        Err(SinkFault) => Outcome::WriteFault,
+        Ok(()) => Ok(record),
+        Err(SinkFault) => Err(Failure::WriteFault),
     }
 }
 
 /// Reads a deck and writes `GOOD`, the numbers of its accounts, files and terminals, as the word
 /// `check` asks.
-pub fn check_system<S: Source, K: Sink>(alloc: Global, source: &mut S, sink: &mut K) -> Outcome
+pub fn check_system<S: Source, K: Sink>(
+    alloc: Global,
+    source: &mut S,
+    sink: &mut K,
+) -> Result<(), Failure>
     ensures { Checks (ends (S.state source.old) (K.state sink.old))
         (ends (S.state source.new) (K.state sink.new)) result }
 {
     let deck = match read_system(alloc, source) {
         Ok(deck) => deck,
-        Err(stopped) => return stopped.outcome(),
+        Err(failure) => return Err(failure),
     };
     let volume = &deck.volume;
     let (accounts, files) = (volume.accounts.len(), volume.files.len());
     let output = match good_line(alloc, accounts, files, deck.terminals.len()) {
         Ok(output) => output,
-        Err(NoMemory) => return Outcome::NoMemory,
+        Err(NoMemory) => return Err(Failure::NoMemory),
     };
     match give_all(sink, output.as_slice()) {
-        Ok(()) => Outcome::Checked,
-        Err(SinkFault) => Outcome::WriteFault,
+        Ok(()) => Ok(()),
+        Err(SinkFault) => Err(Failure::WriteFault),
     }
 }
 
 /// Reads the deck that the source spells, to its end.
-fn read_system<S: Source>(alloc: Global, source: &mut S) -> Result<Deck, Stopped>
+fn read_system<S: Source>(alloc: Global, source: &mut S) -> Result<Deck, Failure>
     ensures found { FoundInSource result (S.state source.old) (S.state source.new) }
-    ensures must_stop { MustStop result (S.state source.old) (S.state source.new) }
-    ensures must_find { MustFind result (S.state source.old) (S.state source.new) }
-    ensures must_refuse { MustRefuse result (S.state source.old) (S.state source.new) }
+    ensures must_stop { EndsTooLong INPUT_LIMIT (S.state source.old) (S.state source.new) result }
+    ensures must_find { SpellsDeck (S.state source.old) (S.state source.new) → OkOrLacked result }
+    ensures must_refuse { Refuses (S.state source.old) (S.state source.new) result }
 {
     let bytes = match read_all(alloc, source, INPUT_LIMIT) {
         Ok(bytes) => bytes,
-        Err(ReadEnd::Fault) => return Err(Stopped::ReadFault),
-        Err(ReadEnd::TooLong) => return Err(Stopped::TooLong),
-        Err(ReadEnd::NoMemory) => return Err(Stopped::NoMemory),
+        Err(ReadEnd::Fault) => return Err(Failure::ReadFault),
+        Err(ReadEnd::TooLong) => return Err(Failure::TooLong),
+        Err(ReadEnd::NoMemory) => return Err(Failure::NoMemory),
     };
     match read_deck(alloc, bytes.as_slice()) {
         Ok(deck) => Ok(deck),
-        Err(Trouble::Refused(fault)) => Err(Stopped::Deck(fault)),
-        Err(Trouble::NoMemory) => Err(Stopped::NoMemory),
+        Err(Trouble::Refused(fault)) => Err(Failure::Deck(fault)),
+        Err(Trouble::NoMemory) => Err(Failure::NoMemory),
     }
 }
 

@@ -41,7 +41,6 @@ pub enum Step {
 
 /// Does what the words ask if that needs no waiting, as a check, a replay and the usage do. Parses
 /// the words, and says what is left to do.
-#[tactic(auto, using(crate::proofs::SystemLemmas::wanted))]
 pub fn begin<S: Source, K: Sink>(
     alloc: Global,
     words: &[String],
@@ -54,9 +53,9 @@ pub fn begin<S: Source, K: Sink>(
 {
     match asked_by(alloc, words) {
         Ok(Asked::Run(wanted)) => Step::Waits(Rest::Run(wanted)),
-        Ok(Asked::Check) => Step::Ended(check_system(alloc, source, sink)),
+        Ok(Asked::Check) => Step::Ended(Outcome::Check(check_system(alloc, source, sink))),
         Ok(Asked::Drill(jobs)) => Step::Waits(Rest::Drill(jobs)),
-        Ok(Asked::Replay) => Step::Ended(replay_system(alloc, source, sink)),
+        Ok(Asked::Replay) => Step::Ended(Outcome::Replay(replay_system(alloc, source, sink))),
         Ok(Asked::Nothing) => Step::Ended(Outcome::Usage),
         Err(NoMemory) => Step::Ended(Outcome::NoMemory),
     }
@@ -79,8 +78,8 @@ pub fn finish<R: Threads + Wait + Sync, S: Source, K: Sink, P: Pacer + Sync>(
         (ends (S.state source.new) (K.state sink.new)) result }
 {
     match rest {
-        Rest::Run(wanted) => run_system(rt, alloc, wanted, source, sink, pacer),
-        Rest::Drill(jobs) => run_drill(rt, alloc, jobs, sink, pacer),
+        Rest::Run(wanted) => Outcome::Run(run_system(rt, alloc, wanted, source, sink, pacer)),
+        Rest::Drill(jobs) => Outcome::Drill(run_drill(rt, alloc, jobs, sink, pacer)),
     }
 }
 

@@ -7,6 +7,7 @@ use Rattle.program_words.specs.declared.words.Asked.TheVariants.{Run}
 use Rattle.rsts_io.specs.Memory.{plain_feed_state, plain_store_state}
 use Rattle.time_sharing.specs.Headline.{Does}
 use Rattle.time_sharing.specs.TwoEnds.{ends}
+use Rattle.run_tests.proofs.RunEndLemmas.{ran_or_lacked}
 use Rattle.run_tests.proofs.runs.run_between_plain_ends.Goals as goal
 
 pub returns : goal.returns
@@ -19,7 +20,7 @@ returns g c = λ deck spelled most stayed.
     ∙ (λ i. asked (map (string_bytes {Z = Global}) (c.new-words.ensures.items i ++ (c.in_ok-from_str.field-0 ∷ []))))
     ∙ (λ i. asked (c.in_ok-from_str.ensures.ok i ∷ [])) in
     let runs = subst (λ (word : Asked). Does word before after c.rsts_main-outcome.result) asks c.rsts_main-outcome.ensures in
-    runs.answers.completes (record {
+    ran_or_lacked (record { history = false; printer = false }) before after c.rsts_main-outcome.result runs (record {
       source = record {
         read = c.args.input.now;
         deck = deck;

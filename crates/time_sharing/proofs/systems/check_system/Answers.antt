@@ -1,12 +1,11 @@
-use Rattle.std.proofs.Common.{◌≡◌, ℕ, List, refl, sym, subst, ◌∙◌, arith, length, map}
+use Rattle.std.proofs.Common.{◌≡◌, ℕ, List, refl, subst, ◌∙◌, arith, length, map}
 use Rattle.deck_model.specs.Report.{good_line}
 use Rattle.deck_reader.specs.Seen.{deck_of, terminal_of}
 use Rattle.time_sharing.proofs.RunLemmas.{as_many}
-use Rattle.time_sharing.specs.declared.outcomes.Outcome.{Outcome}
 use Rattle.time_sharing.specs.TwoEnds.{ends}
-use Rattle.time_sharing.specs.Headline.{IsGoodLine, HasChecked, Checked, Checks}
+use Rattle.time_sharing.specs.Headline.{IsGoodLine, Checked}
 use Rattle.rsts_io.specs.Whole.{Written, BrokeOff}
-use Rattle.time_sharing.proofs.SystemLemmas.{stopped_answers, stopped_neither, checked_answers, broke_answers}
+use Rattle.time_sharing.proofs.SystemLemmas.{stopped_answers, wrote_answers, broke_answers, lacked_answers}
 use Rattle.time_sharing.proofs.systems.check_system.Goals as goal
 
 pub returns-in-Err : goal.returns-in-Err
@@ -14,14 +13,13 @@ returns-in-Err g c =
     let before = ends (g.S.Source.state c.args.source.now) (g.K.Sink.state c.args.sink.now) in
     let after = ends (g.S.Source.state c.read_system.new.source) (g.K.Sink.state c.args.sink.now) in
     let told = c.in-Err.ensures in
-    let neither = stopped_neither c.in-Err.stopped (λ history. ⊥) (Checked before after) (λ drill. ⊥) in
-    subst (λ (result : Outcome). Checks before after result) (sym c.outcome.ensures)
-    (record {
-      checked = neither.1;
-      not_ran = neither.0;
-      not_drilled = neither.2;
-      answers = stopped_answers IsGoodLine HasChecked c.in-Err.stopped before after told.found refl told.must_stop told.must_find told.must_refuse;
-    })
+    stopped_answers (Unit {0}) (λ done. Checked before after) IsGoodLine c.in-Err.failure before after told.found refl told.must_stop told.must_find told.must_refuse
+
+pub returns-in-Err-good_line : goal.returns-in-Err-good_line
+returns-in-Err-good_line g c =
+    let before = ends (g.S.Source.state c.args.source.now) (g.K.Sink.state c.args.sink.now) in
+    let after = ends (g.S.Source.state c.read_system.new.source) (g.K.Sink.state c.args.sink.now) in
+    lacked_answers (Unit {0}) (λ done. Checked before after) IsGoodLine c.in-Ok.deck before after c.in-Ok.ensures.must_stop c.in-Ok.ensures.must_refuse c.in-Ok.ensures.found refl
 
 pub returns-in-Ok-give_all : goal.returns-in-Ok-give_all
 returns-in-Ok-give_all g c =
@@ -32,18 +30,14 @@ returns-in-Ok-give_all g c =
     let files : c.len-files.result ≡ length c.in-Ok.deck.volume.files.items = omega (arith, c.len-files.ensures, c.in-Ok.deck.volume.files.ok.0) in
     let terminals : c.len.result ≡ length (map terminal_of c.in-Ok.deck.terminals.items) = omega (arith, c.len.ensures, c.in-Ok.deck.terminals.ok.0, as_many c.in-Ok.deck.terminals.items) in
     let line : IsGoodLine (deck_of c.in-Ok.deck) output = c.in-Ok-good_line.ensures ∙ (λ i. good_line (accounts i) (files i) (terminals i)) in
-    record {
-      checked = record {
-        deck = deck_of c.in-Ok.deck;
-        output = output;
-        found = c.in-Ok.ensures.found;
-        is_good_line = line;
-        written = subst (λ (bytes : List ℕ). Written bytes before.sink after.sink) c.as_slice.ensures.value c.in-Ok-give_all.ensures.all;
-      };
-      not_ran = tt;
-      not_drilled = tt;
-      answers = checked_answers c.in-Ok.deck before after c.in-Ok.ensures.must_stop c.in-Ok.ensures.must_refuse;
-    }
+    wrote_answers (Unit {0}) (λ done. Checked before after) IsGoodLine c.in-Ok.deck before after c.in-Ok.ensures.must_stop c.in-Ok.ensures.must_refuse tt
+    (record {
+      deck = deck_of c.in-Ok.deck;
+      output = output;
+      found = c.in-Ok.ensures.found;
+      is_good_line = line;
+      written = subst (λ (bytes : List ℕ). Written bytes before.sink after.sink) c.as_slice.ensures.value c.in-Ok-give_all.ensures.all;
+    })
 
 pub returns : goal.returns
 returns g c =
@@ -54,10 +48,5 @@ returns g c =
     let files : c.len-files.result ≡ length c.in-Ok.deck.volume.files.items = omega (arith, c.len-files.ensures, c.in-Ok.deck.volume.files.ok.0) in
     let terminals : c.len.result ≡ length (map terminal_of c.in-Ok.deck.terminals.items) = omega (arith, c.len.ensures, c.in-Ok.deck.terminals.ok.0, as_many c.in-Ok.deck.terminals.items) in
     let line : IsGoodLine (deck_of c.in-Ok.deck) output = c.in-Ok-good_line.ensures ∙ (λ i. good_line (accounts i) (files i) (terminals i)) in
-    record {
-      checked = tt;
-      not_ran = tt;
-      not_drilled = tt;
-      answers = broke_answers c.in-Ok.deck before after c.in-Ok.ensures.must_stop c.in-Ok.ensures.must_refuse IsGoodLine HasChecked output c.in-Ok.ensures.found line
-          (subst (λ (bytes : List ℕ). BrokeOff bytes before.sink after.sink) c.as_slice.ensures.value c.in-Err-give_all.ensures.front);
-    }
+    broke_answers (Unit {0}) (λ done. Checked before after) IsGoodLine c.in-Ok.deck before after c.in-Ok.ensures.must_stop c.in-Ok.ensures.must_refuse output c.in-Ok.ensures.found line
+    (subst (λ (bytes : List ℕ). BrokeOff bytes before.sink after.sink) c.as_slice.ensures.value c.in-Err-give_all.ensures.front)

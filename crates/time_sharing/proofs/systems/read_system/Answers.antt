@@ -3,7 +3,7 @@ use Rattle.deck_model.specs.Refusals.{Refused}
 use Rattle.deck_model.specs.Spelling.{Spelled}
 use Rattle.deck_reader.specs.Seen.{deck_of}
 use Rattle.deck_model.specs.declared.faults.DeckFault.{DeckFault}
-use Rattle.time_sharing.specs.declared.systems.Stopped.TheVariants as stopped
+use Rattle.time_sharing.specs.declared.outcomes.Failure.TheVariants as failure
 use Rattle.time_sharing.proofs.SystemLemmas.{read_is, never_both, same_fault}
 use Rattle.time_sharing.proofs.systems.read_system.Goals as goal
 
@@ -23,4 +23,4 @@ returns-in-Err-Refused-clause-must_refuse g c = λ fault none.
     let same : none.read ≡ c.as_slice.result.now = read_is c.in-Ok.bytes.items none.read (g.S.Source.state c.args.source.now).left (g.S.Source.state c.read_all.new.source).left c.in-Ok.ensures.ended.all none.told.told ∙ sym c.as_slice.ensures.value in
     let refused = rw c.in-Err-Refused.field-0-is at c.in-Err-Refused.ensures.refused in
     let one : c.in-Err-Refused.fault ≡ fault = same_fault c.as_slice.result.now c.in-Err-Refused.fault fault refused (subst (λ (bytes : List ℕ). Refused bytes fault.line fault.cause) same none.refused) in
-    inl (ap (λ (f : DeckFault). Err (stopped.Deck f)) one)
+    inl (ap (λ (f : DeckFault). Err (failure.Deck f)) one)
