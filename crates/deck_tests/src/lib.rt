@@ -7,6 +7,8 @@ mod causes;
 #[cfg(test)]
 mod decks;
 #[cfg(test)]
+mod disks;
+#[cfg(test)]
 mod drills;
 #[cfg(test)]
 mod ends;
