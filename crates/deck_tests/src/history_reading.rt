@@ -250,7 +250,7 @@ fn each_broken_line_is_refused(rt: HostRuntime) -> Result<(), Fail> {
 }
 
 /// Texts that are no history's.
-static TEXTS: [Row; 30] = [
+static TEXTS: [Row; 37] = [
     (b"", 0),
     (b"HISTORY 0", 0),
     (b"HISTORY 0\n0 TICK = DONE\n", 1),
@@ -299,6 +299,13 @@ static TEXTS: [Row; 30] = [
           0 TICK = DONE\n",
         2,
     ),
+    (b"HISTORY *", 0),
+    (b"HISTORY **\n", 0),
+    (b"HISTORY *1\n", 0),
+    (b"HISTORY * \n", 0),
+    (b"HISTORY *\r\n", 0),
+    (b"HISTORY *\n0 TICK = DONE", 1),
+    (b"HISTORY *\n0 TICK = DONE\n\n", 2),
 ];
 
 fn texts() -> &'static [Row] {
@@ -308,6 +315,33 @@ fn texts() -> &'static [Row] {
 #[test]
 fn a_text_is_refused_behind_its_good_lines(rt: HostRuntime) -> Result<(), Fail> {
     expect_refusals(rt.alloc(), texts())
+}
+
+/// Journals, of which each is cut from the last, and the counted texts of the same histories.
+static JOURNALS: [(&[u8], &[u8]); 3] = [
+    (b"HISTORY *\n", b"HISTORY 0\n"),
+    (b"HISTORY *\n0 TICK = DONE\n", b"HISTORY 1\n0 TICK = DONE\n"),
+    (
+        b"HISTORY *\n0 TICK = DONE\n1 STATUS = STATE 0 1,2 65535\n",
+        b"HISTORY 2\n0 TICK = DONE\n1 STATUS = STATE 0 1,2 65535\n",
+    ),
+];
+
+/// Whether the text is read as the history of a counted text.
+fn is_read_as(alloc: Global, text: &[u8], counted: &[u8]) -> bool {
+    match read_history(alloc, text) {
+        Ok(history) => is_text_of(alloc, history.as_slice(), counted),
+        Err(_) => false,
+    }
+}
+
+#[test]
+fn a_journal_is_read_up_to_any_line(rt: HostRuntime) -> Result<(), Fail> {
+    for place in 0..JOURNALS.len() {
+        let (text, counted) = JOURNALS[place];
+        expect_row("the journals", place, is_read_as(rt.alloc(), text, counted))?;
+    }
+    Ok(())
 }
 
 /// What comes before a block or blocks, how many bytes they have, what comes after them, and

@@ -1,6 +1,6 @@
 -- Histories and the lines of a text.
 use Rattle.std.proofs.Common.{◌≡◌, ℕ, zero, suc, ◌+◌, ◌-◌, ◌<◌, ◌≤◌, ◌^◌, Bool, true, false, List, [], ◌∷◌, ◌++◌, length, map, replicate, Some, Err, refl, sym, ap, subst, ◌∙◌, append_assoc, arith, ◌⊎◌, inl, inr, ltb}
-use Rattle.std.specs.Prelude.{bytes_eq}
+use Rattle.std.specs.Prelude.{◌||◌, bytes_eq, codes}
 use Rattle.std.specs.Cmp.Lexicographic.{bytes_decides}
 use Rattle.std.specs.List.{AllByRecursion}
 use Rattle.std.proofs.lemmas.Bool.{ltb-true, ltb-false}
@@ -9,8 +9,9 @@ use Rattle.monitor_calls.specs.declared.calls.Entry.{Entry}
 use Rattle.monitor_calls.specs.declared.calls.Request.TheVariants.{Logout}
 use Rattle.monitor_calls.specs.declared.calls.Reply.TheVariants.{Done}
 use Rattle.monitor_calls.specs.Proper.{IsProperEntry, Proper}
-use Rattle.deck_model.specs.Histories.{entry_line, entry_lines, count_text, history_text}
+use Rattle.deck_model.specs.Histories.{entry_line, entry_lines, count_text, history_text, IsHistoryText}
 use Rattle.basic_values.proofs.CutLaws.{Lacks}
+use Rattle.history_reader.specs.Counts.{is_star, Counts, Allows}
 use Rattle.history_reader.specs.EndedLines.{ended_lines, with_feeds, first_ended}
 use Rattle.history_reader.specs.HistoryReading.{TellsHistory, BeginsHistory, WrongAt, ReadsHistory}
 use Rattle.history_reader.specs.declared.failures.LineError.{LineError}
@@ -20,7 +21,7 @@ use Rattle.history_reader.specs.ReadingLaw.{HistoryIsOne, WrongPlaceIsOne}
 use Rattle.history_reader.specs.LineForms.{entry_read}
 use Rattle.history_reader.specs.SoFar.{heading_text, NoHeading, NoEntry, SoFar, TakesEntry}
 use Rattle.deck_model.proofs.CountTexts.{count_one}
-use Rattle.history_reader.proofs.CountLaws.{number_lacks}
+use Rattle.history_reader.proofs.CountLaws.{counts_lack, no_star, met_if, if_met, one_allowed}
 use Rattle.history_reader.proofs.EndedLaws.{one_line, first_line, ended_front, front_is, next_is, fewer_first}
 use Rattle.history_reader.proofs.FormLaws.{line_of, line_lacks, line_feed, entry_again}
 
@@ -88,15 +89,31 @@ same_count a b e = cc
 pub history_shape : (h : List Entry) → history_text h ≡ heading_text (count_text (length h)) ++ 10 ∷ entry_lines h
 history_shape h = append_assoc (heading_text (count_text (length h))) (10 ∷ []) (entry_lines h)
 
+-- the text of a history is a first line with its count, and its entries
+record Shaped (text : List ℕ) (h : List Entry) : Type 0 where
+  count : List ℕ
+  counts : Counts count (length h)
+  text_is : text ≡ heading_text count ++ 10 ∷ entry_lines h
+
+shaped : (text : List ℕ) (h : List Entry) → IsHistoryText text h → Shaped text h
+shaped text h (inl e) = record { count = count_text (length h); counts = inl refl; text_is = e ∙ history_shape h }
+shaped text h (inr e) = record { count = codes "*"; counts = inr refl; text_is = e }
+
+shaped_again : (text count : List ℕ) (h : List Entry) → Counts count (length h) → text ≡ heading_text count ++ 10 ∷ entry_lines h → IsHistoryText text h
+shaped_again text count h (inl shown) e = inl (e ∙ ap (λ (c : List ℕ). heading_text c ++ 10 ∷ entry_lines h) shown ∙ sym (history_shape h))
+shaped_again text count h (inr star) e = inr (e ∙ ap (λ (c : List ℕ). heading_text c ++ 10 ∷ entry_lines h) star)
+
 -- a history's text after the heading of a count
-headed : (h : List Entry) (count rest : List ℕ) → Lacks 10 count → history_text h ≡ heading_text count ++ 10 ∷ rest → (count_text (length h) ≡ count) × (entry_lines h ≡ rest)
-headed h count rest lacks same =
-    let parts = one_line (heading_text (count_text (length h))) (heading_text count) (entry_lines h) rest (heading_lacks (count_text (length h)) (number_lacks (length h))) (heading_lacks count lacks) (sym (history_shape h) ∙ same) in
-    (same_count (count_text (length h)) count parts.0, parts.1)
+headed : (h : List Entry) (text count rest : List ℕ) → Lacks 10 count → IsHistoryText text h → text ≡ heading_text count ++ 10 ∷ rest → Counts count (length h) × (entry_lines h ≡ rest)
+headed h text count rest lacks is same =
+    let s = shaped text h is in
+    let parts = one_line (heading_text s.count) (heading_text count) (entry_lines h) rest (heading_lacks s.count (counts_lack s.count (length h) s.counts)) (heading_lacks count lacks) (sym s.text_is ∙ same) in
+    (subst (λ (c : List ℕ). Counts c (length h)) (same_count s.count count parts.0) s.counts, parts.1)
 
 pub history_is_one : HistoryIsOne
 history_is_one text a b ta tb =
-    let same = headed a (count_text (length b)) (entry_lines b) (number_lacks (length b)) (sym ta.text_is ∙ tb.text_is ∙ history_shape b) in
+    let s = shaped text b tb.is_text in
+    let same = headed a text s.count (entry_lines b) (counts_lack s.count (length b) s.counts) ta.is_text s.text_is in
     same_entries a b ta.proper tb.proper same.1
 
 -- ---- the place at which a text goes wrong
@@ -108,6 +125,8 @@ later text m n less wm wn =
     wm.longest (omega (arith, wn.few)) (record {
       history = begins.history;
       proper = begins.proper;
+      whole = begins.whole;
+      is_text = begins.is_text;
       more = fewer.0 ++ begins.more;
       text_is = begins.text_is ∙ ap (λ (t : List ℕ). t ++ begins.more) fewer.1 ∙ append_assoc (first_ended (suc m) text) fewer.0 begins.more;
     })
@@ -123,9 +142,9 @@ wrong_place_is_one text m n wm wn = go (ltb m n) (ltb n m) refl refl
 -- the text does not begin with a heading
 pub wrong_heading : (text : List ℕ) → NoHeading text → WrongAt text 0
 wrong_heading text bad = record {
-  none = λ h told. bad (length h) (entry_lines h) (told.text_is ∙ history_shape h);
+  none = λ h told. let s = shaped text h told.is_text in bad s.count (length h) (entry_lines h) s.counts s.text_is;
   few = omega arith;
-  begins = record { history = []; proper = tt; more = history_text []; text_is = refl };
+  begins = record { history = []; proper = tt; whole = history_text []; is_text = inl refl; more = history_text []; text_is = refl };
   longest = λ some begins. first (ended_lines text) refl some begins;
 }
   where
@@ -134,9 +153,10 @@ wrong_heading text bad = record {
     first (line ∷ lines) e some begins =
         let f = first_line text line lines e in
         let front : first_ended 1 text ≡ line ++ 10 ∷ [] = next_is text [] (ended_lines text) refl line lines e in
-        let same : history_text begins.history ≡ line ++ 10 ∷ begins.more = begins.text_is ∙ ap (λ (t : List ℕ). t ++ begins.more) front ∙ append_assoc line (10 ∷ []) begins.more in
-        let parts = one_line (heading_text (count_text (length begins.history))) line (entry_lines begins.history) begins.more (heading_lacks (count_text (length begins.history)) (number_lacks (length begins.history))) f.2 (sym (history_shape begins.history) ∙ same) in
-        bad (length begins.history) f.0 (f.1 ∙ ap (λ (t : List ℕ). t ++ 10 ∷ f.0) (sym parts.0))
+        let same : begins.whole ≡ line ++ 10 ∷ begins.more = begins.text_is ∙ ap (λ (t : List ℕ). t ++ begins.more) front ∙ append_assoc line (10 ∷ []) begins.more in
+        let s = shaped begins.whole begins.history begins.is_text in
+        let parts = one_line (heading_text s.count) line (entry_lines begins.history) begins.more (heading_lacks s.count (counts_lack s.count (length begins.history) s.counts)) f.2 (sym s.text_is ∙ same) in
+        bad s.count (length begins.history) f.0 s.counts (f.1 ∙ ap (λ (t : List ℕ). t ++ 10 ∷ f.0) (sym parts.0))
 
 -- ---- after some entries
 
@@ -165,7 +185,7 @@ fillers_proper (suc n) = ((omega arith, (tt, tt)), fillers_proper n)
 
 module _ (text count : List ℕ) (entries : List Entry) (rest : List ℕ) (so_far : SoFar text count entries rest) where
   count_lacks : Lacks 10 count
-  count_lacks = subst (Lacks 10) (sym so_far.shown) (number_lacks so_far.number)
+  count_lacks = counts_lack count so_far.allows.0 so_far.allows.2
 
   front_text : with_feeds (so_far_lines count entries) ≡ (heading_text count ++ 10 ∷ []) ++ entry_lines entries
   front_text = ap (λ (t : List ℕ). (heading_text count ++ 10 ∷ []) ++ t) (with_feeds-lines entries)
@@ -179,32 +199,33 @@ module _ (text count : List ℕ) (entries : List Entry) (rest : List ℕ) (so_fa
   ended = ap ended_lines whole_text ∙ ended_front (so_far_lines count entries) rest (heading_lacks count count_lacks, lines_lack entries so_far.proper)
 
   -- a history that goes on after the entries
-  left_behind : (h : List Entry) (more : List ℕ) → Proper h → history_text h ≡ with_feeds (so_far_lines count entries) ++ more → (count_text (length h) ≡ count) × Left entries h more
-  left_behind h more proper same =
+  left_behind : (h : List Entry) (whole more : List ℕ) → Proper h → IsHistoryText whole h → whole ≡ with_feeds (so_far_lines count entries) ++ more → Counts count (length h) × Left entries h more
+  left_behind h whole more proper is same =
       let regroup : with_feeds (so_far_lines count entries) ++ more ≡ heading_text count ++ 10 ∷ (entry_lines entries ++ more) =
       ap (λ (t : List ℕ). t ++ more) front_text ∙ append_assoc (heading_text count ++ 10 ∷ []) (entry_lines entries) more ∙ append_assoc (heading_text count) (10 ∷ []) (entry_lines entries ++ more) in
-      let parts = headed h count (entry_lines entries ++ more) count_lacks (same ∙ regroup) in
+      let parts = headed h whole count (entry_lines entries ++ more) count_lacks is (same ∙ regroup) in
       (parts.0, left_of entries h more so_far.proper proper parts.1)
 
   abbrev Stuck : Type 0
-  Stuck = (count_text (length entries) ≡ count) ⊎ NoEntry rest
+  Stuck = (count ≡ count_text (length entries)) ⊎ NoEntry rest
 
   -- no entry comes next, although a history goes on
-  blocked : Stuck → (h : List Entry) (more : List ℕ) (e : Entry) (others : List Entry) → count_text (length h) ≡ count → length h ≡ length entries + suc (length others) → IsProperEntry e → rest ≡ entry_line e ++ more → ⊥
-  blocked (inl full) h more e others shown counted proper same =
-      let one : length h ≡ length entries = count_one (length h) (length entries) (shown ∙ sym full) in
+  blocked : Stuck → (h : List Entry) (more : List ℕ) (e : Entry) (others : List Entry) → Counts count (length h) → length h ≡ length entries + suc (length others) → IsProperEntry e → rest ≡ entry_line e ++ more → ⊥
+  blocked (inl full) h more e others (inl shown) counted proper same =
+      let one : length h ≡ length entries = count_one (length h) (length entries) (sym shown ∙ full) in
       omega arith
-  blocked (inr none) h more e others shown counted proper same = none e more proper same
+  blocked (inl full) h more e others (inr star) counted proper same = no_star (length entries) (sym full ∙ star)
+  blocked (inr none) h more e others counts counted proper same = none e more proper same
 
-  no_history : Stuck → (rest ≡ [] → count_text (length entries) ≡ count → ⊥) → (h : List Entry) → TellsHistory text h → ⊥
+  no_history : Stuck → (rest ≡ [] → Counts count (length entries) → ⊥) → (h : List Entry) → TellsHistory text h → ⊥
   no_history stuck unended h told =
-      let behind = left_behind h rest told.proper (sym told.text_is ∙ whole_text) in
+      let behind = left_behind h text rest told.proper told.is_text whole_text in
       go behind.1.entries behind.1.proper behind.1.count behind.1.lines behind.0
     where
-      go : (left : List Entry) → Proper left → length h ≡ length entries + length left → entry_lines left ≡ rest → count_text (length h) ≡ count → ⊥
+      go : (left : List Entry) → Proper left → length h ≡ length entries + length left → entry_lines left ≡ rest → Counts count (length h) → ⊥
       go [] proper counted lines shown =
           let all : length h ≡ length entries = omega arith in
-          unended (sym lines) (ap count_text (sym all) ∙ shown)
+          unended (sym lines) (subst (Counts count) all shown)
       go (e ∷ others) proper counted lines shown = blocked stuck h (entry_lines others) e others shown counted proper.0 (sym lines)
 
   no_longer : Stuck → suc (length entries) < length (ended_lines text) → BeginsHistory (first_ended (suc (suc (length entries))) text) → ⊥
@@ -213,7 +234,7 @@ module _ (text count : List ℕ) (entries : List Entry) (rest : List ℕ) (so_fa
       counted : length (ended_lines text) ≡ suc (length entries) + length (ended_lines rest)
       counted = ap length ended ∙ omega (arith, length-append (so_far_lines count entries) (ended_lines rest), length-lines entries)
 
-      next : (line : List ℕ) (lines : List (List ℕ)) → ended_lines rest ≡ line ∷ lines → (left : List Entry) → Proper left → length begins.history ≡ length entries + length left → entry_lines left ≡ line ++ 10 ∷ begins.more → count_text (length begins.history) ≡ count → ⊥
+      next : (line : List ℕ) (lines : List (List ℕ)) → ended_lines rest ≡ line ∷ lines → (left : List Entry) → Proper left → length begins.history ≡ length entries + length left → entry_lines left ≡ line ++ 10 ∷ begins.more → Counts count (length begins.history) → ⊥
       next line lines e [] proper counted same shown = some_byte line begins.more 10 same
       next line lines e (first ∷ others) proper counted same shown =
           let f = first_line rest line lines e in
@@ -226,17 +247,16 @@ module _ (text count : List ℕ) (entries : List Entry) (rest : List ℕ) (so_fa
           let many : length (so_far_lines count entries) ≡ suc (length entries) = omega (arith, length-lines entries) in
           let front : first_ended (suc (suc (length entries))) text ≡ with_feeds (so_far_lines count entries) ++ (line ++ 10 ∷ []) =
           ap (λ (n : ℕ). first_ended (suc n) text) (sym many) ∙ next_is text (so_far_lines count entries) (ended_lines rest) ended line lines e in
-          let same : history_text begins.history ≡ with_feeds (so_far_lines count entries) ++ (line ++ 10 ∷ begins.more) =
+          let same : begins.whole ≡ with_feeds (so_far_lines count entries) ++ (line ++ 10 ∷ begins.more) =
           begins.text_is ∙ ap (λ (t : List ℕ). t ++ begins.more) front ∙ append_assoc (with_feeds (so_far_lines count entries)) (line ++ 10 ∷ []) begins.more
           ∙ ap (λ (t : List ℕ). with_feeds (so_far_lines count entries) ++ t) (append_assoc line (10 ∷ []) begins.more) in
-          let behind = left_behind begins.history (line ++ 10 ∷ begins.more) begins.proper same in
+          let behind = left_behind begins.history begins.whole (line ++ 10 ∷ begins.more) begins.proper begins.is_text same in
           next line lines e behind.1.entries behind.1.proper behind.1.count behind.1.lines behind.0
 
   goes_on : BeginsHistory (first_ended (suc (length entries)) text)
   goes_on =
-      let m : ℕ = so_far.number in
-      let shown : count ≡ count_text m = so_far.shown in
-      let most : length entries ≤ m = so_far.most in
+      let m : ℕ = so_far.allows.0 in
+      let most : length entries ≤ m = so_far.allows.1 in
       let whole : List Entry = entries ++ replicate (m - length entries) filler in
       let many : length (so_far_lines count entries) ≡ suc (length entries) = omega (arith, length-lines entries) in
       let all : length whole ≡ m = omega (arith, length-append entries (replicate (m - length entries) filler), length-replicate (m - length entries) filler) in
@@ -246,13 +266,15 @@ module _ (text count : List ℕ) (entries : List Entry) (rest : List ℕ) (so_fa
       record {
         history = whole;
         proper = proper_both entries (replicate (m - length entries) filler) so_far.proper (fillers_proper (m - length entries));
+        whole = heading_text count ++ 10 ∷ entry_lines whole;
+        is_text = shaped_again (heading_text count ++ 10 ∷ entry_lines whole) count whole (subst (Counts count) (sym all) so_far.allows.2) refl;
         more = fill;
-        text_is = history_shape whole ∙ (λ i. heading_text ((ap count_text all ∙ sym shown) i) ++ 10 ∷ lines_both entries (replicate (m - length entries) filler) i)
+        text_is = ap (λ (t : List ℕ). heading_text count ++ 10 ∷ t) (lines_both entries (replicate (m - length entries) filler))
             ∙ sym (append_assoc (heading_text count) (10 ∷ []) (entry_lines entries ++ fill)) ∙ sym (append_assoc (heading_text count ++ 10 ∷ []) (entry_lines entries) fill)
             ∙ ap (λ (t : List ℕ). t ++ fill) (sym front);
       }
 
-  pub wrong_here : (count_text (length entries) ≡ count) ⊎ NoEntry rest → (rest ≡ [] → count_text (length entries) ≡ count → ⊥) → WrongAt text (suc (length entries))
+  pub wrong_here : (count ≡ count_text (length entries)) ⊎ NoEntry rest → (rest ≡ [] → Counts count (length entries) → ⊥) → WrongAt text (suc (length entries))
   wrong_here stuck unended = record {
     none = no_history stuck unended;
     few = omega (arith, ap length ended, length-append (so_far_lines count entries) (ended_lines rest), length-lines entries);
@@ -260,28 +282,15 @@ module _ (text count : List ℕ) (entries : List Entry) (rest : List ℕ) (so_fa
     longest = no_longer stuck;
   }
 
-  pub whole_here : rest ≡ [] → count_text (length entries) ≡ count → TellsHistory text entries
-  whole_here none shown = record {
+  pub whole_here : rest ≡ [] → Counts count (length entries) → TellsHistory text entries
+  whole_here none counts = record {
     proper = so_far.proper;
-    text_is = so_far.text_is ∙ (λ i. heading_text (sym shown i) ++ 10 ∷ (entry_lines entries ++ none i)) ∙ ap (λ (t : List ℕ). heading_text (count_text (length entries)) ++ 10 ∷ t) (append-nil (entry_lines entries)) ∙ sym (history_shape entries);
+    is_text = shaped_again text count entries counts (so_far.text_is ∙ ap (λ (t : List ℕ). heading_text count ++ 10 ∷ (entry_lines entries ++ t)) none ∙ ap (λ (t : List ℕ). heading_text count ++ 10 ∷ t) (append-nil (entry_lines entries)));
   }
 
-  more_unmet : (count_text (length entries) ≡ count → ⊥) → length entries < so_far.number
-  more_unmet unmet = go (ltb (length entries) so_far.number) refl
-    where
-      go : (b : Bool) → ltb (length entries) so_far.number ≡ b → length entries < so_far.number
-      go true e = ltb-true (length entries) so_far.number e
-      go false e =
-          let l = ltb-false (length entries) so_far.number e in
-          let most = so_far.most in
-          let same : length entries ≡ so_far.number = omega arith in
-          absurd (unmet (ap count_text same ∙ sym so_far.shown))
-
-  pub one_more : (e : Entry) (after : List ℕ) → (count_text (length entries) ≡ count → ⊥) → IsProperEntry e → rest ≡ entry_line e ++ after → SoFar text count (entries ++ e ∷ []) after
+  pub one_more : (e : Entry) (after : List ℕ) → (count ≡ count_text (length entries) → ⊥) → IsProperEntry e → rest ≡ entry_line e ++ after → SoFar text count (entries ++ e ∷ []) after
   one_more e after unmet proper same = record {
-    number = so_far.number;
-    shown = so_far.shown;
-    most = omega (arith, more_unmet unmet, length-append entries (e ∷ []));
+    allows = let one : suc (length entries) ≡ length (entries ++ e ∷ []) = omega (arith, length-append entries (e ∷ [])) in subst (Allows count) one (one_allowed count (length entries) unmet so_far.allows);
     proper = proper_both entries (e ∷ []) so_far.proper (proper, tt);
     text_is = so_far.text_is ∙ ap (λ (t : List ℕ). heading_text count ++ 10 ∷ t)
         (ap (λ (t : List ℕ). entry_lines entries ++ t) same ∙ sym (append_assoc (entry_lines entries) (entry_line e) after)
@@ -295,15 +304,20 @@ no_bytes [] e = refl
 no_bytes (b ∷ text) e = absurd (omega (arith, e))
 
 module _ (text count : List ℕ) (entries : List Entry) (rest : List ℕ) (so_far : SoFar text count entries rest) (n : ℕ) (counted : n ≡ length entries) where
-  told_so : bytes_eq count (count_text n) ≡ true → count_text (length entries) ≡ count
-  told_so e = ap count_text (sym counted) ∙ sym ((bytes_decides count (count_text n)).0 e)
+  told_so : bytes_eq count (count_text n) ≡ true → count ≡ count_text (length entries)
+  told_so e = (bytes_decides count (count_text n)).0 e ∙ ap count_text counted
 
-  pub still_open : bytes_eq count (count_text n) ≡ false → count_text (length entries) ≡ count → ⊥
+  pub still_open : bytes_eq count (count_text n) ≡ false → count ≡ count_text (length entries) → ⊥
   still_open other shown =
-      let both : false ≡ true = sym other ∙ (bytes_decides count (count_text n)).1 (sym shown ∙ ap count_text (sym counted)) in
+      let both : false ≡ true = sym other ∙ (bytes_decides count (count_text n)).1 (shown ∙ ap count_text (sym counted)) in
       cc
 
-  wrong_next : (count_text (length entries) ≡ count) ⊎ NoEntry rest → (rest ≡ [] → count_text (length entries) ≡ count → ⊥) → WrongAt text (n + 1)
+  unmet : (is_star count || bytes_eq count (count_text n)) ≡ false → Counts count (length entries) → ⊥
+  unmet other counts =
+      let both : false ≡ true = sym other ∙ if_met count n (subst (Counts count) (sym counted) counts) in
+      cc
+
+  wrong_next : (count ≡ count_text (length entries)) ⊎ NoEntry rest → (rest ≡ [] → Counts count (length entries) → ⊥) → WrongAt text (n + 1)
   wrong_next stuck unended =
       let next : suc (length entries) ≡ n + 1 = omega arith in
       subst (λ (k : ℕ). WrongAt text k) next (wrong_here text count entries rest so_far stuck unended)
@@ -313,17 +327,17 @@ module _ (text count : List ℕ) (entries : List Entry) (rest : List ℕ) (so_fa
   wrong_behind full some = wrong_next (inl (told_so full)) (λ none shown. let l : length rest ≡ 0 = ap length none in omega arith)
 
   -- no entry comes next
-  pub fails_here : {X : Type 0} (view : X → Entry × List ℕ) (error : LineError) → bytes_eq count (count_text n) ≡ false → TakesEntry view rest (Err error) → ReadsHistory text (Err (trouble_at_line error (n + 1)))
-  fails_here view Wrong other none = wrong_next (inr none) (λ ended shown. still_open other shown)
-  fails_here view Memory other none = tt
+  pub fails_here : {X : Type 0} (view : X → Entry × List ℕ) (error : LineError) → 0 < length rest → TakesEntry view rest (Err error) → ReadsHistory text (Err (trouble_at_line error (n + 1)))
+  fails_here view Wrong some none = wrong_next (inr none) (λ ended counts. let l : length rest ≡ 0 = ap length ended in omega (arith, some))
+  fails_here view Memory some none = tt
 
   -- fewer entries than are counted, and no more bytes
-  pub ends_here : bytes_eq count (count_text n) ≡ false → length rest ≡ 0 → WrongAt text (n + 1)
+  pub ends_here : (is_star count || bytes_eq count (count_text n)) ≡ false → length rest ≡ 0 → WrongAt text (n + 1)
   ends_here other ended =
-      wrong_next (inr (λ e more good same. no_line e more (sym (no_bytes rest ended) ∙ same))) (λ none shown. still_open other shown)
+      wrong_next (inr (λ e more good same. no_line e more (sym (no_bytes rest ended) ∙ same))) (λ none counts. unmet other counts)
 
-  pub whole_text_here : bytes_eq count (count_text n) ≡ true → length rest ≡ 0 → TellsHistory text entries
-  whole_text_here full ended = whole_here text count entries rest so_far (no_bytes rest ended) (told_so full)
+  pub whole_text_here : (is_star count || bytes_eq count (count_text n)) ≡ true → length rest ≡ 0 → TellsHistory text entries
+  whole_text_here full ended = whole_here text count entries rest so_far (no_bytes rest ended) (subst (Counts count) counted (met_if count n full))
 
 -- what comes after an entry is shorter
 pub line_shortens : (e : Entry) (rest after : List ℕ) → rest ≡ entry_line e ++ after → length after < length rest

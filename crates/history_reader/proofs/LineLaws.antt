@@ -1,19 +1,19 @@
 -- The first line of a text is a heading or an entry's, or it is found to be none.
-use Rattle.std.proofs.Common.{◌≡◌, ℕ, true, false, List, [], ◌∷◌, ◌++◌, Option, Some, None, Ok, Err, refl, sym, ap, ◌∙◌, arith}
-use Rattle.std.specs.Prelude.{codes, Result, IfOk}
+use Rattle.std.proofs.Common.{◌≡◌, ℕ, true, false, List, [], ◌∷◌, ◌++◌, Option, Some, None, Ok, Err, refl, sym, ap, subst, ◌∙◌}
+use Rattle.std.specs.Prelude.{◌||◌, codes, Result, IfOk}
 use Rattle.std.proofs.lemmas.List.{append-nil}
 use Rattle.basic_values.specs.Cuts.{◌>>=◌, behind, cut}
 use Rattle.basic_values.proofs.CutLaws.{bind_some, cut_takes, cut_again, behind_takes, behind_again}
 use Rattle.monitor_calls.specs.declared.calls.Entry.{Entry}
 use Rattle.monitor_calls.specs.Proper.{IsProperEntry}
 use Rattle.deck_model.specs.Histories.{entry_line, count_text, history_text}
-use Rattle.history_reader.specs.Counts.{is_count}
+use Rattle.history_reader.specs.Counts.{is_count, is_star, Counts}
 use Rattle.history_reader.specs.declared.failures.LineError.{LineError}
 use Rattle.history_reader.specs.declared.failures.LineError.TheVariants.{Wrong, Memory}
 use Rattle.history_reader.specs.LineFields.{ReadsAs}
 use Rattle.history_reader.specs.LineForms.{entry_read, taken_read}
 use Rattle.history_reader.specs.SoFar.{heading_text, SoFar, NoHeading, NoEntry, TakesEntry}
-use Rattle.history_reader.proofs.CountLaws.{number_lacks, shown_count, count_shown}
+use Rattle.history_reader.proofs.CountLaws.{number_lacks, counts_lack, allowed_if, if_counts}
 use Rattle.history_reader.proofs.FormLaws.{line_of, line_lacks, entry_again}
 use Rattle.history_reader.proofs.HistoryLaws.{line_then, heading_lacks, history_shape, same_count}
 
@@ -23,40 +23,36 @@ none_some (Some y) x none some = cc
 
 -- ---- headings
 
-heading_cut : (n : ℕ) (text rest : List ℕ) → text ≡ heading_text (count_text n) ++ 10 ∷ rest → cut 10 text ≡ Some (heading_text (count_text n), rest)
-heading_cut n text rest same =
-    ap (cut 10) same ∙ cut_again 10 (heading_text (count_text n)) rest (heading_lacks (count_text n) (number_lacks n))
+heading_cut : (count : List ℕ) (n : ℕ) (text rest : List ℕ) → Counts count n → text ≡ heading_text count ++ 10 ∷ rest → cut 10 text ≡ Some (heading_text count, rest)
+heading_cut count n text rest counts same =
+    ap (cut 10) same ∙ cut_again 10 (heading_text count) rest (heading_lacks count (counts_lack count n counts))
 
 pub no_line_no_heading : (text : List ℕ) → cut 10 text ≡ None → NoHeading text
-no_line_no_heading text none n rest same =
-    none_some (cut 10 text) (heading_text (count_text n), rest) none (heading_cut n text rest same)
+no_line_no_heading text none count n rest counts same =
+    none_some (cut 10 text) (heading_text count, rest) none (heading_cut count n text rest counts same)
 
-first_is : (text line after : List ℕ) (n : ℕ) (rest : List ℕ) → cut 10 text ≡ Some (line, after) → text ≡ heading_text (count_text n) ++ 10 ∷ rest → line ≡ heading_text (count_text n)
-first_is text line after n rest found same =
-    let both : Some (line, after) ≡ Some (heading_text (count_text n), rest) = sym found ∙ heading_cut n text rest same in
-    let parts : (line, after) ≡ (heading_text (count_text n), rest) = cc in
+first_is : (text line after count : List ℕ) (n : ℕ) (rest : List ℕ) → cut 10 text ≡ Some (line, after) → Counts count n → text ≡ heading_text count ++ 10 ∷ rest → line ≡ heading_text count
+first_is text line after count n rest found counts same =
+    let both : Some (line, after) ≡ Some (heading_text count, rest) = sym found ∙ heading_cut count n text rest counts same in
+    let parts : (line, after) ≡ (heading_text count, rest) = cc in
     ap (λ (p : List ℕ × List ℕ). p.0) parts
 
 pub other_word : (text line after : List ℕ) → cut 10 text ≡ Some (line, after) → behind (codes "HISTORY ") line ≡ None → NoHeading text
-other_word text line after found none n rest same =
-    none_some (behind (codes "HISTORY ") line) (count_text n) none (ap (behind (codes "HISTORY ")) (first_is text line after n rest found same) ∙ behind_again (codes "HISTORY ") (count_text n))
+other_word text line after found none count n rest counts same =
+    none_some (behind (codes "HISTORY ") line) count none (ap (behind (codes "HISTORY ")) (first_is text line after count n rest found counts same) ∙ behind_again (codes "HISTORY ") count)
 
-pub no_count : (text line after count : List ℕ) → cut 10 text ≡ Some (line, after) → behind (codes "HISTORY ") line ≡ Some count → is_count count ≡ false → NoHeading text
-no_count text line after count found word bad n rest same =
-    let shown : count ≡ count_text n = same_count count (count_text n) (sym (behind_takes (codes "HISTORY ") line count word) ∙ first_is text line after n rest found same) in
-    let both : false ≡ true = sym bad ∙ ap is_count shown ∙ shown_count n in
+pub no_count : (text line after count : List ℕ) → cut 10 text ≡ Some (line, after) → behind (codes "HISTORY ") line ≡ Some count → (is_star count || is_count count) ≡ false → NoHeading text
+no_count text line after count found word bad other n rest counts same =
+    let one : count ≡ other = same_count count other (sym (behind_takes (codes "HISTORY ") line count word) ∙ first_is text line after other n rest found counts same) in
+    let both : false ≡ true = sym bad ∙ if_counts count n (subst (λ (c : List ℕ). Counts c n) (sym one) counts) in
     cc
 
-pub found_heading : (text line after count : List ℕ) → cut 10 text ≡ Some (line, after) → behind (codes "HISTORY ") line ≡ Some count → is_count count ≡ true → SoFar text count [] after
-found_heading text line after count found word good =
-    let number = count_shown count good in
-    record {
-      number = number.0;
-      shown = number.1;
-      most = omega arith;
-      proper = tt;
-      text_is = cut_takes 10 text (line, after) found ∙ ap (λ (l : List ℕ). l ++ 10 ∷ after) (behind_takes (codes "HISTORY ") line count word);
-    }
+pub found_heading : (text line after count : List ℕ) → cut 10 text ≡ Some (line, after) → behind (codes "HISTORY ") line ≡ Some count → (is_star count || is_count count) ≡ true → SoFar text count [] after
+found_heading text line after count found word good = record {
+  allows = allowed_if count good;
+  proper = tt;
+  text_is = cut_takes 10 text (line, after) found ∙ ap (λ (l : List ℕ). l ++ 10 ∷ after) (behind_takes (codes "HISTORY ") line count word);
+}
 
 -- ---- entries
 

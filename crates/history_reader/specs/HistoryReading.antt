@@ -5,20 +5,23 @@ use Rattle.basic_values.specs.declared.failures.Trouble.{Trouble}
 use Rattle.basic_values.specs.declared.failures.Trouble.TheVariants.{Refused, NoMemory}
 use Rattle.monitor_calls.specs.declared.calls.Entry.{Entry}
 use Rattle.monitor_calls.specs.Proper.{Proper}
-use Rattle.deck_model.specs.Histories.{history_text}
+use Rattle.deck_model.specs.Histories.{IsHistoryText}
 use Rattle.history_reader.specs.EndedLines.{ended_lines, first_ended}
 
--- the text is that of this history, whose numbers and strings are in the ranges of their types
+-- the text is that of this history, counted or a journal; its numbers and strings are in the ranges
+-- of their types
 pub record TellsHistory (text : List ℕ) (history : List Entry) : Type 0 where
   pub proper : Proper history
-  pub text_is : text ≡ history_text history
+  pub is_text : IsHistoryText text history
 
 -- these bytes begin the text of some history
 pub record BeginsHistory (front : List ℕ) : Type 0 where
   pub history : List Entry
   pub proper : Proper history
+  pub whole : List ℕ
+  pub is_text : IsHistoryText whole history
   pub more : List ℕ
-  pub text_is : history_text history ≡ front ++ more
+  pub text_is : whole ≡ front ++ more
 
 -- The text is no history's. This many of its whole lines begin one, and with the next, if there is
 -- one, they do not.

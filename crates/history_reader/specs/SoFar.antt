@@ -1,9 +1,10 @@
 -- A text of which some entries are read, and what readers find next. No promise of the program uses
 -- it.
-use Rattle.std.specs.Prelude.{◌≡◌, ℕ, ◌≤◌, List, [], ◌∷◌, ◌++◌, length, Option, Some, None, Result, Ok, Err, codes, ⊤}
+use Rattle.std.specs.Prelude.{◌≡◌, ℕ, List, [], ◌∷◌, ◌++◌, length, Option, Some, None, Result, Ok, Err, codes, ⊤}
 use Rattle.monitor_calls.specs.declared.calls.Entry.{Entry}
 use Rattle.monitor_calls.specs.Proper.{IsProperEntry, Proper}
-use Rattle.deck_model.specs.Histories.{entry_line, entry_lines, count_text}
+use Rattle.deck_model.specs.Histories.{entry_line, entry_lines}
+use Rattle.history_reader.specs.Counts.{Counts, Allows}
 use Rattle.history_reader.specs.declared.failures.LineError.{LineError}
 use Rattle.history_reader.specs.declared.failures.LineError.TheVariants.{Wrong, Memory}
 
@@ -11,17 +12,16 @@ use Rattle.history_reader.specs.declared.failures.LineError.TheVariants.{Wrong, 
 abbrev pub heading_text : List ℕ → List ℕ
 heading_text count = codes "HISTORY " ++ count
 
--- the text is a first line with the count of no fewer, these entries, and a rest
+-- the text is a first line with a star or the count of no fewer, these entries, and a rest
 pub record SoFar (text count : List ℕ) (entries : List Entry) (rest : List ℕ) : Type 0 where
-  pub number : ℕ
-  pub shown : count ≡ count_text number
-  pub most : length entries ≤ number
+  pub allows : Allows count (length entries)
   pub proper : Proper entries
   pub text_is : text ≡ heading_text count ++ 10 ∷ (entry_lines entries ++ rest)
 
 -- the text does not begin with the first line of a history
 abbrev pub NoHeading : List ℕ → Type 0
-NoHeading text = (n : ℕ) (rest : List ℕ) → text ≡ heading_text (count_text n) ++ 10 ∷ rest → ⊥
+NoHeading text = (count : List ℕ) (n : ℕ) (rest : List ℕ)
+    → Counts count n → text ≡ heading_text count ++ 10 ∷ rest → ⊥
 
 -- the text does not begin with the line of an entry
 abbrev pub NoEntry : List ℕ → Type 0

@@ -3,7 +3,6 @@
 ghost use Rattle.history_reader.specs.ReadingLaw.{HistoryIsOne, WrongPlaceIsOne};
 
 /// States that a text is that of one history.
-#[tactic(auto, using(crate::proofs::HistoryLaws::history_is_one))]
 pub fn history_is_one()
     ensures { HistoryIsOne }
 {}

@@ -1,12 +1,13 @@
 //! A history read from its text, line by line.
 
-ghost use Rattle.std.specs.Prelude.{◌≡◌, ◌++◌, ◌∷◌, [], ℕ, List, OnOk, bytes_eq};
+ghost use Rattle.std.specs.Prelude.{◌≡◌, ◌||◌, ◌++◌, ◌∷◌, [], ℕ, List, OnOk, bytes_eq};
 ghost use Rattle.std.specs.Fmt.{decimal};
 ghost use Rattle.deck_model.specs.Histories.{count_text};
+ghost use Rattle.history_reader.specs.Counts.{is_star};
 ghost use Rattle.history_reader.specs.HistoryReading.{ReadsHistory};
 ghost use Rattle.history_reader.specs.SoFar.{SoFar, FindsHeading};
 
-use crate::counts::is_count;
+use crate::counts::{is_allowed, is_star};
 use crate::entries::entry;
 use basic_values::{NoMemory, Trouble, behind, cut};
 use itoa::Buffer;
@@ -14,7 +15,8 @@ use monitor_calls::Entry;
 use std::alloc::Global;
 
 /// Returns the history whose text this is: `HISTORY` and the number of its entries, and a line for
-/// each. A text that is no history's is rejected with the number of its whole lines that begin one.
+/// each. A journal has a star in place of the number. A text that is no history's is rejected with
+/// the number of its whole lines that begin one.
 pub fn read_history(alloc: Global, text: &[u8]) -> Result<Vec<Entry>, Trouble<usize>>
     ensures { ReadsHistory text.now result }
 {
@@ -30,14 +32,14 @@ fn heading(text: &[u8]) -> Option<(&[u8], &[u8])>
 {
     let (line, rest) = cut(b'\n', text)?;
     let count = behind(b"HISTORY ", line)?;
-    if is_count(count) {
+    if is_allowed(count) {
         Some((count, rest))
     } else {
         None
     }
 }
 
-/// Returns the history of these entries, which are as many as the count says.
+/// Returns the history of these entries, which are as many as the count says if it is a number.
 fn entries(alloc: Global, count: &[u8], text: &[u8]) -> Result<Vec<Entry>, Trouble<usize>>
     ensures { (whole : List ℕ) → SoFar whole count.now [] text.now → ReadsHistory whole result }
 {
@@ -56,11 +58,18 @@ fn entries(alloc: Global, count: &[u8], text: &[u8]) -> Result<Vec<Entry>, Troub
         rest = after;
     }
     let all = entries.len();
-    if is_decimal_of(all, count) {
+    if is_met(all, count) {
         Ok(entries)
     } else {
         Err(Trouble::Refused(all + 1))
     }
+}
+
+/// Returns whether a history of this many entries may have this count.
+fn is_met(number: usize, count: &[u8]) -> bool
+    ensures { result ≡ (is_star count.now || bytes_eq count.now (count_text number)) }
+{
+    is_star(count) || is_decimal_of(number, count)
 }
 
 /// Returns whether the text is all digits of the number.

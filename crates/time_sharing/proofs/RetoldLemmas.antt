@@ -1,5 +1,5 @@
 -- What a replay of the entries of a text says of the text.
-use Rattle.std.proofs.Common.{◌≡◌, ℕ, suc, ◌<◌, ◌≤◌, Bool, true, false, eqb, List, [], ◌∷◌, ◌++◌, length, map, Err, codes, refl, ap, subst, ◌∙◌, arith}
+use Rattle.std.proofs.Common.{◌≡◌, ℕ, suc, ◌<◌, ◌≤◌, Bool, true, false, eqb, List, [], ◌∷◌, ◌++◌, length, map, Err, codes, inl, inr, refl, ap, subst, ◌∙◌, arith}
 use Rattle.std.specs.Prelude.{if◌then◌else◌}
 use Rattle.std.specs.Fmt.{decimal}
 use Rattle.std.proofs.lemmas.List.{length-append}
@@ -10,7 +10,7 @@ use Rattle.monitor_calls.specs.Pairs.{Pair}
 use Rattle.monitor_model.specs.State as monitor
 use Rattle.monitor_model.specs.History.{Legal, part_of}
 use Rattle.deck_model.specs.Deck as model
-use Rattle.deck_model.specs.Histories.{request_text, reply_text, entry_line, entry_lines, count_text, history_text}
+use Rattle.deck_model.specs.Histories.{request_text, reply_text, entry_line, entry_lines, count_text, history_text, journal_text, IsHistoryText}
 use Rattle.deck_model.specs.Report.{report}
 use Rattle.deck_reader.specs.declared.decks.Deck.{Deck}
 use Rattle.deck_reader.specs.Seen.{deck_of, terminal_of}
@@ -60,11 +60,20 @@ entries_few (entry ∷ history) =
 
 -- a text has no more entries than bytes
 pub entries_within : (text : List ℕ) (history : List Entry) → TellsHistory text history → length history ≤ length text
-entries_within text history tells =
-    let few = entries_few history in
-    let both = length-append (codes "HISTORY " ++ count_text (length history) ++ codes "\n") (entry_lines history) in
-    let same : length text ≡ length (history_text history) = ap length tells.text_is in
-    omega arith
+entries_within text history tells = within_either tells.is_text
+  where
+    few : length history ≤ length (entry_lines history)
+    few = entries_few history
+
+    within_either : IsHistoryText text history → length history ≤ length text
+    within_either (inl e) =
+        let both = length-append (codes "HISTORY " ++ count_text (length history) ++ codes "\n") (entry_lines history) in
+        let same : length text ≡ length (history_text history) = ap length e in
+        omega (arith, few)
+    within_either (inr e) =
+        let both = length-append (codes "HISTORY *\n") (entry_lines history) in
+        let same : length text ≡ length (journal_text history) = ap length e in
+        omega (arith, few)
 
 pub disputed_within : (deck : model.Deck) (history : List Entry) (why : Dispute) → IsDisputed deck history why → entry_of why ≤ length history
 disputed_within deck history (dispute.Reply entry) wrong =

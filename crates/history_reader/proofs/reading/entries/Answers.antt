@@ -24,7 +24,7 @@ returns-in-Err c whole start =
     let entries = c.loop-rest.entries in
     let counted : c.len-good.result ≡ length entries.items = omega (arith, c.len-good.ensures, entries.ok.0) in
     rw c.at.ensures
-    (fails_here whole c.args.count.now entries.items c.loop-rest.rest.now (c.loop-rest.invariant.told whole start) c.len-good.result counted (λ (x : Entry × Bor (List ℕ)). (x.0, x.1.now)) c.in-Err.error (sym c.is_decimal_of.ensures ∙ c.if-is_decimal_of.false) c.in-Err.ensures)
+    (fails_here whole c.args.count.now entries.items c.loop-rest.rest.now (c.loop-rest.invariant.told whole start) c.len-good.result counted (λ (x : Entry × Bor (List ℕ)). (x.0, x.1.now)) c.in-Err.error (some_if (length c.loop-rest.rest.now) c.is_empty.result c.loop-rest-test.true c.is_empty.ensures) c.in-Err.ensures)
 
 pub loop-rest-preserved : goal.loop-rest-preserved
 loop-rest-preserved c =
@@ -43,16 +43,16 @@ loop-rest-preserved c =
       few = let pushed : length c.push.new.entries.items ≡ length entries.items + 1 = ap length c.in_ok-push.ensures ∙ omega (arith, length-append entries.items (e ∷ [])) in omega arith;
     }
 
-pub returns-then-is_decimal_of-2 : goal.returns-then-is_decimal_of-2
-returns-then-is_decimal_of-2 c whole start =
+pub returns-then-is_met : goal.returns-then-is_met
+returns-then-is_met c whole start =
     let entries = c.loop-rest.entries in
     let counted : c.len-all.result ≡ length entries.items = omega (arith, c.len-all.ensures, entries.ok.0) in
     let ended = none_if (length c.loop-rest.rest.now) c.is_empty.result c.loop-rest-test.false c.is_empty.ensures in
-    whole_text_here whole c.args.count.now entries.items c.loop-rest.rest.now (c.loop-rest.invariant.told whole start) c.len-all.result counted (sym c.is_decimal_of-2.ensures ∙ c.if-is_decimal_of-2.true) ended
+    whole_text_here whole c.args.count.now entries.items c.loop-rest.rest.now (c.loop-rest.invariant.told whole start) c.len-all.result counted (sym c.is_met.ensures ∙ c.if-is_met.true) ended
 
-pub returns-else-is_decimal_of-2 : goal.returns-else-is_decimal_of-2
-returns-else-is_decimal_of-2 c whole start =
+pub returns-else-is_met : goal.returns-else-is_met
+returns-else-is_met c whole start =
     let entries = c.loop-rest.entries in
     let counted : c.len-all.result ≡ length entries.items = omega (arith, c.len-all.ensures, entries.ok.0) in
     let ended = none_if (length c.loop-rest.rest.now) c.is_empty.result c.loop-rest-test.false c.is_empty.ensures in
-    ends_here whole c.args.count.now entries.items c.loop-rest.rest.now (c.loop-rest.invariant.told whole start) c.len-all.result counted (sym c.is_decimal_of-2.ensures ∙ c.if-is_decimal_of-2.false) ended
+    ends_here whole c.args.count.now entries.items c.loop-rest.rest.now (c.loop-rest.invariant.told whole start) c.len-all.result counted (sym c.is_met.ensures ∙ c.if-is_met.false) ended

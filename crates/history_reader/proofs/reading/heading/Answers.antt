@@ -5,10 +5,10 @@ use Rattle.history_reader.proofs.reading.heading.Goals as goal
 pub returns-in_err-line : goal.returns-in_err-line
 returns-in_err-line c = rw c.from_residual.ensures (no_line_no_heading c.args.text.now c.in_err-line.ensures.parts)
 
-pub returns-then-is_count : goal.returns-then-is_count
-returns-then-is_count c =
-    found_heading c.args.text.now c.in_ok-line.line.now c.in_ok-line.rest.now c.in_ok-count.count.now c.in_ok-line.ensures.parts c.in_ok-count.ensures (sym c.is_count.ensures ∙ c.if-is_count.true)
+pub returns-then-is_allowed : goal.returns-then-is_allowed
+returns-then-is_allowed c =
+    found_heading c.args.text.now c.in_ok-line.line.now c.in_ok-line.rest.now c.in_ok-count.count.now c.in_ok-line.ensures.parts c.in_ok-count.ensures (sym c.is_allowed.ensures ∙ c.if-is_allowed.true)
 
-pub returns-else-is_count : goal.returns-else-is_count
-returns-else-is_count c =
-    no_count c.args.text.now c.in_ok-line.line.now c.in_ok-line.rest.now c.in_ok-count.count.now c.in_ok-line.ensures.parts c.in_ok-count.ensures (sym c.is_count.ensures ∙ c.if-is_count.false)
+pub returns-else-is_allowed : goal.returns-else-is_allowed
+returns-else-is_allowed c =
+    no_count c.args.text.now c.in_ok-line.line.now c.in_ok-line.rest.now c.in_ok-count.count.now c.in_ok-line.ensures.parts c.in_ok-count.ensures (sym c.is_allowed.ensures ∙ c.if-is_allowed.false)
