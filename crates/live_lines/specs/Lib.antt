@@ -1,0 +1,3 @@
+pub mod Dealing
+pub mod LiveLines
+pub mod Reading
