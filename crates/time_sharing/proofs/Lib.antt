@@ -1,4 +1,5 @@
 mod DisputeLemmas
+mod DrillLemmas
 mod InputLemmas
 mod ReplayExamples
 mod ReplayLemmas

@@ -1,7 +1,7 @@
 -- What the program does. If you trust this file, and the definitions that it names, you know it.
 -- `Does`, at the end, is the one clause of the program's call. The definitions before it are its
 -- words.
-use Rattle.std.specs.Prelude.{◌≡◌, ℕ, Bool, if◌then◌else◌, List, [], ◌++◌, length, Result, IfOk, IfErr}
+use Rattle.std.specs.Prelude.{◌≡◌, ℕ, ◌%◌, Bool, if◌then◌else◌, List, [], ◌++◌, length, Result, IfOk, IfErr}
 use Rattle.monitor_calls.specs.declared.calls.Entry.{Entry}
 use Rattle.deck_model.specs.Deck.{Deck}
 use Rattle.deck_model.specs.Spelling.{Spelled}
@@ -153,13 +153,15 @@ Checks before after end = OverDeck (λ done. Checked before after) IsGoodLine be
 -- A DRILL
 -- It reads nothing: what is run is the deck of terminals that count in one block.
 
--- a run of that deck, how many Puts were done in it, and the number that the last of them wrote
+-- a run of that deck, how many Puts were done in it, and the number that the last of them wrote: no
+-- Put is lost, so this is how many there were, in 16 bits
 pub record IsDrill (jobs : ℕ) (drill : DrillEnd) : Type 0 where
   pub screens : List (List ℕ)
   pub run : IsRun (drill_deck jobs) drill.history screens
   pub as_many : drill.jobs ≡ jobs
   pub puts : drill.puts ≡ puts_in drill.history
   pub sum : drill.sum ≡ sum_in drill.history
+  pub none_lost : drill.sum ≡ drill.puts % 65536
 
 abbrev pub line_of_drill : DrillEnd → List ℕ
 line_of_drill drill = drill_line drill.jobs drill.puts drill.sum

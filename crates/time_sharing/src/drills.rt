@@ -8,6 +8,7 @@ use crate::outcomes::{Drill, Failure};
 use crate::runs::run_deck;
 use basic_values::NoMemory;
 use drill_deck::{drill_deck, drill_line, tally_of};
+use drill_talk::laws;
 use rsts_io::{Sink, SinkFault, give_all};
 use std::alloc::Global;
 use std::sync::Wait;
@@ -50,6 +51,8 @@ fn drilled<R: Threads + Wait + Sync, P: Pacer + Sync>(
     let (_, ran) = run_deck(rt, alloc, deck, pacer)?;
     let tally = tally_of(ran.run.as_slice());
     let line = drill_line(alloc, jobs, tally)?;
+    // so the two numbers are the same in 16 bits
+    laws::no_put_is_lost();
     let drill = Drill {
         history: ran.run,
         jobs,
